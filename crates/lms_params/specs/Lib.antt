@@ -1,0 +1,2 @@
+pub mod LmsType
+pub mod OtsType

@@ -1,0 +1,14 @@
+//! The parameter sets of RFC 8554 with SHA-256, by their typecodes, and the digits that a one-time signature signs.
+#![tactic(auto)]
+
+mod lms_type;
+mod memory;
+mod ots_type;
+#[cfg(test)]
+mod tests;
+mod winternitz;
+
+pub use crate::lms_type::{LmsType, lms_sig_len};
+pub use crate::memory::OutOfMemory;
+pub use crate::ots_type::OtsType;
+pub use crate::winternitz::digits;

@@ -1,0 +1,13 @@
+use std::alloc::AllocError;
+use thiserror::Error;
+
+/// A request for memory was refused. What each call that can answer so leaves behind is said at that call.
+#[derive(Clone, Copy, Debug, PartialEq, Eq, Error)]
+#[error("out of memory")]
+pub struct OutOfMemory;
+
+impl From<AllocError> for OutOfMemory {
+    fn from(_: AllocError) -> Self {
+        OutOfMemory
+    }
+}

@@ -1,0 +1,142 @@
+use crate::{LmsType, OtsType, OutOfMemory, digits, lms_sig_len};
+use std::alloc::AllocError;
+use std::array;
+use std::process::Abort;
+use std::test::Fail;
+
+#[test]
+fn knows_the_codes_of_the_tables(rt: HostRuntime) {
+    let one_time = [
+        (1, OtsType::W1),
+        (2, OtsType::W2),
+        (3, OtsType::W4),
+        (4, OtsType::W8),
+    ];
+    let trees = [
+        (5, LmsType::H5),
+        (6, LmsType::H10),
+        (7, LmsType::H15),
+        (8, LmsType::H20),
+        (9, LmsType::H25),
+    ];
+    for code in (0..=16).chain([u32::MAX]) {
+        let ots = one_time.iter().find(|row| row.0 == code).map(|row| row.1);
+        let lms = trees.iter().find(|row| row.0 == code).map(|row| row.1);
+        assert_eq!(rt; OtsType::from_code(code), ots, "{code}");
+        assert_eq!(rt; LmsType::from_code(code), lms, "{code}");
+    }
+    for (code, ots) in one_time {
+        assert_eq!(rt; ots.code(), code);
+    }
+    for (code, lms) in trees {
+        assert_eq!(rt; lms.code(), code);
+    }
+}
+
+#[test]
+fn has_the_rows_of_the_tables(rt: HostRuntime) {
+    let rows = [
+        (OtsType::W1, 1, 265, 7, 8516),
+        (OtsType::W2, 2, 133, 6, 4292),
+        (OtsType::W4, 4, 67, 4, 2180),
+        (OtsType::W8, 8, 34, 0, 1124),
+    ];
+    for (ots, w, p, ls, sig_len) in rows {
+        assert_eq!(rt;
+            (ots.w(), ots.p(), ots.ls(), ots.sig_len()),
+            (w, p, ls, sig_len)
+        );
+    }
+    let heights = [
+        (LmsType::H5, 5),
+        (LmsType::H10, 10),
+        (LmsType::H15, 15),
+        (LmsType::H20, 20),
+        (LmsType::H25, 25),
+    ];
+    for (lms, height) in heights {
+        assert_eq!(rt; lms.height(), height);
+    }
+}
+
+#[test]
+fn counts_the_bytes_of_signatures(rt: HostRuntime) {
+    assert_eq!(rt; lms_sig_len(LmsType::H5, OtsType::W8), 1292);
+    assert_eq!(rt; lms_sig_len(LmsType::H10, OtsType::W4), 2508);
+    assert_eq!(rt; lms_sig_len(LmsType::H25, OtsType::W1), 9324);
+}
+
+/// A hash whose digits are known: those of the message repeat a pattern, and those of the checksum follow.
+#[derive(Clone, Copy)]
+struct Worked<'a> {
+    ots: OtsType,
+    hash: [u8; 32],
+    pattern: &'a [u8],
+    checksum: &'a [u8],
+}
+
+impl Worked<'_> {
+    /// Digit i, and 0 past the last one.
+    fn digit(&self, i: usize) -> u8 {
+        let in_message = 256 / self.ots.w() as usize;
+        let known = if i < in_message {
+            self.pattern.get(i % self.pattern.len().max(1))
+        } else {
+            self.checksum.get(i - in_message)
+        };
+        *known.unwrap_or(&0)
+    }
+
+    fn check(&self, rt: &impl Abort) {
+        for (i, digit) in digits(&self.hash, self.ots).iter().enumerate() {
+            assert_eq!(rt; *digit, self.digit(i), "digit {i} under {:?}", self.ots);
+        }
+    }
+}
+
+#[test]
+fn cuts_the_worked_digits(rt: HostRuntime) {
+    let counted = array::from_fn(|i| i as u8);
+    let hexadecimal = array::from_fn(|i| [0x01, 0x23, 0x45, 0x67, 0x89, 0xab, 0xcd, 0xef][i % 8]);
+    let nibbles: [u8; 16] = array::from_fn(|i| i as u8);
+    let rows = [
+        (
+            OtsType::W1,
+            [0x00; 32],
+            &[0][..],
+            &[1, 0, 0, 0, 0, 0, 0, 0, 0][..],
+        ),
+        (OtsType::W2, [0x00; 32], &[0], &[1, 2, 0, 0, 0]),
+        (OtsType::W4, [0x00; 32], &[0], &[3, 12, 0]),
+        (OtsType::W8, [0x00; 32], &[0], &[31, 224]),
+        (OtsType::W1, [0xff; 32], &[1], &[]),
+        (OtsType::W2, [0xff; 32], &[3], &[]),
+        (OtsType::W4, [0xff; 32], &[15], &[]),
+        (OtsType::W8, [0xff; 32], &[255], &[]),
+        (OtsType::W8, counted, &counted, &[29, 240]),
+        (OtsType::W4, hexadecimal, &nibbles, &[1, 14, 0]),
+        (OtsType::W2, [0x1b; 32], &[0, 1, 2, 3], &[0, 3, 0, 0, 0]),
+        (
+            OtsType::W1,
+            [0xaa; 32],
+            &[1, 0],
+            &[0, 1, 0, 0, 0, 0, 0, 0, 0],
+        ),
+    ];
+    for (ots, hash, pattern, checksum) in rows {
+        Worked {
+            ots,
+            hash,
+            pattern,
+            checksum,
+        }
+        .check(&rt);
+    }
+}
+
+#[test]
+fn says_that_memory_was_refused(rt: HostRuntime) -> Result<(), Fail> {
+    let refused = OutOfMemory::from(AllocError).to_string(rt.alloc())?;
+    assert_eq!(rt; refused.as_str(), "out of memory");
+    Ok(())
+}

@@ -1,0 +1,159 @@
+use crate::vectors::VECTORS;
+use crate::{SlowKey, SlowTree, planted, slow_digits, slow_public, slow_sign};
+use hex::FromHex;
+use lms_params::{LmsType, OtsType};
+use std::process::Abort;
+use std::test::Fail;
+
+#[test]
+fn equals_another_implementation(rt: HostRuntime) -> Result<(), Fail> {
+    for vector in VECTORS {
+        let key = SlowKey {
+            levels: vector.levels,
+            seed: FromHex::from_hex(vector.seed)?,
+            id: FromHex::from_hex(vector.id)?,
+        };
+        assert!(rt; !key.levels.is_empty() && key.levels.len() <= 8);
+        let randomizer = FromHex::from_hex(vector.randomizer)?;
+        let public = slow_public(rt.alloc(), &key)?;
+        let signature = slow_sign(
+            rt.alloc(),
+            &key,
+            vector.index,
+            &randomizer,
+            vector.message.as_bytes(),
+        )?;
+        assert_eq!(rt; public, hex::decode(rt.alloc(), vector.public)?);
+        assert_eq!(rt; signature, hex::decode(rt.alloc(), vector.signature)?);
+    }
+    Ok(())
+}
+
+const COUNTED: [u8; 32] = [
+    0, 1, 2, 3, 4, 5, 6, 7, 8, 9, 10, 11, 12, 13, 14, 15, 16, 17, 18, 19, 20, 21, 22, 23, 24, 25,
+    26, 27, 28, 29, 30, 31,
+];
+
+/// 0123456789abcdef four times in hexadecimal.
+const NIBBLES: [u8; 32] = [
+    0x01, 0x23, 0x45, 0x67, 0x89, 0xab, 0xcd, 0xef, 0x01, 0x23, 0x45, 0x67, 0x89, 0xab, 0xcd, 0xef,
+    0x01, 0x23, 0x45, 0x67, 0x89, 0xab, 0xcd, 0xef, 0x01, 0x23, 0x45, 0x67, 0x89, 0xab, 0xcd, 0xef,
+];
+
+/// A hash, what its digits repeat, and the digits of its checksum.
+const DIGITS: [(OtsType, [u8; 32], &[u8], &[u8]); 12] = [
+    (OtsType::W8, [0x00; 32], &[0], &[31, 224]),
+    (OtsType::W4, [0x00; 32], &[0], &[3, 12, 0]),
+    (OtsType::W2, [0x00; 32], &[0], &[1, 2, 0, 0, 0]),
+    (OtsType::W1, [0x00; 32], &[0], &[1, 0, 0, 0, 0, 0, 0, 0, 0]),
+    (OtsType::W8, [0xff; 32], &[255], &[0; 2]),
+    (OtsType::W4, [0xff; 32], &[15], &[0; 3]),
+    (OtsType::W2, [0xff; 32], &[3], &[0; 5]),
+    (OtsType::W1, [0xff; 32], &[1], &[0; 9]),
+    (OtsType::W8, COUNTED, &COUNTED, &[29, 240]),
+    (
+        OtsType::W4,
+        NIBBLES,
+        &[0, 1, 2, 3, 4, 5, 6, 7, 8, 9, 10, 11, 12, 13, 14, 15],
+        &[1, 14, 0],
+    ),
+    (OtsType::W2, [0x1b; 32], &[0, 1, 2, 3], &[0, 3, 0, 0, 0]),
+    (
+        OtsType::W1,
+        [0xaa; 32],
+        &[1, 0],
+        &[0, 1, 0, 0, 0, 0, 0, 0, 0],
+    ),
+];
+
+#[test]
+fn digits_of_worked_rows(rt: HostRuntime) -> Result<(), Fail> {
+    for (ots, hash, repeated, checksum) in DIGITS {
+        let digits = slow_digits(rt.alloc(), &hash, ots)?;
+        let message_digits = repeated
+            .iter()
+            .copied()
+            .cycle()
+            .take(256 / ots.w() as usize);
+        let expected: Vec<u8> = message_digits
+            .chain(checksum.iter().copied())
+            .collect(rt.alloc())?;
+        assert_eq!(rt; digits, expected, "{ots:?} {hash:?}");
+    }
+    Ok(())
+}
+
+/// The LMS sets, with their typecodes and heights, and their last leaves.
+const TREES: [(LmsType, u8, u8, u32); 5] = [
+    (LmsType::H5, 5, 5, 31),
+    (LmsType::H10, 6, 10, 1023),
+    (LmsType::H15, 7, 15, 32767),
+    (LmsType::H20, 8, 20, 1048575),
+    (LmsType::H25, 9, 25, 33554431),
+];
+
+/// A planted pair has the layout of RFC 8554, 5.3 and 5.4, for the typecode `code` and p chains.
+fn check_layout(
+    rt: &(impl Abort + AllocGlobal),
+    ots: OtsType,
+    code: u8,
+    p: u16,
+) -> Result<(), Fail> {
+    for (lms, lms_code, height, q) in TREES {
+        let tree = SlowTree {
+            lms,
+            ots,
+            seed: [0x11; 32],
+            id: [0x22; 16],
+        };
+        let made = planted(rt.alloc(), &tree, q, &[0x33; 32], b"abc")?;
+        let public_head = [0, 0, 0, 1, 0, 0, 0, lms_code, 0, 0, 0, code];
+        assert!(rt;
+            made.public.len() == 60 && made.public.starts_with(&public_head),
+            "{lms:?} {ots:?}"
+        );
+        let path_at = 16 + 32 * (usize::from(p) + 1);
+        assert_eq!(rt;
+            made.signature.len(),
+            path_at + 32 * usize::from(height),
+            "{lms:?} {ots:?}"
+        );
+        assert!(rt; made.signature.starts_with(&[0; 4]));
+        assert_eq!(rt; made.signature.get(4..8), Some(q.to_be_bytes().as_slice()));
+        assert_eq!(rt; made.signature.get(8..12), Some([0, 0, 0, code].as_slice()));
+        assert_eq!(rt;
+            made.signature.get(path_at - 4..path_at + 1),
+            Some([0, 0, 0, lms_code, 1].as_slice())
+        );
+        assert!(rt; made.signature.ends_with(&[height; 32]));
+    }
+    Ok(())
+}
+
+#[test]
+fn plants_every_pair_of_sets(rt: HostRuntime) -> Result<(), Fail> {
+    check_layout(&rt, OtsType::W1, 1, 265)?;
+    check_layout(&rt, OtsType::W2, 2, 133)?;
+    check_layout(&rt, OtsType::W4, 3, 67)?;
+    check_layout(&rt, OtsType::W8, 4, 34)
+}
+
+#[test]
+fn climbs_from_leaves_to_the_root(rt: HostRuntime) -> Result<(), Fail> {
+    let tree = SlowTree {
+        lms: LmsType::H5,
+        ots: OtsType::W8,
+        seed: [0x11; 32],
+        id: [0x22; 16],
+    };
+    let root = tree.node(1);
+    for q in [0, 21, 31] {
+        let path = tree.path(rt.alloc(), tree.leaf_number(q))?;
+        assert_eq!(rt;
+            tree.climb(tree.leaf_number(q), tree.leaf(q), &path),
+            root,
+            "from {q}"
+        );
+    }
+    Ok(())
+}

@@ -1,0 +1,24 @@
+//! Keys and signatures that another implementation, Bouncy Castle 1.72, made.
+
+mod one_level;
+mod three_levels;
+
+use crate::vectors::one_level::{ONE_5_1, ONE_10_8};
+use crate::vectors::three_levels::THREE;
+use lms_params::{LmsType, OtsType};
+
+/// A private key and what it signs at an index, with its public key and the signature. Byte strings
+/// are in hexadecimal.
+#[derive(Clone, Copy)]
+pub struct Vector {
+    pub levels: &'static [(LmsType, OtsType)],
+    pub seed: &'static str,
+    pub id: &'static str,
+    pub index: u64,
+    pub randomizer: &'static str,
+    pub message: &'static str,
+    pub public: &'static str,
+    pub signature: &'static str,
+}
+
+pub const VECTORS: [Vector; 3] = [ONE_10_8, ONE_5_1, THREE];

@@ -1,0 +1,16 @@
+pub mod Below
+pub mod Chains
+pub mod Climbs
+pub mod DigitValues
+pub mod Guards
+pub mod Hierarchies
+pub mod HierarchyParts
+pub mod Lengths
+pub mod Nodes
+pub mod Numbers
+pub mod OneTime
+pub mod Parts
+pub mod Pieces
+pub mod Places
+pub mod Sets
+pub mod TreeSignatures

@@ -1,0 +1,161 @@
+-- Laws over the definitions, from the bottom up: numbers and tables, digits, one-time signatures, trees, levels.
+use Rattle.std.specs.Prelude.{ℕ, suc, ◌≡◌, ◌+◌, ◌-◌, ◌*◌, ◌/◌, ◌%◌, ◌^◌, ◌<◌, ◌≤◌, List, ◌++◌, length, All, Some, slice_index, take, drop}
+use Rattle.std.specs.List.{concat}
+use Rattle.lms_spec.specs.Bytes.{number_of, u16str, u32str}
+use Rattle.lms_spec.specs.Parameters.{OtsSet, LmsSet, ots_set, lms_set, ots_signature_length, lms_signature_length}
+use Rattle.lms_spec.specs.Digits.{digit, checksum, digits_of}
+use Rattle.lms_spec.specs.Ots.{chain, public_hash, ots_signature, LeadsTo}
+use Rattle.lms_spec.specs.Tree.{Tree, leaf_hash, inner_hash, node, path_of, climb, lms_public_key, public_key_of, lms_signature, LmsAccepts}
+use Rattle.lms_spec.specs.Hss.{HasKnownSets, HssKey, hss_signature_length, capacity_of, leaf_at, signed_key, hss_public_key, hss_signature, AcceptsThrough, HssAccepts}
+
+-- a number's bytes read as one number are that number
+abbrev pub NumbersReadBack : Type 0
+NumbersReadBack =
+    ((n : ℕ) → n < 2 ^ 16 → number_of (u16str n) ≡ n) × ((n : ℕ) → n < 2 ^ 32 → number_of (u32str n) ≡ n)
+
+-- what the width of an LM-OTS set says of its other columns, with v digits for the checksum (appendix B): v is the
+-- least number of digits that holds the largest sum, and the sum stands at the top of 16 bits
+pub record FollowsFromWidth (t : OtsSet) : Type 0 where
+  pub v : ℕ
+  pub chains : 256 / t.w + v ≡ t.p
+  pub holds : 256 / t.w * (2 ^ t.w - 1) < 2 ^ (t.w * v)
+  pub least : 2 ^ (t.w * (v - 1)) ≤ 256 / t.w * (2 ^ t.w - 1)
+  pub shift : t.w * v + t.ls ≡ 16
+
+-- the columns of table 1 belong together
+abbrev pub ColumnsFollow : Type 0
+ColumnsFollow = (t : OtsSet) → ots_set t.code ≡ Some t → FollowsFromWidth t
+
+-- a checksum fits its two bytes
+abbrev pub ChecksumFits : Type 0
+ChecksumFits = (t : OtsSet) (hash : List ℕ) → ots_set t.code ≡ Some t → checksum t hash < 2 ^ 16
+
+-- the digits are p in number, each of w bits
+abbrev pub DigitsFit : Type 0
+DigitsFit = (t : OtsSet) (hash : List ℕ) → (length (digits_of t hash) ≡ t.p) × All (λ d. d < 2 ^ t.w) (digits_of t hash)
+
+-- a digit is some bits of one byte: u digits to a byte, the highest first
+abbrev pub DigitBits : Type 0
+DigitBits =
+    (bytes : List ℕ) (w u j r : ℕ) → w * u ≡ 8 → All (λ b. b < 256) bytes → j < length bytes → r < u
+    → digit bytes (j * u + r) w ≡ slice_index bytes j / 2 ^ (w * (u - 1 - r)) % 2 ^ w
+
+-- what the checksum is for: where each digit of one hash, its checksum's too, is at most another's, the two hashes have the same digits
+abbrev pub ChecksumGuards : Type 0
+ChecksumGuards =
+    (t : OtsSet) (hash hash' : List ℕ) → ots_set t.code ≡ Some t → length hash ≡ 32 → length hash' ≡ 32
+    → ((i : ℕ) → i < t.p → slice_index (digits_of t hash) i ≤ slice_index (digits_of t hash') i)
+    → (i : ℕ) → i < 256 / t.w → digit hash i t.w ≡ digit hash' i t.w
+
+-- a chain goes on where another ended
+abbrev pub ChainsCompose : Type 0
+ChainsCompose =
+    (id : List ℕ) (q i from m n : ℕ) (value : List ℕ)
+    → chain id q i (from + m) n (chain id q i from m value) ≡ chain id q i from (m + n) value
+
+-- how long a one-time signature is
+abbrev pub OtsSignatureLength : Type 0
+OtsSignatureLength =
+    (t : OtsSet) (id seed : List ℕ) (q : ℕ) (randomizer message : List ℕ) → length randomizer ≡ 32
+    → length (ots_signature t id seed q randomizer message) ≡ ots_signature_length t
+
+-- a one-time signature leads to the public hash of its key
+abbrev pub CandidateIsPublicHash : Type 0
+CandidateIsPublicHash =
+    (t : OtsSet) (id seed : List ℕ) (q : ℕ) (randomizer message : List ℕ) → length randomizer ≡ 32
+    → LeadsTo t id q (ots_signature t id seed q randomizer message) message (public_hash t id seed q)
+
+-- a one-time signature leads to one candidate
+abbrev pub OneCandidate : Type 0
+OneCandidate =
+    (t : OtsSet) (id : List ℕ) (q : ℕ) (signature message a b : List ℕ)
+    → LeadsTo t id q signature message a → LeadsTo t id q signature message b → a ≡ b
+
+-- a node from 2^h on is a leaf's hash
+abbrev pub LeafNodes : Type 0
+LeafNodes =
+    (key : Tree) (r : ℕ) → 2 ^ key.lms.h ≤ r
+    → node key r ≡ leaf_hash key.id r (public_hash key.ots key.id key.seed (r - 2 ^ key.lms.h))
+
+-- a node below 2^h is its two children's hash
+abbrev pub InnerNodes : Type 0
+InnerNodes =
+    (key : Tree) (r : ℕ) → 1 ≤ r → r < 2 ^ key.lms.h
+    → node key r ≡ inner_hash key.id r (node key (2 * r)) (node key (2 * r + 1))
+
+-- a leaf's path leads from it to the root
+abbrev pub ClimbReachesRoot : Type 0
+ClimbReachesRoot =
+    (key : Tree) (q : ℕ) → q < 2 ^ key.lms.h
+    → climb key.id (2 ^ key.lms.h + q) (node key (2 ^ key.lms.h + q)) (path_of key q) ≡ node key 1
+
+-- how long a tree's public key is
+abbrev pub LmsPublicKeyLength : Type 0
+LmsPublicKeyLength = (key : Tree) → length key.id ≡ 16 → length (public_key_of key) ≡ 56
+
+-- how long a leaf's signature is
+abbrev pub LmsSignatureLength : Type 0
+LmsSignatureLength =
+    (key : Tree) (q : ℕ) (randomizer message : List ℕ) → length randomizer ≡ 32
+    → length (lms_signature key q randomizer message) ≡ lms_signature_length key.lms key.ots
+
+-- a leaf's signature is accepted under its tree's public key
+abbrev pub LmsSignatureAccepted : Type 0
+LmsSignatureAccepted =
+    (key : Tree) (q : ℕ) (randomizer message : List ℕ)
+    → lms_set key.lms.code ≡ Some key.lms → ots_set key.ots.code ≡ Some key.ots → length key.id ≡ 16
+    → q < 2 ^ key.lms.h → length randomizer ≡ 32
+    → LmsAccepts (public_key_of key) message (lms_signature key q randomizer message)
+
+-- how long an accepted signature and its key are
+abbrev pub AcceptedLengths : Type 0
+AcceptedLengths =
+    (public_key message signature : List ℕ) (a : LmsAccepts public_key message signature)
+    → (length public_key ≡ 56) × (length signature ≡ lms_signature_length a.lms a.ots)
+
+-- one parse of a key and a signature decides: if it is accepted at all, then this parse climbs to the root
+abbrev pub AcceptedByParts : Type 0
+AcceptedByParts =
+    (m : LmsSet) (t : OtsSet) (id root : List ℕ) (q : ℕ) (ots_part : List ℕ) (path : List (List ℕ)) (message candidate : List ℕ)
+    → lms_set m.code ≡ Some m → ots_set t.code ≡ Some t → length id ≡ 16 → q < 2 ^ m.h → length path ≡ m.h → All (λ v. length v ≡ 32) path
+    → LeadsTo t id q ots_part message candidate
+    → LmsAccepts (lms_public_key m t id root) message (u32str q ++ ots_part ++ u32str m.code ++ concat path)
+    → climb id (2 ^ m.h + q) (leaf_hash id (2 ^ m.h + q) candidate) path ≡ root
+
+-- how long a hierarchy's public key is
+abbrev pub HssPublicKeyLength : Type 0
+HssPublicKeyLength = (key : HssKey) → length key.id ≡ 16 → length (hss_public_key key) ≡ 60
+
+-- how long a hierarchy's signature is
+abbrev pub HssSignatureLength : Type 0
+HssSignatureLength =
+    (key : HssKey) (g : ℕ) (randomizer message : List ℕ) → 1 ≤ length key.levels → length key.id ≡ 16 → length randomizer ≡ 32
+    → length (hss_signature key g randomizer message) ≡ hss_signature_length key.levels
+
+-- a signature by any index is accepted under the key's public key
+abbrev pub HssSignatureAccepted : Type 0
+HssSignatureAccepted =
+    (key : HssKey) (g : ℕ) (randomizer message : List ℕ)
+    → 1 ≤ length key.levels → length key.levels ≤ 8 → All HasKnownSets key.levels → length key.id ≡ 16 → length randomizer ≡ 32
+    → HssAccepts (hss_public_key key) message (hss_signature key g randomizer message)
+
+-- the parts of accepted signatures stand where the sets of the key above put them
+abbrev pub ThroughParts : Type 0
+ThroughParts =
+    (count : ℕ) (m : LmsSet) (t : OtsSet) (id root message signatures : List ℕ)
+    → lms_set m.code ≡ Some m → ots_set t.code ≡ Some t → length id ≡ 16
+    → AcceptsThrough (suc count) (lms_public_key m t id root) message signatures
+    → LmsAccepts (lms_public_key m t id root) (take 56 (drop (lms_signature_length m t) signatures)) (take (lms_signature_length m t) signatures)
+    × AcceptsThrough count (take 56 (drop (lms_signature_length m t) signatures)) message (drop (lms_signature_length m t + 56) signatures)
+
+-- what a level signs depends on the leaves that the index goes through down to it
+abbrev pub SameUpperText : Type 0
+SameUpperText =
+    (key : HssKey) (g g' k : ℕ) → ((j : ℕ) → j ≤ k → leaf_at key g j ≡ leaf_at key g' j)
+    → signed_key key g k ≡ signed_key key g' k
+
+-- no two indices go through the same leaves
+abbrev pub DifferentPlaces : Type 0
+DifferentPlaces =
+    (key : HssKey) (g g' : ℕ) → g < capacity_of key → g' < capacity_of key
+    → ((j : ℕ) → j < length key.levels → leaf_at key g j ≡ leaf_at key g' j) → g ≡ g'

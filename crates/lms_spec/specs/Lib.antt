@@ -1,0 +1,9 @@
+pub mod Parameters
+pub mod Bytes
+pub mod Digits
+pub mod Hashing
+pub mod Ots
+pub mod Tree
+pub mod Hss
+pub mod Laws
+pub mod Worked
