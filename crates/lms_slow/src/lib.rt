@@ -11,8 +11,7 @@ mod one_time;
 #[cfg(test)]
 mod tests;
 mod tree;
-#[cfg(test)]
-mod vectors;
+pub mod vectors;
 
 pub use crate::digits::slow_digits;
 use crate::hierarchy::signatures;

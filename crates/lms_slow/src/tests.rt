@@ -2,6 +2,8 @@ use crate::vectors::VECTORS;
 use crate::{SlowKey, SlowTree, planted, slow_digits, slow_public, slow_sign};
 use hex::FromHex;
 use lms_params::{LmsType, OtsType};
+use sha2::{Digest, Sha256};
+use std::alloc::{AllocError, Global};
 use std::process::Abort;
 use std::test::Fail;
 
@@ -25,6 +27,78 @@ fn equals_another_implementation(rt: HostRuntime) -> Result<(), Fail> {
         )?;
         assert_eq!(rt; public, hex::decode(rt.alloc(), vector.public)?);
         assert_eq!(rt; signature, hex::decode(rt.alloc(), vector.signature)?);
+    }
+    Ok(())
+}
+
+/// Levels, an index, the bytes of its signature, and the digest of the public key and the signature
+/// one after the other. The digests are those of a program in another language.
+const SIGNED: [(&[(LmsType, OtsType)], u64, usize, &str); 5] = [
+    (
+        &[(LmsType::H5, OtsType::W8)],
+        5,
+        1296,
+        "78b3e37c86044a47c59b546bbae49d48f9fbeb7eb46f05ecbfbf49f61d791b0c",
+    ),
+    (
+        &[(LmsType::H5, OtsType::W8); 2],
+        32,
+        2644,
+        "3ea45e8f60d13fd70186b7eae3006f217bdc10024bfd3366b47bb90ee38e1cf0",
+    ),
+    (
+        &[
+            (LmsType::H5, OtsType::W8),
+            (LmsType::H10, OtsType::W4),
+            (LmsType::H5, OtsType::W8),
+        ],
+        33000,
+        5208,
+        "43ce6d4aa0f8b37c8f461f7e2b6f05c55381eef9badb6c0f5b793085d6f3c60b",
+    ),
+    (
+        &[
+            (LmsType::H5, OtsType::W1),
+            (LmsType::H5, OtsType::W2),
+            (LmsType::H5, OtsType::W4),
+            (LmsType::H5, OtsType::W8),
+        ],
+        74565,
+        16956,
+        "6bfcf755ef9a4f2fbab1ac3a7c41f14adcbb496d67ae4171e232e8ad94d0a81d",
+    ),
+    (
+        &[(LmsType::H5, OtsType::W8); 8],
+        34359738368,
+        10732,
+        "2f91e454c00517f67adb84a1143bda5a790c7e95ab11d12c05b9d97463ba3eba",
+    ),
+];
+
+/// The digest of two texts, one after the other, in hexadecimal.
+fn digest_of(alloc: Global, first: &[u8], second: &[u8]) -> Result<String, AllocError> {
+    let mut hasher = Sha256::new();
+    hasher.update(first);
+    hasher.update(second);
+    hex::encode(alloc, hasher.finalize())
+}
+
+#[test]
+fn signs_by_one_to_eight_levels(rt: HostRuntime) -> Result<(), Fail> {
+    for (levels, g, length, digest) in SIGNED {
+        let key = SlowKey {
+            levels,
+            seed: [0x11; 32],
+            id: [0x22; 16],
+        };
+        assert!(rt; !levels.is_empty() && levels.len() <= 8);
+        let public = slow_public(rt.alloc(), &key)?;
+        let signature = slow_sign(rt.alloc(), &key, g, &[0x33; 32], b"abc")?;
+        assert_eq!(rt; (public.len(), signature.len()), (60, length));
+        assert_eq!(rt;
+            digest_of(rt.alloc(), &public, &signature)?.as_str(),
+            digest
+        );
     }
     Ok(())
 }
@@ -136,6 +210,58 @@ fn plants_every_pair_of_sets(rt: HostRuntime) -> Result<(), Fail> {
     check_layout(&rt, OtsType::W2, 2, 133)?;
     check_layout(&rt, OtsType::W4, 3, 67)?;
     check_layout(&rt, OtsType::W8, 4, 34)
+}
+
+/// Sets, a leaf, and the digest of the planted public key and signature, as above.
+const PLANTED: [(LmsType, OtsType, u32, &str); 5] = [
+    (
+        LmsType::H5,
+        OtsType::W8,
+        31,
+        "8be5cf76d4efbcf0d3f078f3a2f693f9a970d9743fa51428f231703e570a882b",
+    ),
+    (
+        LmsType::H10,
+        OtsType::W4,
+        600,
+        "2974b0553eb0e718e8fb099136a8402b7f644d8b69a3f69aa75b547d0ba47edf",
+    ),
+    (
+        LmsType::H15,
+        OtsType::W2,
+        32767,
+        "12917689b6424ab40ca0f858bb24204b5995dd1b09d53413793df51926ce78a0",
+    ),
+    (
+        LmsType::H20,
+        OtsType::W1,
+        1048575,
+        "a3c4f197d3ba37c9b6b5ceabece0dcbb7d3cf26deb79f193c60a89aaec73b191",
+    ),
+    (
+        LmsType::H25,
+        OtsType::W1,
+        33554431,
+        "385c7160ad96d903c328b835ac21d376d4e8b382087f5d6b914a4facfe18845f",
+    ),
+];
+
+#[test]
+fn plants_the_root_of_the_climb(rt: HostRuntime) -> Result<(), Fail> {
+    for (lms, ots, q, digest) in PLANTED {
+        let tree = SlowTree {
+            lms,
+            ots,
+            seed: [0x11; 32],
+            id: [0x22; 16],
+        };
+        let made = planted(rt.alloc(), &tree, q, &[0x33; 32], b"abc")?;
+        assert_eq!(rt;
+            digest_of(rt.alloc(), &made.public, &made.signature)?.as_str(),
+            digest
+        );
+    }
+    Ok(())
 }
 
 #[test]

@@ -3,8 +3,8 @@
 mod one_level;
 mod three_levels;
 
-use crate::vectors::one_level::{ONE_5_1, ONE_10_8};
-use crate::vectors::three_levels::THREE;
+pub use crate::vectors::one_level::{ONE_5_1, ONE_10_8};
+pub use crate::vectors::three_levels::THREE;
 use lms_params::{LmsType, OtsType};
 
 /// A private key and what it signs at an index, with its public key and the signature. Byte strings

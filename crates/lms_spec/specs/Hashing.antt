@@ -1,4 +1,4 @@
--- The texts that RFC 8554 hashes, and the hash.
+-- The hashed texts of a chain, and what keeps all hashed texts apart (RFC 8554, 4.3 and appendix A).
 use Rattle.std.specs.Prelude.{ℕ, List, ◌∷◌, ◌++◌}
 use Rattle.sha2.specs.Sha256.{sha256}
 use Rattle.lms_spec.specs.Bytes.{u16str, u32str}

@@ -8,7 +8,7 @@ use Rattle.lms_spec.specs.Digits.{digits_of}
 use Rattle.lms_spec.specs.Bytes.{below, u16str, u32str}
 use Rattle.lms_spec.specs.Hashing.{d_pblc, d_mesg, place, chain_secret, chain_step}
 
--- the last digit value of a chain
+-- the last digit value of a chain (4.3)
 abbrev pub last_digit : OtsSet → ℕ
 last_digit t = 2 ^ t.w - 1
 
@@ -30,7 +30,7 @@ unfoldable pub public_hash : OtsSet → List ℕ → List ℕ → ℕ → List �
 public_hash t id seed q =
     ends_hash id q (map (λ i. chain id q i 0 (last_digit t) (chain_secret id seed q i)) (below t.p))
 
--- the digits that a message signs
+-- the digits that a message signs (4.5)
 unfoldable pub message_digits : OtsSet → List ℕ → ℕ → List ℕ → List ℕ → List ℕ
 message_digits t id q randomizer message = digits_of t (message_hash id q randomizer message)
 
@@ -40,7 +40,7 @@ ots_signature t id seed q randomizer message =
     u32str t.code ++ randomizer
     ++ concat (map (λ i. chain id q i 0 (slice_index (message_digits t id q randomizer message) i) (chain_secret id seed q i)) (below t.p))
 
--- the end of chain i that a signature's value with digit a leads to
+-- the end of chain i that a signature's value with digit a leads to (4.6)
 abbrev pub end_from : OtsSet → List ℕ → ℕ → List ℕ → List (List ℕ) → ℕ → List ℕ
 end_from t id q digits values i =
     let a = slice_index digits i in chain id q i a (last_digit t - a) (slice_index_or values i [])
@@ -51,14 +51,14 @@ candidate_of t id q randomizer values message =
     let digits = message_digits t id q randomizer message in
     ends_hash id q (map (end_from t id q digits values) (below t.p))
 
--- the parts of a one-time signature
+-- the parts of a one-time signature (4.5)
 pub record IsOtsSignature (t : OtsSet) (randomizer : List ℕ) (values : List (List ℕ)) (signature : List ℕ) : Type 0 where
   pub randomizer_length : length randomizer ≡ 32
   pub values_count : length values ≡ t.p
   pub value_lengths : All (λ v. length v ≡ 32) values
   pub parts : signature ≡ u32str t.code ++ randomizer ++ concat values
 
--- a signature that has a candidate, and that candidate
+-- a signature that has a candidate, and that candidate (4.6)
 pub record LeadsTo (t : OtsSet) (id : List ℕ) (q : ℕ) (signature message candidate : List ℕ) : Type 0 where
   pub randomizer : List ℕ
   pub values : List (List ℕ)

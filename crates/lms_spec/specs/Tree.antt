@@ -15,12 +15,15 @@ pub record Tree : Type 0 where
   pub id : List ℕ
   pub seed : List ℕ
 
+-- the value of node r, a leaf, over its one-time public hash (5.3)
 unfoldable pub leaf_hash : List ℕ → ℕ → List ℕ → List ℕ
 leaf_hash id r ots_public = sha256 (place id r ++ u16str d_leaf ++ ots_public)
 
+-- the value of node r over its two children's (5.3)
 unfoldable pub inner_hash : List ℕ → ℕ → List ℕ → List ℕ → List ℕ
 inner_hash id r left right = sha256 (place id r ++ u16str d_intr ++ left ++ right)
 
+-- node r is a leaf, or stands below one (5.3)
 abbrev pub is_leaf : Tree → ℕ → Bool
 is_leaf key r = nat_le (2 ^ key.lms.h) r
 
@@ -31,10 +34,11 @@ node_within key (suc depth) r =
     if is_leaf key r then leaf_hash key.id r (public_hash key.ots key.id key.seed (r - 2 ^ key.lms.h))
     else inner_hash key.id r (node_within key depth (2 * r)) (node_within key depth (2 * r + 1))
 
--- T[r]
+-- T[r], the value of node r (5.3)
 abbrev pub node : Tree → ℕ → List ℕ
 node key r = node_within key (key.lms.h + 1) r
 
+-- the other child of a node's parent (5.4)
 abbrev pub sibling : ℕ → ℕ
 sibling r = if r % 2 == 0 then r + 1 else r - 1
 
@@ -52,6 +56,7 @@ climb id r value (other ∷ path) =
 unfoldable pub lms_public_key : LmsSet → OtsSet → List ℕ → List ℕ → List ℕ
 lms_public_key lms ots id root = u32str lms.code ++ u32str ots.code ++ id ++ root
 
+-- the public key of a private key (5.3)
 unfoldable pub public_key_of : Tree → List ℕ
 public_key_of key = lms_public_key key.lms key.ots key.id (node key 1)
 

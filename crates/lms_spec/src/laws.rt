@@ -6,7 +6,7 @@ ghost use Rattle.lms_spec.specs.Laws.{LeafNodes, InnerNodes, ClimbReachesRoot, L
 ghost use Rattle.lms_spec.specs.Laws.{LmsSignatureAccepted, AcceptedLengths, AcceptedByParts};
 ghost use Rattle.lms_spec.specs.Laws.{HssPublicKeyLength, HssSignatureLength, HssSignatureAccepted};
 ghost use Rattle.lms_spec.specs.Laws.{ThroughParts, SameUpperText, DifferentPlaces};
-ghost use Rattle.lms_spec.specs.Worked.{WorkedExtremes, WorkedOrder, WorkedLengths};
+ghost use Rattle.lms_spec.specs.Worked.{WorkedExtremes, WorkedOrder, WorkedTexts, WorkedChildren, WorkedPlaces, WorkedLengths};
 
 /// The bytes of a number, read as one number, are that number.
 pub fn numbers_read_back()
@@ -136,6 +136,21 @@ pub fn worked_extremes()
 /// The digits of hashes whose digits all differ from their neighbours, under each width.
 pub fn worked_order()
     ensures { WorkedOrder }
+{}
+
+/// The texts that the standard hashes, and a public key, byte by byte.
+pub fn worked_texts()
+    ensures { WorkedTexts }
+{}
+
+/// What is derived at a leaf for the tree below it, byte by byte.
+pub fn worked_children()
+    ensures { WorkedChildren }
+{}
+
+/// The leaves of some indices, and the capacities of some keys.
+pub fn worked_places()
+    ensures { WorkedPlaces }
 {}
 
 /// The lengths of signatures of some sets and levels.
