@@ -1,7 +1,6 @@
 -- Digits under the widths of the table: each is some bits of one byte.
-use Rattle.std.proofs.Common.{ℕ, ◌≡◌, ◌+◌, ◌-◌, ◌*◌, ◌/◌, ◌%◌, ◌^◌, ◌<◌, ◌≤◌, List, length, All, slice_index, refl, sym, ◌∙◌, ap, arith, Some, pow_pos, lit<, lit≤, div-add-mod'}
-use Rattle.std.proofs.lemmas.Nat.{div_below, mod_below}
-use Rattle.lms_spec.specs.Parameters.{ots_set}
+use Rattle.std.proofs.Common.{ℕ, ◌≡◌, ◌+◌, ◌-◌, ◌*◌, ◌/◌, ◌%◌, ◌^◌, ◌<◌, ◌≤◌, List, length, All, slice_index, refl, sym, ◌∙◌, ap, arith, pow_pos, lit<, lit≤, div-add-mod', ap₂}
+use Rattle.std.proofs.lemmas.Nat.{div_below, mod_below, div-mul-add}
 use Rattle.lms_spec.specs.Digits.{digit}
 use Rattle.lms_spec.proofs.Numbers.{IsByte}
 use Rattle.lms_spec.proofs.DigitValues.{digit-bits}
@@ -22,16 +21,36 @@ some_digit W2 = lit< tt
 some_digit W4 = lit< tt
 some_digit W8 = lit< tt
 
+some_bit : (t : OtsType) → 0 < (ots_set_of t).w
+some_bit W1 = lit< tt
+some_bit W2 = lit< tt
+some_bit W4 = lit< tt
+some_bit W8 = lit< tt
+
+-- a digit by its first bit
 pub digit-byte : (t : OtsType) (bytes : List ℕ) (i : ℕ) → All IsByte bytes → i < length bytes * (8 / (ots_set_of t).w)
     → digit bytes i (ots_set_of t).w
-    ≡ slice_index bytes (i / (8 / (ots_set_of t).w))
-    / 2 ^ ((ots_set_of t).w * (8 / (ots_set_of t).w - 1 - i % (8 / (ots_set_of t).w))) % 2 ^ (ots_set_of t).w
+    ≡ slice_index bytes (i * (ots_set_of t).w / 8) / 2 ^ (8 - (ots_set_of t).w - i * (ots_set_of t).w % 8) % 2 ^ (ots_set_of t).w
 digit-byte t bytes i small h =
     let w = (ots_set_of t).w in
     let u = 8 / w in
+    let j = i / u in
+    let r = i % u in
     let some = some_digit t in
-    ap (λ i. digit bytes i w) (sym (div-add-mod' i u))
-    ∙ digit-bits bytes w u (i / u) (i % u) (whole_byte t) small (div_below i u (length bytes) some h) (mod_below i u some)
+    let whole = whole_byte t in
+    let parts : j * u + r ≡ i = div-add-mod' i u in
+    let low : r < u = mod_below i u some in
+    let spare : r + (u - 1 - r) + 1 ≡ u = omega arith in
+    let eight : r * w + (u - 1 - r) * w + w ≡ 8 = omega (arith, ap (λ x. x * w) spare, whole) in
+    let wide : 0 < w = some_bit t in
+    let bit : i * w ≡ j * 8 + r * w = omega (arith, ap (λ x. x * w) parts, ap (λ x. j * x) whole) in
+    let inside : r * w < 8 = omega arith in
+    let byte : j ≡ i * w / 8 = sym (ap (λ x. x / 8) bit ∙ div-mul-add j 8 (r * w) inside) in
+    let rest : i * w % 8 ≡ r * w = omega (arith, bit, byte) in
+    let shift : w * (u - 1 - r) ≡ 8 - w - i * w % 8 = omega (arith, eight, rest) in
+    ap (λ i. digit bytes i w) (sym parts)
+    ∙ (digit-bits bytes w u j r whole small (div_below i u (length bytes) some h) low
+    ∙ ap₂ (λ j s. slice_index bytes j / 2 ^ s % 2 ^ w) byte shift)
 
 pub digit-lt : (bytes : List ℕ) (i w : ℕ) → digit bytes i w < 2 ^ w
 unfolding digit
@@ -50,12 +69,6 @@ hash_digits W1 = refl
 hash_digits W2 = refl
 hash_digits W4 = refl
 hash_digits W8 = refl
-
-pub known_set : (t : OtsType) → ots_set (ots_set_of t).code ≡ Some (ots_set_of t)
-known_set W1 = refl
-known_set W2 = refl
-known_set W4 = refl
-known_set W8 = refl
 
 pub most_chains : (t : OtsType) → (ots_set_of t).p ≤ 265
 most_chains W1 = lit≤ tt

@@ -4,6 +4,7 @@
 mod lms_type;
 mod memory;
 mod ots_type;
+mod reading;
 #[cfg(test)]
 mod tests;
 mod winternitz;
@@ -11,4 +12,5 @@ mod winternitz;
 pub use crate::lms_type::{LmsType, lms_sig_len};
 pub use crate::memory::OutOfMemory;
 pub use crate::ots_type::OtsType;
+pub use crate::reading::split_u32;
 pub use crate::winternitz::digits;

@@ -1,3 +1,4 @@
+//! LMS parameter sets (RFC 8554, 5.1).
 ghost use Rattle.std.specs.Prelude.{◌≡◌, option_map};
 ghost use Rattle.lms_spec.specs.Parameters.{lms_set, lms_signature_length};
 ghost use Rattle.lms_params.specs.LmsType.{lms_set_of};

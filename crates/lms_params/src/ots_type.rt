@@ -1,3 +1,4 @@
+//! LM-OTS parameter sets (RFC 8554, 4.1).
 ghost use Rattle.std.specs.Prelude.{◌≡◌, option_map};
 ghost use Rattle.lms_spec.specs.Parameters.{ots_set, ots_signature_length};
 ghost use Rattle.lms_params.specs.OtsType.{ots_set_of};

@@ -1,4 +1,4 @@
-use crate::{LmsType, OtsType, OutOfMemory, digits, lms_sig_len};
+use crate::{LmsType, OtsType, OutOfMemory, digits, lms_sig_len, split_u32};
 use std::alloc::AllocError;
 use std::array;
 use std::process::Abort;
@@ -132,6 +132,16 @@ fn cuts_the_worked_digits(rt: HostRuntime) {
         }
         .check(&rt);
     }
+}
+
+#[test]
+fn splits_a_number_off(rt: HostRuntime) {
+    assert_eq!(rt;
+        split_u32(&[0, 1, 2, 3, 9]),
+        Some((0x10203, [9].as_slice()))
+    );
+    assert_eq!(rt; split_u32(&[0, 1, 2, 3]), Some((0x10203, [].as_slice())));
+    assert_eq!(rt; split_u32(&[0, 1, 2]), None);
 }
 
 #[test]

@@ -1,3 +1,4 @@
+//! Digits and the checksum (RFC 8554, 3.1.3 and 4.4).
 ghost use Rattle.std.specs.Prelude.{◌≡◌, ◌+◌, ◌-◌, ◌*◌, ◌/◌, ◌%◌, ◌^◌, ◌<◌, ◌≤◌, ◌++◌, length, replicate};
 ghost use Rattle.lms_spec.specs.Bytes.{u16str};
 ghost use Rattle.lms_spec.specs.Digits.{digit as digit_of, checksum as checksum_of, digits_of};
@@ -43,12 +44,13 @@ fn checksum(q: &[u8; 32], t: OtsType) -> u16
 
 /// Digit i of a byte string, counted from its most significant bit (3.1.3).
 fn digit(bytes: &[u8], i: usize, t: OtsType) -> u8
-    requires { i < length bytes.now * (8 / (ots_set_of t).w) }
+    requires within { i < length bytes.now * (8 / (ots_set_of t).w) }
+    requires short { length bytes.now ≤ 34 }
     ensures { result ≡ digit_of bytes.now i (ots_set_of t).w }
 {
-    let per_byte = digits_per_byte(t);
-    let to_its_right = per_byte - 1 - i % per_byte;
-    low_bits(bytes[i / per_byte] >> (t.w() as usize * to_its_right), t)
+    let w = t.w() as usize;
+    let bit = i * w;
+    low_bits(bytes[bit / 8] >> (8 - w - bit % 8), t)
 }
 
 /// How many digits a byte holds.

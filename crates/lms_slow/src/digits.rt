@@ -1,3 +1,4 @@
+//! Digits, bit by bit (RFC 8554, 3.1.3 and 4.4).
 ghost use Rattle.std.specs.Prelude.{◌≡◌, ◌+◌, ◌*◌, ◌^◌, ◌<◌, ◌≤◌, length};
 ghost use Rattle.lms_params.specs.OtsType.{ots_set_of};
 

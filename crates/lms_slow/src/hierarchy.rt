@@ -1,3 +1,4 @@
+//! Levels and child trees (RFC 8554, section 6).
 use crate::tree::SlowTree;
 use lms_params::{LmsType, OtsType};
 use std::alloc::{AllocError, Global};

@@ -1,3 +1,4 @@
+//! One-time keys (RFC 8554, section 4).
 use crate::digits::{last_digit, slow_digits};
 use crate::tree::SlowTree;
 use sha2::{Digest, Sha256};

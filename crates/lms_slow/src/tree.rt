@@ -1,3 +1,4 @@
+//! Trees (RFC 8554, section 5).
 ghost use Rattle.std.specs.Prelude.{◌^◌, ◌≤◌};
 
 use lms_params::{LmsType, OtsType};

@@ -1,9 +1,11 @@
 //! Keys and signatures that another implementation, Bouncy Castle 1.72, made.
 
+mod narrow_digits;
 mod one_level;
 mod three_levels;
 
-pub use crate::vectors::one_level::{ONE_5_1, ONE_10_8};
+pub use crate::vectors::narrow_digits::{ONE_5_1, ONE_5_2};
+pub use crate::vectors::one_level::{ONE_5_4, ONE_5_8, ONE_10_8};
 pub use crate::vectors::three_levels::THREE;
 use lms_params::{LmsType, OtsType};
 
@@ -21,4 +23,4 @@ pub struct Vector {
     pub signature: &'static str,
 }
 
-pub const VECTORS: [Vector; 3] = [ONE_10_8, ONE_5_1, THREE];
+pub const VECTORS: [Vector; 6] = [ONE_10_8, ONE_5_8, ONE_5_4, ONE_5_2, ONE_5_1, THREE];

@@ -1,7 +1,9 @@
 pub mod Below
 pub mod Chains
+pub mod Chunks
 pub mod Climbs
 pub mod DigitValues
+pub mod FirstNumber
 pub mod Guards
 pub mod Hierarchies
 pub mod HierarchyParts

@@ -1,34 +1,23 @@
 -- The parts of a public key and of a signature are told by their bytes.
-use Rattle.std.proofs.Common.{ℕ, ◌≡◌, ◌+◌, ◌^◌, ◌<◌, List, ◌++◌, length, All, Some, refl, sym, ◌∙◌, ap, arith, length-append, lit<}
+use Rattle.std.proofs.Common.{ℕ, ◌≡◌, ◌+◌, ◌^◌, ◌<◌, List, ◌++◌, length, All, Some, refl, sym, ◌∙◌, ap, arith, length-append}
 use Rattle.std.specs.List.{concat}
-use Rattle.std.specs.Int.{w32, from_be_bytes}
-use Rattle.std.proofs.lemmas.Nat.{from_be_bytes-to_be_bytes_4}
 use Rattle.lms_spec.specs.Parameters.{OtsSet, LmsSet, ots_set, lms_set, ots_signature_length}
 use Rattle.lms_spec.specs.Bytes.{u32str}
 use Rattle.lms_spec.specs.Ots.{LeadsTo}
 use Rattle.lms_spec.specs.Tree.{leaf_hash, climb, lms_public_key, LmsAccepts}
-use Rattle.lms_spec.proofs.Sets.{by_ots_set, by_lms_set}
+use Rattle.lms_spec.proofs.Sets.{small-ots_code, small-lms_code, small-leaf}
+use Rattle.lms_spec.proofs.FirstNumber.{u32str-same}
 use Rattle.lms_spec.proofs.Lengths.{length-ots}
 use Rattle.lms_spec.proofs.Pieces.{same-front, same-rest, concat-same}
 use Rattle.lms_spec.proofs.OneTime.{candidate-one}
 
-u32str-same : (m n : ℕ) → m < 2 ^ 32 → n < 2 ^ 32 → u32str m ≡ u32str n → m ≡ n
-u32str-same m n hm hn e = sym (from_be_bytes-to_be_bytes_4 m hm) ∙ (ap (from_be_bytes w32) e ∙ from_be_bytes-to_be_bytes_4 n hn)
-
-small_ots : (t : OtsSet) → ots_set t.code ≡ Some t → t.code < 2 ^ 32
-small_ots t known = by_ots_set (λ t. t.code < 2 ^ 32) (lit< tt) (lit< tt) (lit< tt) (lit< tt) t.code t known
-
-small_lms : (m : LmsSet) → lms_set m.code ≡ Some m → (m.code < 2 ^ 32) × (2 ^ m.h < 2 ^ 32)
-small_lms m known =
-    by_lms_set (λ m. (m.code < 2 ^ 32) × (2 ^ m.h < 2 ^ 32)) (lit< tt, lit< tt) (lit< tt, lit< tt) (lit< tt, lit< tt) (lit< tt, lit< tt) (lit< tt, lit< tt) m.code m known
-
 same_lms : (m m' : LmsSet) → lms_set m.code ≡ Some m → lms_set m'.code ≡ Some m' → u32str m.code ≡ u32str m'.code → m ≡ m'
 same_lms m m' known known' e =
-    let codes = ap lms_set (u32str-same m.code m'.code (small_lms m known).0 (small_lms m' known').0 e) in cc
+    let codes = ap lms_set (u32str-same m.code m'.code (small-lms_code m known) (small-lms_code m' known') e) in cc
 
 same_ots : (t t' : OtsSet) → ots_set t.code ≡ Some t → ots_set t'.code ≡ Some t' → u32str t.code ≡ u32str t'.code → t ≡ t'
 same_ots t t' known known' e =
-    let codes = ap ots_set (u32str-same t.code t'.code (small_ots t known) (small_ots t' known') e) in cc
+    let codes = ap ots_set (u32str-same t.code t'.code (small-ots_code t known) (small-ots_code t' known') e) in cc
 
 pub key-parts-same : (m m' : LmsSet) (t t' : OtsSet) (id id' root root' : List ℕ)
     → lms_set m.code ≡ Some m → lms_set m'.code ≡ Some m' → ots_set t.code ≡ Some t → ots_set t'.code ≡ Some t'
@@ -85,8 +74,8 @@ accepted-by-parts m t id root q o path message candidate km kt li hq lp long lea
     let eroot : a.root ≡ root = k.3 in
     let lo = length-ots t leads.randomizer leads.values o leads.signature_parts in
     let lo' : length a.ots_part ≡ ots_signature_length t = length-ots a.ots a.leads_to.randomizer a.leads_to.values a.ots_part a.leads_to.signature_parts ∙ ap ots_signature_length et in
-    let qa : a.q < 2 ^ 32 = omega (arith, a.q_in_tree, (small_lms a.lms a.lms_known).1) in
-    let qb : q < 2 ^ 32 = omega (arith, (small_lms m km).1) in
+    let qa : a.q < 2 ^ 32 = small-leaf a.lms a.q a.lms_known a.q_in_tree in
+    let qb : q < 2 ^ 32 = small-leaf m q km hq in
     let s = signature-parts-same a.q q a.lms.code m.code (ots_signature_length t) a.ots_part o a.path path qa qb lo' lo
     (a.path_count ∙ (ap (λ (m : LmsSet). m.h) em ∙ sym lp)) a.path_lengths long (sym a.signature_parts) in
     let eq : a.q ≡ q = s.0 in

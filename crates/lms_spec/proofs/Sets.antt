@@ -1,7 +1,9 @@
--- What holds of the sets of the table, and of their checksums.
-use Rattle.std.proofs.Common.{ℕ, ◌≡◌, ◌-◌, ◌*◌, ◌/◌, ◌^◌, ◌<◌, ◌≤◌, ◌==◌, ◌⊎◌, List, Bool, true, false, cond, map, Option, Some, inl, inr, ⊎_elim, subst, arith, lit<, lit≤, refl, mul-le-mul_right}
+-- What holds of the sets of the tables, of their typecodes and of their checksums.
+use Rattle.std.proofs.Common.{ℕ, ◌≡◌, ◌-◌, ◌*◌, ◌/◌, ◌^◌, ◌<◌, ◌≤◌, ◌==◌, ◌⊎◌, List, Bool, true, false, cond, map, Option, Some, inl, inr, ⊎_elim, subst, arith, lit<, lit≤, refl, mul-le-mul_right, ap, sym, ◌∙◌, eqb-true, [], ◌∷◌}
+use Rattle.std.specs.List.{find}
 use Rattle.std.proofs.lemmas.List.Sums.{sum_by-le}
-use Rattle.lms_spec.specs.Parameters.{OtsSet, LmsSet, ots_w1, ots_w2, ots_w4, ots_w8, lms_h5, lms_h10, lms_h15, lms_h20, lms_h25, ots_set, lms_set}
+use Rattle.std.proofs.lemmas.Option.{none-some, same_Some}
+use Rattle.lms_spec.specs.Parameters.{OtsSet, LmsSet, ots_w1, ots_w2, ots_w4, ots_w8, lms_h5, lms_h10, lms_h15, lms_h20, lms_h25, ots_sets, lms_sets, ots_set, lms_set}
 use Rattle.lms_spec.specs.Digits.{digit, checksum}
 use Rattle.lms_spec.specs.Bytes.{below}
 use Rattle.lms_spec.specs.Laws.{FollowsFromWidth}
@@ -41,3 +43,31 @@ pub checksum-fits : (t : OtsSet) (hash : List ℕ) → ots_set t.code ≡ Some t
 checksum-fits t hash known =
     let most = by_ots_set (λ t. 256 / t.w * (2 ^ t.w - 1) * 2 ^ t.ls < 2 ^ 16) (lit< tt) (lit< tt) (lit< tt) (lit< tt) t.code t known in
     omega (arith, checksum-le t hash)
+
+first-found : {X : Type 0} (p : X → Bool) (b : Bool) (x y : X) (rest : Option X)
+    → p x ≡ b → cond b (Some x) rest ≡ Some y → (rest ≡ Some y → p y ≡ true) → p y ≡ true
+first-found p true x y rest e h later = ap p (sym (same_Some x y h)) ∙ e
+first-found p false x y rest e h later = later h
+
+-- what `find` gives passes the test
+passes-find : {X : Type 0} (p : X → Bool) (xs : List X) (y : X) → find p xs ≡ Some y → p y ≡ true
+passes-find p [] y h = absurd (none-some y h)
+passes-find p (x ∷ xs) y h = first-found p (p x) x y (find p xs) refl h (passes-find p xs y)
+
+pub code-ots_set : (n : ℕ) (t : OtsSet) → ots_set n ≡ Some t → t.code ≡ n
+code-ots_set n t e = eqb-true t.code n (passes-find (λ (t : OtsSet). t.code == n) ots_sets t e)
+
+pub code-lms_set : (n : ℕ) (m : LmsSet) → lms_set n ≡ Some m → m.code ≡ n
+code-lms_set n m e = eqb-true m.code n (passes-find (λ (m : LmsSet). m.code == n) lms_sets m e)
+
+pub small-ots_code : (t : OtsSet) → ots_set t.code ≡ Some t → t.code < 2 ^ 32
+small-ots_code t known = by_ots_set (λ t. t.code < 2 ^ 32) (lit< tt) (lit< tt) (lit< tt) (lit< tt) t.code t known
+
+pub small-lms_code : (m : LmsSet) → lms_set m.code ≡ Some m → m.code < 2 ^ 32
+small-lms_code m known = by_lms_set (λ m. m.code < 2 ^ 32) (lit< tt) (lit< tt) (lit< tt) (lit< tt) (lit< tt) m.code m known
+
+-- a leaf's number fits four bytes
+pub small-leaf : (m : LmsSet) (q : ℕ) → lms_set m.code ≡ Some m → q < 2 ^ m.h → q < 2 ^ 32
+small-leaf m q known h =
+    let most = by_lms_set (λ m. 2 ^ m.h < 2 ^ 32) (lit< tt) (lit< tt) (lit< tt) (lit< tt) (lit< tt) m.code m known in
+    omega arith

@@ -1,10 +1,11 @@
-use Rattle.std.proofs.Common.{ℕ, ◌≡◌, ◌+◌, ◌-◌, ◌*◌, ◌^◌, ◌<◌, map, sum, ◌/◌, ◌%◌, ◌∙◌, ap, ap₂, arith, mod-eq_of_lt}
+use Rattle.std.proofs.Common.{ℕ, ◌≡◌, ◌-◌, ◌*◌, ◌^◌, ◌<◌, map, sum, ◌/◌, ◌%◌, ◌∙◌, ap, ap₂, arith, mod-eq_of_lt}
 use Rattle.lms_spec.specs.Bytes.{below}
 use Rattle.lms_spec.specs.Digits.{digit, checksum}
 use Rattle.lms_spec.proofs.Below.{sum-below-push}
 use Rattle.lms_spec.proofs.Sets.{checksum-fits}
 use Rattle.lms_params.specs.OtsType.{ots_set_of}
-use Rattle.lms_params.proofs.Widths.{digit-lt, last_value, hash_digits, known_set}
+use Rattle.lms_params.proofs.Widths.{digit-lt, last_value, hash_digits}
+use Rattle.lms_params.proofs.KnownSets.{known_ots_set}
 use Rattle.lms_params.proofs.winternitz.checksum.Goals as goal
 
 pub overflow_sub-last_digit : goal.overflow_sub-last_digit
@@ -29,4 +30,4 @@ returns c =
     let f : ℕ → ℕ = λ i. 2 ^ t.w - 1 - digit hash i t.w in
     let count : c.loop-i.i ≡ 256 / t.w = omega (arith, hash_digits c.args.t) in
     let whole : c.loop-i.sum ≡ sum (map f (below (256 / t.w))) = c.loop-i.invariant.0 ∙ ap (λ n. sum (map f (below n))) count in
-    ap₂ (λ s k. s * 2 ^ k % 65536) whole c.ls.ensures ∙ mod-eq_of_lt (checksum-fits t hash (known_set c.args.t))
+    ap₂ (λ s k. s * 2 ^ k % 65536) whole c.ls.ensures ∙ mod-eq_of_lt (checksum-fits t hash (known_ots_set c.args.t))

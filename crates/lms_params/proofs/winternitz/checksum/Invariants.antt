@@ -1,4 +1,4 @@
-use Rattle.std.proofs.Common.{◌≡◌, ℕ, ◌-◌, ◌*◌, ◌^◌, ◌≤◌, map, sum}
+use Rattle.std.proofs.Common.{◌≡◌, ◌-◌, ◌*◌, ◌^◌, ◌≤◌, map, sum}
 use Rattle.lms_spec.specs.Bytes.{below}
 use Rattle.lms_spec.specs.Digits.{digit}
 use Rattle.lms_params.specs.OtsType.{ots_set_of}

@@ -7,4 +7,4 @@ use Rattle.lms_params.proofs.winternitz.digit.Goals as goal
 pub returns : goal.returns
 returns c =
     let small = All-from_get_or IsByte c.args.bytes.now 0 (λ i h. let byte = c.type_inv.bytes i in omega arith) in
-    rw (c.digits_per_byte-per_byte.ensures, c.w.ensures) at c.low_bits.ensures ∙ sym (digit-byte c.args.t c.args.bytes.now c.args.i small c.requires)
+    rw c.w-w.ensures at c.low_bits.ensures ∙ sym (digit-byte c.args.t c.args.bytes.now c.args.i small c.requires.within)

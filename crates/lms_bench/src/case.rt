@@ -1,0 +1,138 @@
+//! What is timed, and how many compressions it needs.
+ghost use Rattle.std.specs.Prelude.{◌+◌, ◌*◌, ◌<◌, ◌≤◌};
+
+use lms_ots::OtsId;
+use lms_params::{OtsType, digits};
+use sha2::{Digest, Sha256};
+use std::fmt;
+
+/// The seed that each case begins with.
+pub const SEED: [u8; 32] = [0x11; 32];
+
+pub const ID: OtsId = OtsId {
+    i: [0x22; 16],
+    q: 5,
+};
+
+pub const RANDOMIZER: [u8; 32] = [0x33; 32];
+
+pub const MESSAGE: [u8; 3] = *b"abc";
+
+/// Each case, in the order in which they are printed.
+pub const CASES: [Case; 12] = [
+    Case {
+        operation: Operation::PublicHash,
+        ots: OtsType::W1,
+    },
+    Case {
+        operation: Operation::PublicHash,
+        ots: OtsType::W2,
+    },
+    Case {
+        operation: Operation::PublicHash,
+        ots: OtsType::W4,
+    },
+    Case {
+        operation: Operation::PublicHash,
+        ots: OtsType::W8,
+    },
+    Case {
+        operation: Operation::SignInto,
+        ots: OtsType::W1,
+    },
+    Case {
+        operation: Operation::SignInto,
+        ots: OtsType::W2,
+    },
+    Case {
+        operation: Operation::SignInto,
+        ots: OtsType::W4,
+    },
+    Case {
+        operation: Operation::SignInto,
+        ots: OtsType::W8,
+    },
+    Case {
+        operation: Operation::Candidate,
+        ots: OtsType::W1,
+    },
+    Case {
+        operation: Operation::Candidate,
+        ots: OtsType::W2,
+    },
+    Case {
+        operation: Operation::Candidate,
+        ots: OtsType::W4,
+    },
+    Case {
+        operation: Operation::Candidate,
+        ots: OtsType::W8,
+    },
+];
+
+/// What is timed.
+#[derive(Clone, Copy, Debug, PartialEq, Eq)]
+pub enum Operation {
+    PublicHash,
+    SignInto,
+    Candidate,
+}
+
+/// An operation of one-time keys under a parameter set.
+#[derive(Clone, Copy, Debug, PartialEq, Eq)]
+pub struct Case {
+    pub operation: Operation,
+    pub ots: OtsType,
+}
+
+impl fmt::Display for Case {
+    fn fmt<W: fmt::Write>(&self, f: &mut fmt::Formatter<W>) -> fmt::Result {
+        let operation = match self.operation {
+            Operation::PublicHash => "public_hash",
+            Operation::SignInto => "sign_into",
+            Operation::Candidate => "candidate",
+        };
+        let w = self.ots.w();
+        write!(f, "{operation} w={w}")
+    }
+}
+
+impl Case {
+    /// The compressions of SHA-256 that the standard's definition of this case needs.
+    pub fn compressions(self) -> u64 {
+        let chains = self.ots.p() as u64;
+        let steps = chains * ((1 << self.ots.w()) - 1);
+        let ends = compressions_of(22 + 32 * chains);
+        let signed = signed_steps(self.ots);
+        match self.operation {
+            Operation::PublicHash => chains + steps + ends,
+            Operation::SignInto => compressions_of(54 + 3) + chains + signed,
+            Operation::Candidate => compressions_of(54 + 3) + steps.saturating_sub(signed) + ends,
+        }
+    }
+}
+
+/// The compressions of a text of so many bytes, with its padding.
+fn compressions_of(bytes: u64) -> u64
+    requires { bytes < 10000 }
+    ensures { result < 10000 }
+{
+    (bytes + 9).div_ceil(64)
+}
+
+/// The steps from the secrets to a signature's values: its digits, added up.
+fn signed_steps(ots: OtsType) -> u64
+    ensures { result ≤ 265 * 255 }
+{
+    let mut hasher = Sha256::new();
+    hasher.update(ID.i);
+    hasher.update(ID.q.to_be_bytes());
+    hasher.update([0x81, 0x81]);
+    hasher.update(RANDOMIZER);
+    hasher.update(MESSAGE);
+    let mut steps = 0;
+    for digit in digits(&hasher.finalize(), ots) {
+        steps += u64::from(digit);
+    }
+    steps
+}

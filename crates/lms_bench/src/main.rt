@@ -1,0 +1,34 @@
+//! Times one-time keys against bare SHA-256 digests.
+//!
+//! Without words it runs each case once and prints the cases' names. With the word `measure` it prints for each case
+//! its time, the compressions of SHA-256 that the standard's definition needs, and the ratio of its time to that of as
+//! many bare digests of 55 bytes, each the least of several rounds.
+#![tactic(auto)]
+
+mod bench;
+mod case;
+mod measure;
+
+use crate::bench::Bench;
+use crate::case::{CASES, SEED};
+use crate::measure::measure;
+use anyhow::{Result, bail};
+use std::env;
+
+fn main(rt: HostRuntime) -> Result<()> {
+    let words: Vec<String> = env::args(&rt)?.collect(rt.alloc())?;
+    match words.as_slice() {
+        [] | [_] => run_once(&rt),
+        [_, word] if word.as_str() == "measure" => measure(&rt),
+        _ => bail!("usage: lms_bench [measure]"),
+    }
+}
+
+/// Runs each case once and prints its name.
+fn run_once(rt: &impl Print) -> Result<()> {
+    for case in CASES {
+        let _value = Bench::new(case).run(SEED);
+        println!(rt; "{case}")?;
+    }
+    Ok(())
+}

@@ -1,0 +1,28 @@
+-- The parts of a one-time signature, as they are cut from its bytes.
+use Rattle.std.proofs.Common.{ℕ, ◌≡◌, ◌+◌, ◌*◌, ◌/◌, List, ◌++◌, length, All, take, drop, sym, ◌∙◌, ap, ap₂, arith, subst, length-drop, take-append-drop}
+use Rattle.std.specs.List.{concat}
+use Rattle.std.specs.Simd.{first_chunks}
+use Rattle.std.proofs.lemmas.List.{length-take-le}
+use Rattle.lms_spec.specs.Parameters.{OtsSet, ots_signature_length}
+use Rattle.lms_spec.specs.Bytes.{u32str}
+use Rattle.lms_spec.specs.Ots.{IsOtsSignature}
+use Rattle.lms_spec.proofs.Pieces.{Is32}
+use Rattle.lms_spec.proofs.Chunks.{length-chunks, chunks-are-32, concat-chunks}
+
+pub ots-parts : (t : OtsSet) (signature rest randomizer last : List ℕ) (values : List (List ℕ))
+    → length signature ≡ ots_signature_length t → signature ≡ u32str t.code ++ rest
+    → randomizer ≡ take 32 rest → last ≡ drop 32 rest → values ≡ first_chunks 32 (length last / 32) last
+    → IsOtsSignature t randomizer values signature
+ots-parts t signature rest randomizer last values long es er el ev =
+    let rest_long : length rest ≡ 32 * (t.p + 1) = omega (arith, ap length es) in
+    let last_long : length last ≡ 32 * t.p = omega (arith, ap length el, length-drop 32 rest) in
+    let count : length last / 32 ≡ t.p = omega arith in
+    let pieces : values ≡ first_chunks 32 t.p last = ev ∙ ap (λ n. first_chunks 32 n last) count in
+    let whole : rest ≡ randomizer ++ concat values
+    = sym (take-append-drop 32 rest) ∙ ap₂ (λ x y. x ++ y) (sym er) (sym el ∙ sym (ap concat pieces ∙ concat-chunks t.p last last_long)) in
+    record {
+      randomizer_length = ap length er ∙ length-take-le 32 rest (omega arith);
+      values_count = ap length pieces ∙ length-chunks t.p last;
+      value_lengths = subst (All Is32) (sym pieces) (chunks-are-32 t.p last (omega arith));
+      parts = es ∙ ap (λ x. u32str t.code ++ x) whole;
+    }

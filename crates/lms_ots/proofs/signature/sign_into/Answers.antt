@@ -1,0 +1,56 @@
+use Rattle.std.proofs.Common.{ℕ, ◌≡◌, ◌+◌, ◌-◌, ◌*◌, List, ◌++◌, map, take, replicate, slice_index, sym, ◌∙◌, ap, ap₂, arith, append_assoc, subst}
+use Rattle.std.specs.List.{concat}
+use Rattle.std.proofs.lemmas.List.{take_all}
+use Rattle.std.proofs.lemmas.Slice.{take-put_mid}
+use Rattle.lms_spec.specs.Bytes.{below, u32str}
+use Rattle.lms_spec.specs.Digits.{digits_of}
+use Rattle.lms_spec.specs.Ots.{chain, message_hash, message_digits, ots_signature, public_hash, LeadsTo}
+use Rattle.lms_spec.proofs.Below.{concat-below-suc}
+use Rattle.lms_spec.proofs.OneTime.{signed_value, signature-leads_to}
+use Rattle.lms_params.specs.OtsType.{ots_set_of}
+use Rattle.lms_ots.proofs.Candidates.{digit-in-front}
+use Rattle.lms_ots.proofs.signature.sign_into.Goals as goal
+
+pub loop-i-preserved : goal.loop-i-preserved
+unfolding message_digits
+loop-i-preserved c =
+    let t = ots_set_of c.args.t in
+    let id = c.args.id in
+    let i = c.loop-i.i in
+    let out = c.loop-i.out in
+    let at = 36 + 32 * i in
+    let value = c.copy_from_slice.new.self in
+    let f = signed_value t id.i c.args.seed.now id.q c.args.c.now c.args.msg.now in
+    let head = u32str t.code ++ c.args.c.now in
+    let zeros : List ℕ = replicate (265 - t.p) 0 in
+    let digits : c.digits-digits.result ≡ message_digits t id.i id.q c.args.c.now c.args.msg.now ++ zeros
+    = c.digits-digits.ensures ∙ ap (λ hash. digits_of t hash ++ zeros) c.message_hash.ensures in
+    let hash = message_hash id.i id.q c.args.c.now c.args.msg.now in
+    let read : c.from.result ≡ slice_index (message_digits t id.i id.q c.args.c.now c.args.msg.now) i
+    = c.from.ensures ∙ (ap (λ ds. slice_index ds i) digits ∙ digit-in-front t hash zeros i (omega arith)) in
+    let steps : c.from.result - 0 ≡ slice_index (message_digits t id.i id.q c.args.c.now c.args.msg.now) i = omega (arith, read) in
+    let of_chain = c.new-hashes.ensures in
+    let secret = rw (of_chain.key, of_chain.chain) at c.secret.ensures in
+    let walked = rw (of_chain.key, of_chain.chain) at c.chain-value.ensures in
+    let next : value ≡ f i = c.copy_from_slice.ensures.after ∙ (walked ∙ ap₂ (chain id.i id.q i 0) steps secret) in
+    let written : take (36 + 32 * (i + 1)) _ ≡ take at out ++ value
+    = take-put_mid at (68 + 32 * i - at) out value (36 + 32 * (i + 1)) (omega arith) (omega arith) in
+    written ∙ (ap₂ (λ x y. x ++ y) c.loop-i.invariant next
+    ∙ (append_assoc head (concat (map f (below i))) (f i) ∙ ap (λ text. head ++ text) (sym (concat-below-suc f i))))
+
+pub returns-clause-signature : goal.returns-clause-signature
+unfolding ots_signature
+returns-clause-signature c =
+    let t = ots_set_of c.args.t in
+    let id = c.args.id in
+    let f = signed_value t id.i c.args.seed.now id.q c.args.c.now c.args.msg.now in
+    let count : c.loop-i.i ≡ t.p = omega arith in
+    sym (take_all (36 + 32 * c.loop-i.i) c.loop-i.out (omega arith))
+    ∙ (c.loop-i.invariant ∙ ap (λ n. u32str t.code ++ c.args.c.now ++ concat (map f (below n))) count)
+
+pub returns-clause-candidate : goal.returns-clause-candidate
+returns-clause-candidate c =
+    let t = ots_set_of c.args.t in
+    let id = c.args.id in
+    subst (λ s. LeadsTo t id.i id.q s c.args.msg.now (public_hash t id.i c.args.seed.now id.q)) (sym (returns-clause-signature c))
+    (signature-leads_to t id.i c.args.seed.now id.q c.args.c.now c.args.msg.now c.told-c)

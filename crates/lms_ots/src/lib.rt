@@ -1,0 +1,15 @@
+//! LM-OTS, the one-time signature (RFC 8554, section 4).
+//!
+//! A one-time key signs one message. Two messages under one key give a forger what he needs: who calls `sign_into` keeps
+//! the leaves apart.
+#![tactic(auto)]
+
+mod chain_hashes;
+mod one_time_key;
+mod signature;
+
+pub use crate::one_time_key::{OtsId, chain, public_hash, secret};
+pub use crate::signature::{candidate, sign_into};
+
+#[cfg(test)]
+mod tests;

@@ -1,0 +1,68 @@
+//! One-time keys: their chains, secrets and public hash (RFC 8554, 4.2 and 4.3).
+ghost use Rattle.std.specs.Prelude.{◌≡◌, ◌-◌, ◌≤◌};
+ghost use Rattle.sha2.specs.Hashers.{Holds256};
+ghost use Rattle.lms_spec.specs.Hashing.{place, chain_secret};
+ghost use Rattle.lms_spec.specs.Ots.{chain as chain_of, last_digit as last_digit_of, public_hash as public_hash_of};
+ghost use Rattle.lms_params.specs.OtsType.{ots_set_of};
+
+use crate::chain_hashes::ChainHashes;
+use lms_params::OtsType;
+use sha2::{Digest, Sha256};
+
+/// D_PBLC: what keeps the hash of the ends of all chains apart from other hashes (4.3).
+pub(crate) const D_PBLC: u16 = 0x8080;
+
+/// Which one-time key: the identifier I of its tree and the number q of its leaf.
+#[derive(Clone, Copy, Debug, PartialEq, Eq)]
+pub struct OtsId {
+    pub i: [u8; 16],
+    pub q: u32,
+}
+
+/// The public hash K of a one-time key (RFC 8554, 4.3).
+pub fn public_hash(t: OtsType, seed: &[u8; 32], id: OtsId) -> [u8; 32]
+    ensures { result ≡ public_hash_of (ots_set_of t) id.i seed.now id.q }
+{
+    let last = last_digit(t);
+    let mut hasher = hasher_at(id);
+    hasher.update(D_PBLC.to_be_bytes());
+    for i in 0..t.p() {
+        let hashes = ChainHashes::new(id, i as u16);
+        hasher.update(hashes.chain(0, last, &hashes.secret(seed)));
+    }
+    hasher.finalize()
+}
+
+/// The secret of chain i of a one-time key (RFC 8554, Appendix A).
+pub fn secret(seed: &[u8; 32], id: OtsId, i: u16) -> [u8; 32]
+    ensures { result ≡ chain_secret id.i seed.now id.q i }
+{
+    ChainHashes::new(id, i).secret(seed)
+}
+
+/// Takes the value of chain i from digit `from` to digit `to`, by the steps from .. to - 1 (RFC 8554, 4.3).
+pub fn chain(id: OtsId, i: u16, from: u16, to: u16, x: &[u8; 32]) -> [u8; 32]
+    requires order { from ≤ to }
+    requires limit { to ≤ 255 }
+    ensures { result ≡ chain_of id.i id.q i from (to - from) x.now }
+{
+    ChainHashes::new(id, i).chain(from, to, x)
+}
+
+/// The last digit of a chain, 2^w - 1.
+pub(crate) fn last_digit(t: OtsType) -> u16
+    ensures exact { result ≡ last_digit_of (ots_set_of t) }
+    ensures limit { result ≤ 255 }
+{
+    (1 << t.w()) - 1
+}
+
+/// A hasher that holds what each hash of a one-time key begins with: I and q.
+pub(crate) fn hasher_at(id: OtsId) -> Sha256
+    ensures { Holds256 result (place id.i id.q) }
+{
+    let mut hasher = Sha256::new();
+    hasher.update(id.i);
+    hasher.update(id.q.to_be_bytes());
+    hasher
+}

@@ -1,0 +1,104 @@
+//! One-time signatures and their candidates (RFC 8554, 4.5 and 4.6).
+ghost use Rattle.std.specs.Prelude.{ℕ, ◌≡◌, ◌≤◌, ◌<◌, ◌++◌, List, map, length, take, slice_index, IfSome, IfNone};
+ghost use Rattle.lms_spec.specs.Bytes.{below, u32str};
+ghost use Rattle.lms_spec.specs.Parameters.{ots_signature_length};
+ghost use Rattle.lms_spec.specs.Ots.{last_digit as last_digit_of, public_hash as public_hash_of, end_from, ends_hash as ends_hash_of, message_hash as message_hash_of, ots_signature, IsOtsSignature, LeadsTo};
+ghost use Rattle.lms_params.specs.OtsType.{ots_set_of};
+
+use crate::chain_hashes::ChainHashes;
+use crate::one_time_key::{D_PBLC, OtsId, chain, hasher_at, last_digit};
+use byteorder::{BigEndian, ByteOrder};
+use lms_params::{OtsType, digits, split_u32};
+use sha2::Digest;
+
+/// D_MESG: what keeps the hash of a message apart from other hashes (4.5).
+const D_MESG: u16 = 0x8181;
+
+/// Signs a message with a one-time key (RFC 8554, 4.5) under the randomizer `c`: the whole of `out`, `t.sig_len()` bytes,
+/// becomes the signature.
+pub fn sign_into(t: OtsType, seed: &[u8; 32], id: OtsId, c: &[u8; 32], msg: &[u8], out: &mut [u8])
+    requires { length out.old ≡ ots_signature_length (ots_set_of t) }
+    ensures signature { out.new ≡ ots_signature (ots_set_of t) id.i seed.now id.q c.now msg.now }
+    ensures candidate { LeadsTo (ots_set_of t) id.i id.q out.new msg.now (public_hash_of (ots_set_of t) id.i seed.now id.q) }
+{
+    let digits = digits(&message_hash(id, c, msg), t);
+    write_head(t, c, out);
+    for i in 0..t.p() {
+        let hashes = ChainHashes::new(id, i as u16);
+        let value = hashes.chain(0, u16::from(digits[i]), &hashes.secret(seed));
+        out[36 + 32 * i..68 + 32 * i].copy_from_slice(&value);
+    }
+}
+
+/// Writes what stands before a signature's values: the typecode and the randomizer (4.5).
+fn write_head(t: OtsType, c: &[u8; 32], out: &mut [u8])
+    requires { 36 ≤ length out.old }
+    ensures { take 36 out.new ≡ u32str (ots_set_of t).code ++ c.now }
+{
+    BigEndian::write_u32(out, t.code());
+    out[4..36].copy_from_slice(c);
+}
+
+/// The public hash that a signature of a message leads to (RFC 8554, 4.6). None exactly where the signature's typecode
+/// or its length is not that of `t`.
+pub fn candidate(t: OtsType, id: OtsId, sig: &[u8], msg: &[u8]) -> Option<[u8; 32]>
+    ensures some { IfSome result (λ k. LeadsTo (ots_set_of t) id.i id.q sig.now msg.now k) }
+    ensures none { IfNone result ((k : List ℕ) → ¬ LeadsTo (ots_set_of t) id.i id.q sig.now msg.now k) }
+{
+    let sig = Signature::parse(t, sig)?;
+    let digits = digits(&message_hash(id, sig.randomizer, msg), t);
+    Some(ends_hash(t, id, &digits, sig.values))
+}
+
+/// The parts of a signature (4.5): the randomizer C, and a value of each chain.
+#[derive(Clone, Copy)]
+struct Signature<'a> {
+    randomizer: &'a [u8; 32],
+    values: &'a [[u8; 32]],
+}
+
+impl<'a> Signature<'a> {
+    /// The parts of a signature under set `t`. None exactly where it has none.
+    fn parse(t: OtsType, sig: &'a [u8]) -> Option<Self>
+        ensures some { IfSome result (λ s. IsOtsSignature (ots_set_of t) s.randomizer.now s.values.now sig.now) }
+        ensures none { IfNone result ((c : List ℕ) (values : List (List ℕ)) → ¬ IsOtsSignature (ots_set_of t) c values sig.now) }
+    {
+        if sig.len() != t.sig_len() {
+            return None;
+        }
+        let (code, rest) = split_u32(sig)?;
+        if code != t.code() {
+            return None;
+        }
+        let (randomizer, rest) = rest.split_first_chunk::<32>()?;
+        let (values, _) = rest.as_chunks::<32>();
+        Some(Signature { randomizer, values })
+    }
+}
+
+/// The hash Q of a message under a randomizer (4.5).
+#[tactic(auto, unfolding(lms_spec::specs::Ots::message_hash))]
+fn message_hash(id: OtsId, randomizer: &[u8; 32], msg: &[u8]) -> [u8; 32]
+    ensures { result ≡ message_hash_of id.i id.q randomizer.now msg.now }
+{
+    let mut hasher = hasher_at(id);
+    hasher.update(D_MESG.to_be_bytes());
+    hasher.update(randomizer);
+    hasher.update(msg);
+    hasher.finalize()
+}
+
+/// The hash of the ends that the chains have, from values that stand at these digits (4.6).
+fn ends_hash(t: OtsType, id: OtsId, digits: &[u8; 265], values: &[[u8; 32]]) -> [u8; 32]
+    requires count { length values.now ≡ (ots_set_of t).p }
+    requires limit { (i : ℕ) → i < (ots_set_of t).p → slice_index digits.now i ≤ last_digit_of (ots_set_of t) }
+    ensures { result ≡ ends_hash_of id.i id.q (map (end_from (ots_set_of t) id.i id.q digits.now values.now) (below (ots_set_of t).p)) }
+{
+    let last = last_digit(t);
+    let mut hasher = hasher_at(id);
+    hasher.update(D_PBLC.to_be_bytes());
+    for i in 0..t.p() {
+        hasher.update(chain(id, i as u16, u16::from(digits[i]), last, &values[i]));
+    }
+    hasher.finalize()
+}

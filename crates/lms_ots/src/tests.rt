@@ -1,0 +1,113 @@
+use crate::{OtsId, candidate, chain, public_hash, sign_into};
+use hex::FromHex;
+use lms_params::{LmsType, OtsType};
+use lms_slow::SlowTree;
+use lms_slow::vectors::ONE_10_8;
+use std::alloc::{AllocError, Global};
+use std::test::Fail;
+
+const SEED: [u8; 32] = [0x11; 32];
+
+const ID: [u8; 16] = [0x22; 16];
+
+const RANDOMIZER: [u8; 32] = [0x33; 32];
+
+/// The signature of `abc` by leaf q.
+fn signature(alloc: Global, ots: OtsType, q: u32) -> Result<Vec<u8>, AllocError> {
+    let mut text = vec![in alloc; 0; ots.sig_len()]?;
+    sign_into(
+        ots,
+        &SEED,
+        OtsId { i: ID, q },
+        &RANDOMIZER,
+        b"abc",
+        &mut text,
+    );
+    Ok(text)
+}
+
+#[test]
+fn goes_along_chains(rt: HostRuntime) {
+    let id = OtsId { i: ID, q: 5 };
+    assert_eq!(rt; chain(id, 3, 7, 7, &SEED), SEED);
+    let middle = chain(id, 3, 0, 100, &SEED);
+    assert_eq!(rt;
+        chain(id, 3, 100, 255, &middle),
+        chain(id, 3, 0, 255, &SEED)
+    );
+}
+
+#[test]
+fn equals_the_slow_signer(rt: HostRuntime) -> Result<(), Fail> {
+    for ots in [OtsType::W1, OtsType::W2, OtsType::W4, OtsType::W8] {
+        for q in [0, 31] {
+            let tree = SlowTree {
+                lms: LmsType::H5,
+                ots,
+                seed: SEED,
+                id: ID,
+            };
+            let id = OtsId { i: ID, q };
+            let text = signature(rt.alloc(), ots, q)?;
+            assert_eq!(rt;
+                public_hash(ots, &SEED, id),
+                tree.public_hash(q),
+                "{ots:?} {q}"
+            );
+            assert_eq!(rt;
+                text,
+                tree.one_time_signature(rt.alloc(), q, &RANDOMIZER, b"abc")?,
+                "{ots:?} {q}"
+            );
+            assert_eq!(rt;
+                candidate(ots, id, &text, b"abc"),
+                Some(tree.public_hash(q)),
+                "{ots:?} {q}"
+            );
+            assert_ne!(rt;
+                candidate(ots, id, &text, b"abd"),
+                Some(tree.public_hash(q)),
+                "{ots:?} {q}"
+            );
+        }
+    }
+    Ok(())
+}
+
+#[test]
+fn refuses_other_sets_and_lengths(rt: HostRuntime) {
+    let id = OtsId { i: ID, q: 0 };
+    let mut text = [0; 1124];
+    sign_into(OtsType::W8, &SEED, id, &RANDOMIZER, b"abc", &mut text);
+    let mut longer = [0; 1125];
+    longer[..1124].copy_from_slice(&text);
+    let mut other_code = text;
+    other_code[3] = 3;
+    let shorter = text.get(..1123).unwrap_or(&[]);
+    let public = public_hash(OtsType::W8, &SEED, id);
+    assert_eq!(rt; candidate(OtsType::W8, id, &text, b"abc"), Some(public));
+    assert_eq!(rt; candidate(OtsType::W4, id, &text, b"abc"), None);
+    assert_eq!(rt; candidate(OtsType::W8, id, &longer, b"abc"), None);
+    assert_eq!(rt; candidate(OtsType::W8, id, shorter, b"abc"), None);
+    assert_eq!(rt; candidate(OtsType::W8, id, &other_code, b"abc"), None);
+}
+
+#[test]
+fn signs_as_another_implementation(rt: HostRuntime) -> Result<(), Fail> {
+    let expected = hex::decode(rt.alloc(), ONE_10_8.signature)?;
+    let id = OtsId {
+        i: FromHex::from_hex(ONE_10_8.id)?,
+        q: 700,
+    };
+    let mut text = [0; 1124];
+    sign_into(
+        OtsType::W8,
+        &FromHex::from_hex(ONE_10_8.seed)?,
+        id,
+        &FromHex::from_hex(ONE_10_8.randomizer)?,
+        ONE_10_8.message.as_bytes(),
+        &mut text,
+    );
+    assert_eq!(rt; Some(text.as_slice()), expected.get(8..1132));
+    Ok(())
+}

@@ -1,0 +1,22 @@
+-- The parts of an LMS public key and of an LMS signature, as byte strings.
+use Rattle.std.specs.Prelude.{ℕ, ◌≡◌, ◌^◌, ◌<◌, List, ◌++◌, length, All, Some}
+use Rattle.std.specs.List.{concat}
+use Rattle.lms_spec.specs.Parameters.{OtsSet, LmsSet, ots_set, lms_set, ots_signature_length}
+use Rattle.lms_spec.specs.Bytes.{u32str}
+use Rattle.lms_spec.specs.Tree.{lms_public_key}
+
+-- the parts of an LMS public key of known sets (5.3)
+pub record IsLmsPublicKey (m : LmsSet) (t : OtsSet) (id root public_key : List ℕ) : Type 0 where
+  pub lms_known : lms_set m.code ≡ Some m
+  pub ots_known : ots_set t.code ≡ Some t
+  pub id_length : length id ≡ 16
+  pub root_length : length root ≡ 32
+  pub parts : public_key ≡ lms_public_key m t id root
+
+-- the parts of an LMS signature under a key of these sets (5.4)
+pub record IsLmsSignature (m : LmsSet) (t : OtsSet) (q : ℕ) (ots_part : List ℕ) (path : List (List ℕ)) (signature : List ℕ) : Type 0 where
+  pub q_in_tree : q < 2 ^ m.h
+  pub ots_length : length ots_part ≡ ots_signature_length t
+  pub path_count : length path ≡ m.h
+  pub path_lengths : All (λ v. length v ≡ 32) path
+  pub parts : signature ≡ u32str q ++ ots_part ++ u32str m.code ++ concat path

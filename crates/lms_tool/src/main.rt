@@ -1,0 +1,44 @@
+//! An exact verifier of HSS/LMS signatures (RFC 8554).
+#![tactic(auto)]
+
+mod command;
+mod fault;
+mod hss;
+mod run;
+mod status;
+mod tree;
+mod verdict;
+mod world;
+
+use crate::fault::Fault;
+use crate::run::{report, run};
+use crate::world::DiskWorld;
+use std::env;
+use std::io::ErrorKind;
+use std::process::ExitCode;
+use std::rt::Env;
+
+fn main(rt: HostRuntime) -> ExitCode {
+    let mut errors = rt.stderr();
+    let status = match words(&rt) {
+        Ok(words) => run(
+            rt.alloc(),
+            words.as_slice(),
+            &mut DiskWorld::new(&rt),
+            &mut rt.reader(),
+            &mut rt.stdout(),
+            &mut errors,
+        ),
+        Err(fault) => report(fault, &mut errors),
+    };
+    ExitCode::from(status)
+}
+
+/// The program's words. `Input` where one is no text, `OutOfMemory` where memory ran out.
+fn words<R: Env + AllocGlobal>(rt: &R) -> Result<Vec<String>, Fault> {
+    match env::args(rt) {
+        Ok(words) => words.collect(rt.alloc()).map_err(|_| Fault::OutOfMemory),
+        Err(error) if error.kind() == ErrorKind::OutOfMemory => Err(Fault::OutOfMemory),
+        Err(_) => Err(Fault::Input),
+    }
+}
