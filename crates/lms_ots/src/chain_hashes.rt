@@ -27,12 +27,20 @@ impl ChainHashes {
         ChainHashes { id, i, head }
     }
 
-    /// The chain's secret (Appendix A).
-    #[tactic(auto, unfolding(lms_spec::specs::Hashing::chain_secret))]
-    pub(crate) fn secret(&self, seed: &[u8; 32]) -> [u8; 32]
-        ensures { result ≡ chain_secret self.now.id.i seed.now self.now.id.q self.now.i }
+    /// The chain's value at a digit (4.5). The first hash makes the secret from the seed (Appendix A), each further one is
+    /// a step. One call makes them all: outside a loop of its own the hash is compiled to a slower form.
+    pub(crate) fn value_at(&self, digit: u16, seed: &[u8; 32]) -> [u8; 32]
+        requires { digit ≤ 255 }
+        ensures { result
+            ≡ chain_of self.now.id.i self.now.id.q self.now.i 0 digit (chain_secret self.now.id.i seed.now self.now.id.q self.now.i) }
     {
-        hash_after(&self.head, 0xff, seed)
+        let mut value = *seed;
+        let mut byte = 0xff;
+        for next in 0..digit + 1 {
+            value = hash_after(&self.head, byte, &value);
+            byte = next as u8;
+        }
+        value
     }
 
     /// Takes a value from one digit to another (4.3).

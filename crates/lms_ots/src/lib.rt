@@ -5,9 +5,11 @@
 #![tactic(auto)]
 
 mod chain_hashes;
+mod hashing;
 mod one_time_key;
 mod signature;
 
+pub use crate::hashing::hasher_at;
 pub use crate::one_time_key::{OtsId, chain, public_hash, secret};
 pub use crate::signature::{candidate, sign_into};
 

@@ -1,13 +1,13 @@
 //! One-time keys: their chains, secrets and public hash (RFC 8554, 4.2 and 4.3).
 ghost use Rattle.std.specs.Prelude.{◌≡◌, ◌-◌, ◌≤◌};
-ghost use Rattle.sha2.specs.Hashers.{Holds256};
-ghost use Rattle.lms_spec.specs.Hashing.{place, chain_secret};
+ghost use Rattle.lms_spec.specs.Hashing.{chain_secret};
 ghost use Rattle.lms_spec.specs.Ots.{chain as chain_of, last_digit as last_digit_of, public_hash as public_hash_of};
 ghost use Rattle.lms_params.specs.OtsType.{ots_set_of};
 
 use crate::chain_hashes::ChainHashes;
+use crate::hashing::hasher_at;
 use lms_params::OtsType;
-use sha2::{Digest, Sha256};
+use sha2::Digest;
 
 /// D_PBLC: what keeps the hash of the ends of all chains apart from other hashes (4.3).
 pub(crate) const D_PBLC: u16 = 0x8080;
@@ -24,11 +24,11 @@ pub fn public_hash(t: OtsType, seed: &[u8; 32], id: OtsId) -> [u8; 32]
     ensures { result ≡ public_hash_of (ots_set_of t) id.i seed.now id.q }
 {
     let last = last_digit(t);
-    let mut hasher = hasher_at(id);
+    let mut hasher = hasher_at(&id.i, id.q);
     hasher.update(D_PBLC.to_be_bytes());
     for i in 0..t.p() {
         let hashes = ChainHashes::new(id, i as u16);
-        hasher.update(hashes.chain(0, last, &hashes.secret(seed)));
+        hasher.update(hashes.value_at(last, seed));
     }
     hasher.finalize()
 }
@@ -37,7 +37,7 @@ pub fn public_hash(t: OtsType, seed: &[u8; 32], id: OtsId) -> [u8; 32]
 pub fn secret(seed: &[u8; 32], id: OtsId, i: u16) -> [u8; 32]
     ensures { result ≡ chain_secret id.i seed.now id.q i }
 {
-    ChainHashes::new(id, i).secret(seed)
+    ChainHashes::new(id, i).value_at(0, seed)
 }
 
 /// Takes the value of chain i from digit `from` to digit `to`, by the steps from .. to - 1 (RFC 8554, 4.3).
@@ -55,14 +55,4 @@ pub(crate) fn last_digit(t: OtsType) -> u16
     ensures limit { result ≤ 255 }
 {
     (1 << t.w()) - 1
-}
-
-/// A hasher that holds what each hash of a one-time key begins with: I and q.
-pub(crate) fn hasher_at(id: OtsId) -> Sha256
-    ensures { Holds256 result (place id.i id.q) }
-{
-    let mut hasher = Sha256::new();
-    hasher.update(id.i);
-    hasher.update(id.q.to_be_bytes());
-    hasher
 }

@@ -6,7 +6,8 @@ ghost use Rattle.lms_spec.specs.Ots.{last_digit as last_digit_of, public_hash as
 ghost use Rattle.lms_params.specs.OtsType.{ots_set_of};
 
 use crate::chain_hashes::ChainHashes;
-use crate::one_time_key::{D_PBLC, OtsId, chain, hasher_at, last_digit};
+use crate::hashing::hasher_at;
+use crate::one_time_key::{D_PBLC, OtsId, chain, last_digit};
 use byteorder::{BigEndian, ByteOrder};
 use lms_params::{OtsType, digits, split_u32};
 use sha2::Digest;
@@ -25,7 +26,7 @@ pub fn sign_into(t: OtsType, seed: &[u8; 32], id: OtsId, c: &[u8; 32], msg: &[u8
     write_head(t, c, out);
     for i in 0..t.p() {
         let hashes = ChainHashes::new(id, i as u16);
-        let value = hashes.chain(0, u16::from(digits[i]), &hashes.secret(seed));
+        let value = hashes.value_at(u16::from(digits[i]), seed);
         out[36 + 32 * i..68 + 32 * i].copy_from_slice(&value);
     }
 }
@@ -81,7 +82,7 @@ impl<'a> Signature<'a> {
 fn message_hash(id: OtsId, randomizer: &[u8; 32], msg: &[u8]) -> [u8; 32]
     ensures { result ≡ message_hash_of id.i id.q randomizer.now msg.now }
 {
-    let mut hasher = hasher_at(id);
+    let mut hasher = hasher_at(&id.i, id.q);
     hasher.update(D_MESG.to_be_bytes());
     hasher.update(randomizer);
     hasher.update(msg);
@@ -95,7 +96,7 @@ fn ends_hash(t: OtsType, id: OtsId, digits: &[u8; 265], values: &[[u8; 32]]) -> 
     ensures { result ≡ ends_hash_of id.i id.q (map (end_from (ots_set_of t) id.i id.q digits.now values.now) (below (ots_set_of t).p)) }
 {
     let last = last_digit(t);
-    let mut hasher = hasher_at(id);
+    let mut hasher = hasher_at(&id.i, id.q);
     hasher.update(D_PBLC.to_be_bytes());
     for i in 0..t.p() {
         hasher.update(chain(id, i as u16, u16::from(digits[i]), last, &values[i]));

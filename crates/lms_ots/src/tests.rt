@@ -1,8 +1,9 @@
-use crate::{OtsId, candidate, chain, public_hash, sign_into};
+use crate::{OtsId, candidate, chain, hasher_at, public_hash, secret, sign_into};
 use hex::FromHex;
 use lms_params::{LmsType, OtsType};
 use lms_slow::SlowTree;
 use lms_slow::vectors::ONE_10_8;
+use sha2::Digest;
 use std::alloc::{AllocError, Global};
 use std::test::Fail;
 
@@ -24,6 +25,21 @@ fn signature(alloc: Global, ots: OtsType, q: u32) -> Result<Vec<u8>, AllocError>
         &mut text,
     );
     Ok(text)
+}
+
+/// The expected values are digests of Python's hashlib, of the 20 bytes that begin each text of leaf 5, and of the 55
+/// bytes that the standard's Appendix A gives for its chain 264.
+#[test]
+fn hashes_the_standards_texts(rt: HostRuntime) -> Result<(), Fail> {
+    let start: [u8; 32] = FromHex::from_hex(
+        "c4d12adf0c23c1ed5281df83e3888ec09f2f36c7147d09b914a49dcf8f632630",
+    )?;
+    assert_eq!(rt; hasher_at(&ID, 5).finalize(), start);
+    let expected: [u8; 32] = FromHex::from_hex(
+        "b06cddb4d36063a9c5e45cc01b0ba0e3e3a8b0fa54e788d0090b2284d247f279",
+    )?;
+    assert_eq!(rt; secret(&SEED, OtsId { i: ID, q: 5 }, 264), expected);
+    Ok(())
 }
 
 #[test]

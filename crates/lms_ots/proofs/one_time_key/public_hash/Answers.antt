@@ -1,4 +1,4 @@
-use Rattle.std.proofs.Common.{ℕ, ◌≡◌, ◌+◌, ◌-◌, List, ◌++◌, map, sym, ◌∙◌, ap, ap₂, arith, append_assoc, subst}
+use Rattle.std.proofs.Common.{ℕ, ◌≡◌, ◌+◌, List, ◌++◌, map, sym, ◌∙◌, ap, arith, append_assoc, subst}
 use Rattle.std.specs.List.{concat}
 use Rattle.sha2.specs.Hashers.{Holds256}
 use Rattle.lms_spec.specs.Bytes.{below, u16str}
@@ -15,12 +15,12 @@ loop-i-preserved c =
     let f : ℕ → List ℕ = λ i. chain id.i id.q i 0 (last_digit (ots_set_of c.args.t)) (chain_secret id.i c.args.seed.now id.q i) in
     let prefix = place id.i id.q ++ u16str d_pblc in
     let so_far = concat (map f (below i)) in
-    let steps : c.last_digit-last.result - 0 ≡ last_digit (ots_set_of c.args.t) = omega (arith, c.last_digit-last.ensures.exact) in
     let of_chain = c.new-hashes.ensures in
-    let secret = rw (of_chain.key, of_chain.chain) at c.secret.ensures in
-    let next : c.chain.result ≡ f i = rw (of_chain.key, of_chain.chain) at c.chain.ensures ∙ ap₂ (chain id.i id.q i 0) steps secret in
-    let more : (prefix ++ so_far) ++ c.chain.result ≡ prefix ++ concat (map f (below (i + 1)))
-    = append_assoc prefix so_far c.chain.result ∙ ap (λ text. prefix ++ text) (ap (λ text. so_far ++ text) next ∙ sym (concat-below-suc f i)) in
+    let next : c.value_at.result ≡ f i
+    = rw (of_chain.key, of_chain.chain) at c.value_at.ensures
+    ∙ ap (λ digit. chain id.i id.q i 0 digit (chain_secret id.i c.args.seed.now id.q i)) c.last_digit-last.ensures.exact in
+    let more : (prefix ++ so_far) ++ c.value_at.result ≡ prefix ++ concat (map f (below (i + 1)))
+    = append_assoc prefix so_far c.value_at.result ∙ ap (λ text. prefix ++ text) (ap (λ text. so_far ++ text) next ∙ sym (concat-below-suc f i)) in
     subst (Holds256 c.update-in-loop-i.new.self) more (c.update-in-loop-i.ensures _ c.loop-i.invariant)
 
 pub returns : goal.returns

@@ -4,6 +4,7 @@ use Rattle.std.proofs.lemmas.List.{take_all}
 use Rattle.std.proofs.lemmas.Slice.{take-put_mid}
 use Rattle.lms_spec.specs.Bytes.{below, u32str}
 use Rattle.lms_spec.specs.Digits.{digits_of}
+use Rattle.lms_spec.specs.Hashing.{chain_secret}
 use Rattle.lms_spec.specs.Ots.{chain, message_hash, message_digits, ots_signature, public_hash, LeadsTo}
 use Rattle.lms_spec.proofs.Below.{concat-below-suc}
 use Rattle.lms_spec.proofs.OneTime.{signed_value, signature-leads_to}
@@ -26,13 +27,13 @@ loop-i-preserved c =
     let digits : c.digits-digits.result ≡ message_digits t id.i id.q c.args.c.now c.args.msg.now ++ zeros
     = c.digits-digits.ensures ∙ ap (λ hash. digits_of t hash ++ zeros) c.message_hash.ensures in
     let hash = message_hash id.i id.q c.args.c.now c.args.msg.now in
-    let read : c.from.result ≡ slice_index (message_digits t id.i id.q c.args.c.now c.args.msg.now) i
+    let digit : c.from.result ≡ slice_index (message_digits t id.i id.q c.args.c.now c.args.msg.now) i
     = c.from.ensures ∙ (ap (λ ds. slice_index ds i) digits ∙ digit-in-front t hash zeros i (omega arith)) in
-    let steps : c.from.result - 0 ≡ slice_index (message_digits t id.i id.q c.args.c.now c.args.msg.now) i = omega (arith, read) in
     let of_chain = c.new-hashes.ensures in
-    let secret = rw (of_chain.key, of_chain.chain) at c.secret.ensures in
-    let walked = rw (of_chain.key, of_chain.chain) at c.chain-value.ensures in
-    let next : value ≡ f i = c.copy_from_slice.ensures.after ∙ (walked ∙ ap₂ (chain id.i id.q i 0) steps secret) in
+    let signed = rw (of_chain.key, of_chain.chain) at c.value_at-value.ensures in
+    let next : value ≡ f i
+    = c.copy_from_slice.ensures.after
+    ∙ (signed ∙ ap (λ digit. chain id.i id.q i 0 digit (chain_secret id.i c.args.seed.now id.q i)) digit) in
     let written : take (36 + 32 * (i + 1)) _ ≡ take at out ++ value
     = take-put_mid at (68 + 32 * i - at) out value (36 + 32 * (i + 1)) (omega arith) (omega arith) in
     written ∙ (ap₂ (λ x y. x ++ y) c.loop-i.invariant next
