@@ -1,8 +1,9 @@
 //! What is timed, and how many compressions it needs.
-ghost use Rattle.std.specs.Prelude.{◌+◌, ◌*◌, ◌<◌, ◌≤◌};
+ghost use Rattle.std.specs.Prelude.{◌+◌, ◌*◌, ◌^◌, ◌<◌, ◌≤◌};
 
 use lms_ots::OtsId;
-use lms_params::{OtsType, digits};
+use lms_params::{LmsType, OtsType, digits};
+use lms_tree::TreeKey;
 use sha2::{Digest, Sha256};
 use std::fmt;
 
@@ -18,8 +19,18 @@ pub const RANDOMIZER: [u8; 32] = [0x33; 32];
 
 pub const MESSAGE: [u8; 3] = *b"abc";
 
+/// The key of a tree of height 10.
+pub fn key_of(ots: OtsType, seed: [u8; 32]) -> TreeKey {
+    TreeKey {
+        lms: LmsType::H10,
+        ots,
+        i: [0x22; 16],
+        seed,
+    }
+}
+
 /// Each case, in the order in which they are printed.
-pub const CASES: [Case; 12] = [
+pub const CASES: [Case; 13] = [
     Case {
         operation: Operation::PublicHash,
         ots: OtsType::W1,
@@ -67,6 +78,10 @@ pub const CASES: [Case; 12] = [
     Case {
         operation: Operation::Candidate,
         ots: OtsType::W8,
+    },
+    Case {
+        operation: Operation::SubtreeRoot,
+        ots: OtsType::W4,
     },
 ];
 
@@ -76,9 +91,10 @@ pub enum Operation {
     PublicHash,
     SignInto,
     Candidate,
+    SubtreeRoot,
 }
 
-/// An operation of one-time keys under a parameter set.
+/// An operation under a set of one-time keys. The root is that of a tree of height 10.
 #[derive(Clone, Copy, Debug, PartialEq, Eq)]
 pub struct Case {
     pub operation: Operation,
@@ -88,18 +104,21 @@ pub struct Case {
 impl fmt::Display for Case {
     fn fmt<W: fmt::Write>(&self, f: &mut fmt::Formatter<W>) -> fmt::Result {
         let operation = match self.operation {
-            Operation::PublicHash => "public_hash",
-            Operation::SignInto => "sign_into",
-            Operation::Candidate => "candidate",
+            Operation::PublicHash => "public_hash w=",
+            Operation::SignInto => "sign_into w=",
+            Operation::Candidate => "candidate w=",
+            Operation::SubtreeRoot => "subtree_root 10/",
         };
         let w = self.ots.w();
-        write!(f, "{operation} w={w}")
+        write!(f, "{operation}{w}")
     }
 }
 
 impl Case {
     /// The compressions of SHA-256 that the standard's definition of this case needs.
-    pub fn compressions(self) -> u64 {
+    pub fn compressions(self) -> u64
+        ensures { result < 2 ^ 53 }
+    {
         let chains = self.ots.p() as u64;
         let steps = chains * ((1 << self.ots.w()) - 1);
         let ends = compressions_of(22 + 32 * chains);
@@ -108,8 +127,18 @@ impl Case {
             Operation::PublicHash => chains + steps + ends,
             Operation::SignInto => compressions_of(54 + 3) + chains + signed,
             Operation::Candidate => compressions_of(54 + 3) + steps.saturating_sub(signed) + ends,
+            Operation::SubtreeRoot => tree_compressions(self.ots),
         }
     }
+}
+
+/// The compressions of all nodes of a tree of height 10: a public hash and one compression a leaf, two an inner node.
+pub fn tree_compressions(ots: OtsType) -> u64
+    ensures { result < 2 ^ 53 }
+{
+    let chains = ots.p() as u64;
+    let public_hash = (chains << ots.w()) + compressions_of(22 + 32 * chains);
+    1024 * (public_hash + compressions_of(54)) + 1023 * compressions_of(86)
 }
 
 /// The compressions of a text of so many bytes, with its padding.

@@ -1,19 +1,23 @@
-//! Times one-time keys against bare SHA-256 digests.
+//! Times one-time keys and trees against bare SHA-256 digests.
 //!
 //! Without words it runs each case once and prints the cases' names. With the word `measure` it prints for each case
 //! its time, the compressions of SHA-256 that the standard's definition needs, and the ratio of its time to that of as
-//! many bare digests of 55 bytes, each the least of several rounds.
+//! many bare digests of 55 bytes, each the least of several rounds. For a tree that all processors build it prints the
+//! compressions a second, and how many times those of one thread with bare digests they are.
 #![tactic(auto)]
 
 mod bench;
+mod build;
 mod case;
 mod measure;
 
 use crate::bench::Bench;
+use crate::build::BUILDS;
 use crate::case::{CASES, SEED};
 use crate::measure::measure;
 use anyhow::{Result, bail};
 use std::env;
+use std::thread::Threads;
 
 fn main(rt: HostRuntime) -> Result<()> {
     let words: Vec<String> = env::args(&rt)?.collect(rt.alloc())?;
@@ -25,10 +29,14 @@ fn main(rt: HostRuntime) -> Result<()> {
 }
 
 /// Runs each case once and prints its name.
-fn run_once(rt: &impl Print) -> Result<()> {
+fn run_once(rt: &(impl Print + AllocGlobal + Threads + Sync)) -> Result<()> {
     for case in CASES {
         let _value = Bench::new(case).run(SEED);
         println!(rt; "{case}")?;
+    }
+    for build in BUILDS {
+        let _public = build.run(rt, rt.alloc())?;
+        println!(rt; "{build}")?;
     }
     Ok(())
 }

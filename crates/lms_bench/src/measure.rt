@@ -1,32 +1,100 @@
 //! The timing.
 use crate::bench::Bench;
+use crate::build::{BUILDS, Build};
 use crate::case::{CASES, Case, SEED};
 use anyhow::Result;
+use rayon::prelude::*;
 use sha2::{Digest, Sha256};
-use std::time::{CpuClock, Duration};
+use std::thread::Threads;
+use std::time::{Clock, CpuClock, Duration, Instant};
 
 /// How often each time is taken. The least counts.
 const ROUNDS: u32 = 20;
 
-/// About how many compressions a round makes.
-const COMPRESSIONS_A_ROUND: u64 = 1 << 16;
+/// How many bare digests stand beside each case. A round of a case makes about as many compressions.
+const DIGESTS: u64 = 1 << 16;
 
-/// Times each case and prints its time, its compressions, and the ratio of its time to that of bare digests.
-pub fn measure(rt: &(impl Print + CpuClock)) -> Result<()> {
+/// How often a tree is built. The fastest counts.
+const BUILD_ROUNDS: u32 = 20;
+
+/// Times each case and each build.
+pub fn measure(rt: &(impl Print + AllocGlobal + Clock + CpuClock + Threads + Sync)) -> Result<()> {
+    measure_cases(rt)?;
+    for build in BUILDS {
+        measure_build(rt, build)?;
+    }
+    Ok(())
+}
+
+/// Prints for each case its time, its compressions, and the ratio of its time to that of bare digests.
+fn measure_cases(rt: &(impl Print + CpuClock)) -> Result<()> {
     for case in CASES {
         let compressions = case.compressions();
-        let runs = COMPRESSIONS_A_ROUND / compressions.max(1) + 1;
+        let runs = DIGESTS / compressions.max(1) + 1;
         let mut own = Duration::MAX;
         let mut bare = Duration::MAX;
         for _ in 0..ROUNDS {
             own = own.min(time_case(rt, case, runs)?);
-            bare = bare.min(time_digests(rt, runs.saturating_mul(compressions))?);
+            bare = bare.min(time_digests(rt)?);
         }
         let micros = own.as_secs_f64() * 1e6 / runs as f64;
-        let ratio = own.as_secs_f64() / bare.as_secs_f64();
+        let bare_micros = bare.as_secs_f64() * 1e6 * compressions as f64 / DIGESTS as f64;
+        let ratio = micros / bare_micros;
         println!(rt; "{case}: {micros:.1} us, {compressions} compressions, ratio {ratio:.3}")?;
     }
     Ok(())
+}
+
+/// Prints for a build its compressions a second, how many times those of one thread with bare digests they are, and
+/// their share of those of a thread with bare digests on each processor at once.
+fn measure_build(
+    rt: &(impl Print + AllocGlobal + Clock + CpuClock + Threads + Sync),
+    build: Build,
+) -> Result<()> {
+    let mut own = Duration::MAX;
+    let mut bare = Duration::MAX;
+    let mut at_once = Duration::MAX;
+    for _ in 0..BUILD_ROUNDS {
+        own = own.min(time_build(rt, build)?);
+        bare = bare.min(time_digests(rt)?);
+        at_once = at_once.min(time_digests_at_once(rt, build.compressions())?);
+    }
+    let rate = build.compressions() as f64 / own.as_secs_f64();
+    let threads = rate * bare.as_secs_f64() / DIGESTS as f64;
+    let share = at_once.as_secs_f64() / own.as_secs_f64();
+    println!(rt;
+        "{build}: {rate:.0} compressions a second, {threads:.2} times one thread, share {share:.2}"
+    )?;
+    Ok(())
+}
+
+/// The time of a build.
+fn time_build(rt: &(impl AllocGlobal + Clock + Threads + Sync), build: Build) -> Result<Duration> {
+    let start = Instant::now(rt)?;
+    let _public = build.run(rt, rt.alloc())?;
+    Ok(start.elapsed(rt)?)
+}
+
+/// The time of so many bare digests, in a thread for each processor.
+fn time_digests_at_once(
+    rt: &(impl AllocGlobal + Clock + Threads + Sync),
+    digests: u64,
+) -> Result<Duration> {
+    let threads = rayon::current_num_threads(rt);
+    let each = digests / (threads as u64).max(1);
+    let mut texts = vec![in rt.alloc(); [0; 55]; threads]?;
+    let start = Instant::now(rt)?;
+    par_for_each_mut(rt, &mut texts, |_place: usize, text: &mut [u8; 55]| {
+        let mut own = *text;
+        make_digests(&mut own, each);
+        *text = own;
+    });
+    let time = start.elapsed(rt)?;
+    anyhow::ensure!(
+        texts.iter().all(|text| text[54] != 0 || text[53] != 0),
+        "digests ended in zeros"
+    );
+    Ok(time)
 }
 
 /// The processor time of so many runs of a case.
@@ -42,18 +110,30 @@ fn time_case(clock: &impl CpuClock, case: Case, runs: u64) -> Result<Duration> {
     Ok(time)
 }
 
-/// The processor time of so many digests of 55 bytes, each a single compression.
-fn time_digests(clock: &impl CpuClock, digests: u64) -> Result<Duration> {
+/// The processor time of `DIGESTS` digests of 55 bytes, each a single compression.
+fn time_digests(clock: &impl CpuClock) -> Result<Duration> {
     let mut text = [0; 55];
     let start = clock.thread_cpu_time()?;
-    for _ in 0..digests {
-        let digest = Sha256::digest(text);
-        text[23..].copy_from_slice(&digest);
-    }
+    make_digests(&mut text, DIGESTS);
     let time = clock.thread_cpu_time()?.saturating_sub(start);
     anyhow::ensure!(
         text[54] != 0 || text[53] != 0 || text[52] != 0,
         "the digests ended in zeros"
     );
     Ok(time)
+}
+
+/// Makes so many digests, a multiple of 256 of them, each of a text that has the one before in it.
+fn make_digests(text: &mut [u8; 55], digests: u64) {
+    for _ in 0..digests / 256 {
+        make_256_digests(text);
+    }
+}
+
+/// Makes 256 digests. Within two loops they are compiled to their fastest form.
+fn make_256_digests(text: &mut [u8; 55]) {
+    for _ in 0..256 {
+        let digest = Sha256::digest(*text);
+        text[23..].copy_from_slice(&digest);
+    }
 }

@@ -3,7 +3,6 @@ pub mod Commands
 pub mod Faults
 pub mod Files
 pub mod OneLevel
-pub mod Parts
 pub mod Runs
 pub mod UsageWords
 pub mod Verdicts

@@ -2,7 +2,6 @@
 ghost use Rattle.std.specs.Prelude.{◌↔◌, IsTrue};
 ghost use Rattle.lms_tool.specs.OneLevel.{AcceptsOneLevel};
 
-use crate::tree;
 use lms_params::split_u32;
 
 /// Whether a signature is accepted for a message under a public key of one level (RFC 8554, 6.3). Any lengths.
@@ -18,7 +17,7 @@ pub fn verify(public: &[u8], msg: &[u8], sig: &[u8]) -> bool
     if levels != 1 || signed_keys != 0 {
         return false;
     }
-    tree::verify(top_key, msg, signature)
+    lms_tree::verify(top_key, msg, signature)
 }
 
 #[cfg(test)]

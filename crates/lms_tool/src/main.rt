@@ -6,7 +6,6 @@ mod fault;
 mod hss;
 mod run;
 mod status;
-mod tree;
 mod verdict;
 mod world;
 

@@ -1,0 +1,4 @@
+pub mod Acceptance
+pub mod Denials
+pub mod LmsParts
+pub mod Served

@@ -1,0 +1,20 @@
+//! LMS, the Merkle tree of one-time keys (RFC 8554, section 5).
+//!
+//! A leaf signs one message. Two messages under one leaf give a forger what he needs: who calls `sign_into` keeps the
+//! leaves apart.
+#![tactic(auto)]
+
+mod node_source;
+mod nodes;
+mod signing;
+#[cfg(test)]
+mod tests;
+mod tree_key;
+mod verification;
+mod whole_tree;
+
+pub use crate::node_source::NodeSource;
+pub use crate::signing::{public_bytes, sign_into};
+pub use crate::tree_key::TreeKey;
+pub use crate::verification::verify;
+pub use crate::whole_tree::WholeTree;

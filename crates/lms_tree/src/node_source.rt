@@ -1,0 +1,36 @@
+//! Where the nodes come from that public keys and signatures need.
+ghost use Rattle.std.specs.Prelude.{ℕ, ◌≡◌, ◌^◌, ◌<◌};
+ghost use Rattle.lms_spec.specs.Tree.{node as node_of};
+ghost use Rattle.lms_tree.specs.declared.tree_key.TreeKey.{TreeKey as KeyOfTree};
+ghost use Rattle.lms_tree.specs.TreeKey.{tree_of};
+ghost use Rattle.lms_tree.specs.Served.{IsNeeded};
+
+use crate::tree_key::TreeKey;
+
+/// The nodes of a tree that its public key needs, and the signatures by a range of its leaves.
+pub trait NodeSource {
+    // The key of the tree, and the first and the last leaf that are served.
+    ghost tree_key: { Self → KeyOfTree };
+
+    ghost first_leaf: { Self → ℕ };
+
+    ghost last_leaf: { Self → ℕ };
+
+    /// The key of the tree.
+    fn key(&self) -> TreeKey
+        ensures key { result ≡ tree_key self.now }
+        ensures in_tree { last_leaf self.now < 2 ^ (tree_of (tree_key self.now)).lms.h };
+
+    /// The first leaf that is served.
+    fn first(&self) -> u32
+        ensures { result ≡ first_leaf self.now };
+
+    /// The last leaf that is served.
+    fn last(&self) -> u32
+        ensures { result ≡ last_leaf self.now };
+
+    /// The value of node r (RFC 8554, 5.3), which is the root or stands in the path of a served leaf.
+    fn node(&self, r: u32) -> [u8; 32]
+        requires { IsNeeded (tree_of (tree_key self.now)).lms.h (first_leaf self.now) (last_leaf self.now) r }
+        ensures { result ≡ node_of (tree_of (tree_key self.now)) r };
+}

@@ -1,0 +1,89 @@
+//! Public keys and signatures from a source of nodes (RFC 8554, 5.3 and 5.4.1).
+ghost use Rattle.std.specs.Prelude.{◌≡◌, ◌+◌, ◌*◌, ◌^◌, ◌≤◌, ◌<◌, ◌++◌, length};
+ghost use Rattle.std.specs.List.{concat};
+ghost use Rattle.lms_spec.specs.Parameters.{lms_signature_length, ots_signature_length};
+ghost use Rattle.lms_spec.specs.Bytes.{u32str};
+ghost use Rattle.lms_spec.specs.Ots.{ots_signature};
+ghost use Rattle.lms_spec.specs.Tree.{path_of, sibling as sibling_of, lms_public_key, public_key_of, lms_signature, LmsAccepts};
+ghost use Rattle.lms_params.specs.LmsType.{lms_set_of};
+ghost use Rattle.lms_params.specs.OtsType.{ots_set_of};
+ghost use Rattle.lms_tree.specs.TreeKey.{tree_of};
+
+use crate::node_source::NodeSource;
+use crate::nodes::leaf_count;
+use crate::tree_key::TreeKey;
+use byteorder::{BigEndian, ByteOrder};
+use lms_ots::OtsId;
+use lms_params::{LmsType, OtsType};
+
+/// The public key of a tree, 56 bytes (RFC 8554, 5.3).
+pub fn public_bytes<N: NodeSource>(source: &N) -> [u8; 56]
+    ensures { result ≡ public_key_of (tree_of (N.tree_key source.now)) }
+{
+    let key = source.key();
+    public_key_bytes(key.lms, key.ots, &key.i, &source.node(1))
+}
+
+/// Signs a message with leaf q under the randomizer `c` (RFC 8554, 5.4.1): the whole of `out`, `lms_sig_len` bytes, becomes
+/// the signature. Leaf q is one that is served.
+pub fn sign_into<N: NodeSource>(source: &N, q: u32, c: &[u8; 32], msg: &[u8], out: &mut [u8])
+    requires first { N.first_leaf source.now ≤ q }
+    requires last { q ≤ N.last_leaf source.now }
+    requires room { length out.old
+        ≡ lms_signature_length (tree_of (N.tree_key source.now)).lms (tree_of (N.tree_key source.now)).ots }
+    ensures signature { out.new ≡ lms_signature (tree_of (N.tree_key source.now)) q c.now msg.now }
+    ensures accepted { LmsAccepts (public_key_of (tree_of (N.tree_key source.now))) msg.now out.new }
+{
+    let key = source.key();
+    let path_start = 8 + key.ots.sig_len();
+    write_head(&key, q, c, msg, &mut out[..path_start]);
+    write_path(source, q, &mut out[path_start..]);
+}
+
+/// Writes what stands before a signature's path: the leaf's number, the one-time signature and the typecode (5.4).
+fn write_head(key: &TreeKey, q: u32, c: &[u8; 32], msg: &[u8], out: &mut [u8])
+    requires { length out.old ≡ 8 + ots_signature_length (ots_set_of key.now.ots) }
+    ensures { out.new
+        ≡ u32str q ++ ots_signature (ots_set_of key.now.ots) key.now.i key.now.seed q c.now msg.now ++ u32str (lms_set_of key.now.lms).code }
+{
+    let ots_end = 4 + key.ots.sig_len();
+    let id = OtsId { i: key.i, q };
+    BigEndian::write_u32(out, q);
+    lms_ots::sign_into(key.ots, &key.seed, id, c, msg, &mut out[4..ots_end]);
+    BigEndian::write_u32(&mut out[ots_end..], key.lms.code());
+}
+
+/// Writes the path of leaf q, the siblings on its way up to the root (5.4).
+fn write_path<N: NodeSource>(source: &N, q: u32, out: &mut [u8])
+    requires first { N.first_leaf source.now ≤ q }
+    requires last { q ≤ N.last_leaf source.now }
+    requires room { length out.old ≡ 32 * (tree_of (N.tree_key source.now)).lms.h }
+    ensures { out.new ≡ concat (path_of (tree_of (N.tree_key source.now)) q) }
+{
+    let key = source.key();
+    let leaf = leaf_count(key.lms) + q;
+    for level in 0..key.lms.height() as usize {
+        let value = source.node(sibling(leaf >> level));
+        out[32 * level..32 * level + 32].copy_from_slice(&value);
+    }
+}
+
+/// The other child of a node's parent.
+fn sibling(r: u32) -> u32
+    requires { r < 2 ^ 26 }
+    ensures { result ≡ sibling_of r }
+{
+    if r % 2 == 0 { r + 1 } else { r - 1 }
+}
+
+/// The public key over this root (5.3).
+fn public_key_bytes(lms: LmsType, ots: OtsType, id: &[u8; 16], root: &[u8; 32]) -> [u8; 56]
+    ensures { result ≡ lms_public_key (lms_set_of lms) (ots_set_of ots) id.now root.now }
+{
+    let mut text = [0; 56];
+    BigEndian::write_u32(&mut text, lms.code());
+    BigEndian::write_u32(&mut text[4..], ots.code());
+    text[8..24].copy_from_slice(id);
+    text[24..].copy_from_slice(root);
+    text
+}
