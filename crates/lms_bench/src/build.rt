@@ -1,7 +1,7 @@
 //! Trees that all processors build.
 ghost use Rattle.std.specs.Prelude.{◌^◌, ◌<◌};
 
-use crate::case::{SEED, key_of, tree_compressions};
+use crate::case::{SEED, TREE, key_of, tree_compressions};
 use anyhow::Result;
 use lms_params::OtsType;
 use lms_tree::{WholeTree, public_bytes};
@@ -12,7 +12,7 @@ use std::thread::Threads;
 /// Each build, in the order in which they are printed.
 pub const BUILDS: [Build; 2] = [Build { ots: OtsType::W8 }, Build { ots: OtsType::W4 }];
 
-/// A tree of height 10 under a set of one-time keys.
+/// A tree in `TREE` over a set of one-time keys.
 #[derive(Clone, Copy, Debug, PartialEq, Eq)]
 pub struct Build {
     ots: OtsType,
@@ -20,8 +20,7 @@ pub struct Build {
 
 impl fmt::Display for Build {
     fn fmt<W: fmt::Write>(&self, f: &mut fmt::Formatter<W>) -> fmt::Result {
-        let w = self.ots.w();
-        write!(f, "WholeTree::build 10/{w}")
+        write!(f, "WholeTree::build {}/{}", TREE.height(), self.ots.w())
     }
 }
 

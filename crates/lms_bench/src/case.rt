@@ -1,10 +1,10 @@
 //! What is timed, and how many compressions it needs.
 ghost use Rattle.std.specs.Prelude.{◌+◌, ◌*◌, ◌^◌, ◌<◌, ◌≤◌};
 
-use lms_ots::OtsId;
+use lms_ots::{OtsId, hasher_at};
 use lms_params::{LmsType, OtsType, digits};
 use lms_tree::TreeKey;
-use sha2::{Digest, Sha256};
+use sha2::Digest;
 use std::fmt;
 
 /// The seed that each case begins with.
@@ -19,12 +19,16 @@ pub const RANDOMIZER: [u8; 32] = [0x33; 32];
 
 pub const MESSAGE: [u8; 3] = *b"abc";
 
-/// The key of a tree of height 10.
+/// The set of each tree.
+pub const TREE: LmsType = LmsType::H10;
+
+/// The key of a tree.
 pub fn key_of(ots: OtsType, seed: [u8; 32]) -> TreeKey {
+    let OtsId { i, q: _ } = ID;
     TreeKey {
-        lms: LmsType::H10,
+        lms: TREE,
         ots,
-        i: [0x22; 16],
+        i,
         seed,
     }
 }
@@ -94,7 +98,7 @@ pub enum Operation {
     SubtreeRoot,
 }
 
-/// An operation under a set of one-time keys. The root is that of a tree of height 10.
+/// An operation under a set of one-time keys, for the root of a tree in `TREE`.
 #[derive(Clone, Copy, Debug, PartialEq, Eq)]
 pub struct Case {
     pub operation: Operation,
@@ -104,21 +108,21 @@ pub struct Case {
 impl fmt::Display for Case {
     fn fmt<W: fmt::Write>(&self, f: &mut fmt::Formatter<W>) -> fmt::Result {
         let operation = match self.operation {
-            Operation::PublicHash => "public_hash w=",
-            Operation::SignInto => "sign_into w=",
-            Operation::Candidate => "candidate w=",
-            Operation::SubtreeRoot => "subtree_root 10/",
+            Operation::PublicHash => "public_hash",
+            Operation::SignInto => "sign_into",
+            Operation::Candidate => "candidate",
+            Operation::SubtreeRoot => {
+                return write!(f, "subtree_root {}/{}", TREE.height(), self.ots.w());
+            }
         };
         let w = self.ots.w();
-        write!(f, "{operation}{w}")
+        write!(f, "{operation} w={w}")
     }
 }
 
 impl Case {
     /// The compressions of SHA-256 that the standard's definition of this case needs.
-    pub fn compressions(self) -> u64
-        ensures { result < 2 ^ 53 }
-    {
+    pub fn compressions(self) -> u64 {
         let chains = self.ots.p() as u64;
         let steps = chains * ((1 << self.ots.w()) - 1);
         let ends = compressions_of(22 + 32 * chains);
@@ -132,13 +136,15 @@ impl Case {
     }
 }
 
-/// The compressions of all nodes of a tree of height 10: a public hash and one compression a leaf, two an inner node.
+/// The compressions of all nodes of a tree: a public hash and one compression a leaf, two an inner node. A float has each
+/// number below 2^53.
 pub fn tree_compressions(ots: OtsType) -> u64
     ensures { result < 2 ^ 53 }
 {
     let chains = ots.p() as u64;
     let public_hash = (chains << ots.w()) + compressions_of(22 + 32 * chains);
-    1024 * (public_hash + compressions_of(54)) + 1023 * compressions_of(86)
+    let leaves = 1 << TREE.height();
+    leaves * (public_hash + compressions_of(54)) + (leaves - 1) * compressions_of(86)
 }
 
 /// The compressions of a text of so many bytes, with its padding.
@@ -153,9 +159,7 @@ fn compressions_of(bytes: u64) -> u64
 fn signed_steps(ots: OtsType) -> u64
     ensures { result ≤ 265 * 255 }
 {
-    let mut hasher = Sha256::new();
-    hasher.update(ID.i);
-    hasher.update(ID.q.to_be_bytes());
+    let mut hasher = hasher_at(&ID.i, ID.q);
     hasher.update([0x81, 0x81]);
     hasher.update(RANDOMIZER);
     hasher.update(MESSAGE);

@@ -3,13 +3,16 @@
 //! Without words it runs each case once and prints the cases' names. With the word `measure` it prints for each case
 //! its time, the compressions of SHA-256 that the standard's definition needs, and the ratio of its time to that of as
 //! many bare digests of 55 bytes, each the least of several rounds. For a tree that all processors build it prints the
-//! compressions a second, and how many times those of one thread with bare digests they are.
+//! compressions a second, how many times those of one thread with bare digests they are, their share of those of a thread
+//! with bare digests on each processor at once, and how long it takes to start and join threads that do nothing.
 #![tactic(auto)]
 
 mod bench;
 mod build;
 mod case;
 mod measure;
+#[cfg(test)]
+mod tests;
 
 use crate::bench::Bench;
 use crate::build::BUILDS;

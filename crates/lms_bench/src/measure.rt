@@ -11,11 +11,8 @@ use std::time::{Clock, CpuClock, Duration, Instant};
 /// How often each time is taken. The least counts.
 const ROUNDS: u32 = 20;
 
-/// How many bare digests stand beside each case. A round of a case makes about as many compressions.
-const DIGESTS: u64 = 1 << 16;
-
-/// How often a tree is built. The fastest counts.
-const BUILD_ROUNDS: u32 = 20;
+/// How many compressions a round makes, at least, and how many bare digests stand beside a build.
+const COMPRESSIONS_A_ROUND: u64 = 1 << 16;
 
 /// Times each case and each build.
 pub fn measure(rt: &(impl Print + AllocGlobal + Clock + CpuClock + Threads + Sync)) -> Result<()> {
@@ -30,23 +27,22 @@ pub fn measure(rt: &(impl Print + AllocGlobal + Clock + CpuClock + Threads + Syn
 fn measure_cases(rt: &(impl Print + CpuClock)) -> Result<()> {
     for case in CASES {
         let compressions = case.compressions();
-        let runs = DIGESTS / compressions.max(1) + 1;
+        let runs = COMPRESSIONS_A_ROUND / compressions.max(1) + 1;
         let mut own = Duration::MAX;
         let mut bare = Duration::MAX;
         for _ in 0..ROUNDS {
             own = own.min(time_case(rt, case, runs)?);
-            bare = bare.min(time_digests(rt)?);
+            bare = bare.min(time_digests(rt, runs.saturating_mul(compressions))?);
         }
         let micros = own.as_secs_f64() * 1e6 / runs as f64;
-        let bare_micros = bare.as_secs_f64() * 1e6 * compressions as f64 / DIGESTS as f64;
-        let ratio = micros / bare_micros;
+        let ratio = own.as_secs_f64() / bare.as_secs_f64();
         println!(rt; "{case}: {micros:.1} us, {compressions} compressions, ratio {ratio:.3}")?;
     }
     Ok(())
 }
 
-/// Prints for a build its compressions a second, how many times those of one thread with bare digests they are, and
-/// their share of those of a thread with bare digests on each processor at once.
+/// Prints for a build its compressions a second, how many times those of one thread with bare digests they are, their
+/// share of those of a thread with bare digests on each processor at once, and how long such threads take that do nothing.
 fn measure_build(
     rt: &(impl Print + AllocGlobal + Clock + CpuClock + Threads + Sync),
     build: Build,
@@ -54,16 +50,19 @@ fn measure_build(
     let mut own = Duration::MAX;
     let mut bare = Duration::MAX;
     let mut at_once = Duration::MAX;
-    for _ in 0..BUILD_ROUNDS {
+    let mut nothing = Duration::MAX;
+    for _ in 0..ROUNDS {
         own = own.min(time_build(rt, build)?);
-        bare = bare.min(time_digests(rt)?);
+        bare = bare.min(time_digests(rt, COMPRESSIONS_A_ROUND)?);
         at_once = at_once.min(time_digests_at_once(rt, build.compressions())?);
+        nothing = nothing.min(time_digests_at_once(rt, 0)?);
     }
     let rate = build.compressions() as f64 / own.as_secs_f64();
-    let threads = rate * bare.as_secs_f64() / DIGESTS as f64;
+    let threads = rate * bare.as_secs_f64() / COMPRESSIONS_A_ROUND as f64;
     let share = at_once.as_secs_f64() / own.as_secs_f64();
+    let micros = nothing.as_secs_f64() * 1e6;
     println!(rt;
-        "{build}: {rate:.0} compressions a second, {threads:.2} times one thread, share {share:.2}"
+        "{build}: {rate:.0} compressions a second, {threads:.2} times one thread, share {share:.2}, threads {micros:.0} us"
     )?;
     Ok(())
 }
@@ -75,7 +74,7 @@ fn time_build(rt: &(impl AllocGlobal + Clock + Threads + Sync), build: Build) ->
     Ok(start.elapsed(rt)?)
 }
 
-/// The time of so many bare digests, in a thread for each processor.
+/// The time of so many bare digests, in a thread for each processor, up to 32.
 fn time_digests_at_once(
     rt: &(impl AllocGlobal + Clock + Threads + Sync),
     digests: u64,
@@ -85,15 +84,15 @@ fn time_digests_at_once(
     let mut texts = vec![in rt.alloc(); [0; 55]; threads]?;
     let start = Instant::now(rt)?;
     par_for_each_mut(rt, &mut texts, |_place: usize, text: &mut [u8; 55]| {
+        // The threads' own texts stand apart in memory, so no two of them share a cache line.
         let mut own = *text;
         make_digests(&mut own, each);
         *text = own;
     });
     let time = start.elapsed(rt)?;
-    anyhow::ensure!(
-        texts.iter().all(|text| text[54] != 0 || text[53] != 0),
-        "digests ended in zeros"
-    );
+    for text in &texts {
+        ensure_made(text, each)?;
+    }
     Ok(time)
 }
 
@@ -110,29 +109,36 @@ fn time_case(clock: &impl CpuClock, case: Case, runs: u64) -> Result<Duration> {
     Ok(time)
 }
 
-/// The processor time of `DIGESTS` digests of 55 bytes, each a single compression.
-fn time_digests(clock: &impl CpuClock) -> Result<Duration> {
+/// The processor time of so many digests of 55 bytes, each a single compression.
+fn time_digests(clock: &impl CpuClock, digests: u64) -> Result<Duration> {
     let mut text = [0; 55];
     let start = clock.thread_cpu_time()?;
-    make_digests(&mut text, DIGESTS);
+    make_digests(&mut text, digests);
     let time = clock.thread_cpu_time()?.saturating_sub(start);
-    anyhow::ensure!(
-        text[54] != 0 || text[53] != 0 || text[52] != 0,
-        "the digests ended in zeros"
-    );
+    ensure_made(&text, digests)?;
     Ok(time)
 }
 
-/// Makes so many digests, a multiple of 256 of them, each of a text that has the one before in it.
+/// Looks at the last digest, so that none of them can be left out.
+fn ensure_made(text: &[u8; 55], digests: u64) -> Result<()> {
+    anyhow::ensure!(
+        digests == 0 || text[54] != 0 || text[53] != 0 || text[52] != 0,
+        "the digests ended in zeros"
+    );
+    Ok(())
+}
+
+/// Makes so many digests, each of a text that has the one before in it.
 fn make_digests(text: &mut [u8; 55], digests: u64) {
-    for _ in 0..digests / 256 {
-        make_256_digests(text);
+    for some in 0..digests.div_ceil(256) {
+        let made = some.saturating_mul(256);
+        make_some_digests(text, digests.saturating_sub(made).min(256));
     }
 }
 
-/// Makes 256 digests. Within two loops they are compiled to their fastest form.
-fn make_256_digests(text: &mut [u8; 55]) {
-    for _ in 0..256 {
+/// Makes a few digests. Within two loops they are compiled to their fastest form.
+fn make_some_digests(text: &mut [u8; 55], digests: u64) {
+    for _ in 0..digests {
         let digest = Sha256::digest(*text);
         text[23..].copy_from_slice(&digest);
     }

@@ -1,3 +1,2 @@
 pub mod Candidates
 pub mod OtsParts
-pub mod Writing

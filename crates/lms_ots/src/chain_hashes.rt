@@ -9,7 +9,7 @@ use crate::one_time_key::OtsId;
 use byteorder::{BigEndian, ByteOrder};
 use sha2::{Digest, Sha256};
 
-/// The hashes of one chain, whose texts all begin with I, q and i.
+/// The hashes of one chain, whose texts all begin with I, q and i. Contracts alone read `id` and `i`.
 #[derive(Drop)]
 pub(crate) struct ChainHashes {
     id: OtsId,
@@ -28,11 +28,13 @@ impl ChainHashes {
     }
 
     /// The chain's value at a digit (4.5). The first hash makes the secret from the seed (Appendix A), each further one is
-    /// a step. One call makes them all: outside a loop of its own the hash is compiled to a slower form.
+    /// a step. One loop makes them all, and callers loop over chains: within two loops a hash is compiled to its fastest
+    /// form.
     pub(crate) fn value_at(&self, digit: u16, seed: &[u8; 32]) -> [u8; 32]
         requires { digit ≤ 255 }
         ensures { result
-            ≡ chain_of self.now.id.i self.now.id.q self.now.i 0 digit (chain_secret self.now.id.i seed.now self.now.id.q self.now.i) }
+            ≡ chain_of self.now.id.i self.now.id.q self.now.i 0 digit
+            (chain_secret self.now.id.i seed.now self.now.id.q self.now.i) }
     {
         let mut value = *seed;
         let mut byte = 0xff;

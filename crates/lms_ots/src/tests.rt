@@ -42,15 +42,21 @@ fn hashes_the_standards_texts(rt: HostRuntime) -> Result<(), Fail> {
     Ok(())
 }
 
+/// The expected value after one step is a digest of Python's hashlib.
 #[test]
-fn goes_along_chains(rt: HostRuntime) {
+fn goes_along_chains(rt: HostRuntime) -> Result<(), Fail> {
     let id = OtsId { i: ID, q: 5 };
+    let step: [u8; 32] = FromHex::from_hex(
+        "39618d353c634a01210f0276467682e92f2942ac0cb7d6ad9ea9e8dcd266461a",
+    )?;
+    assert_eq!(rt; chain(id, 3, 7, 8, &SEED), step);
     assert_eq!(rt; chain(id, 3, 7, 7, &SEED), SEED);
     let middle = chain(id, 3, 0, 100, &SEED);
     assert_eq!(rt;
         chain(id, 3, 100, 255, &middle),
         chain(id, 3, 0, 255, &SEED)
     );
+    Ok(())
 }
 
 #[test]

@@ -16,3 +16,4 @@ pub mod Pieces
 pub mod Places
 pub mod Sets
 pub mod TreeSignatures
+pub mod Writing

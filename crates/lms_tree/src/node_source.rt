@@ -16,7 +16,7 @@ pub trait NodeSource {
 
     ghost last_leaf: { Self → ℕ };
 
-    /// The key of the tree.
+    /// The key of the tree. The leaves that are served are leaves of it.
     fn key(&self) -> TreeKey
         ensures key { result ≡ tree_key self.now }
         ensures in_tree { last_leaf self.now < 2 ^ (tree_of (tree_key self.now)).lms.h };

@@ -44,7 +44,8 @@ pub fn sign_into<N: NodeSource>(source: &N, q: u32, c: &[u8; 32], msg: &[u8], ou
 fn write_head(key: &TreeKey, q: u32, c: &[u8; 32], msg: &[u8], out: &mut [u8])
     requires { length out.old ≡ 8 + ots_signature_length (ots_set_of key.now.ots) }
     ensures { out.new
-        ≡ u32str q ++ ots_signature (ots_set_of key.now.ots) key.now.i key.now.seed q c.now msg.now ++ u32str (lms_set_of key.now.lms).code }
+        ≡ u32str q ++ ots_signature (ots_set_of key.now.ots) key.now.i key.now.seed q c.now msg.now
+        ++ u32str (lms_set_of key.now.lms).code }
 {
     let ots_end = 4 + key.ots.sig_len();
     let id = OtsId { i: key.i, q };

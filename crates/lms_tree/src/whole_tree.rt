@@ -34,7 +34,7 @@ impl Model for WholeTree {
 }
 
 impl WholeTree {
-    /// Works out all nodes of a tree: the leaves in a thread for each processor, then the inner nodes from the leaves up.
+    /// Works out all nodes of a tree: the leaves in a thread for each processor, up to 32, then the inner nodes from the leaves up.
     /// `OutOfMemory` where the one request for memory is refused, for 2^(h+1) nodes of 32 bytes.
     pub fn build(
         rt: &(impl Threads + Sync),
@@ -78,7 +78,7 @@ impl NodeSource for WholeTree {
     }
 }
 
-/// Works out the leaves, in a thread for each processor.
+/// Works out the leaves, in a thread for each processor, up to 32.
 fn fill_leaves(rt: &(impl Threads + Sync), key: TreeKey, leaves: &mut [[u8; 32]])
     requires { length leaves.old ≡ 2 ^ (tree_of key).lms.h }
     ensures { HoldsLeaves key leaves.new }

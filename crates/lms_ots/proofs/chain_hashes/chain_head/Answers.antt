@@ -1,7 +1,7 @@
 use Rattle.std.proofs.Common.{ℕ, ◌≡◌, List, [], ◌∷◌, ◌++◌, length, take, drop, refl, sym, ◌∙◌, ap, ap₂, arith, append_assoc, length-append}
 use Rattle.std.proofs.lemmas.List.{drop_at}
 use Rattle.lms_spec.specs.Bytes.{u16str, u32str}
-use Rattle.lms_ots.proofs.Writing.{put_mid-parts}
+use Rattle.lms_spec.proofs.Writing.{put_mid-parts}
 use Rattle.lms_ots.proofs.chain_hashes.chain_head.Goals as goal
 use borrow.Rule.Slice.PartMut.{put_mid}
 

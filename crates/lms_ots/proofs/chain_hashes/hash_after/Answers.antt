@@ -1,7 +1,7 @@
 use Rattle.std.proofs.Common.{ℕ, ◌≡◌, List, [], ◌∷◌, ◌++◌, length, replicate, sym, ◌∙◌, ap, arith, append_assoc, length-append}
 use Rattle.std.proofs.lemmas.List.{append-nil}
 use Rattle.sha2.specs.Sha256.{sha256}
-use Rattle.lms_ots.proofs.Writing.{put_mid-parts}
+use Rattle.lms_spec.proofs.Writing.{put_mid-parts}
 use Rattle.lms_ots.proofs.chain_hashes.hash_after.Goals as goal
 use borrow.Rule.Slice.PartMut.{put_mid}
 

@@ -4,7 +4,7 @@ use Rattle.lms_spec.specs.Bytes.{u32str}
 use Rattle.lms_spec.specs.Tree.{lms_public_key}
 use Rattle.lms_params.specs.LmsType.{lms_set_of}
 use Rattle.lms_params.specs.OtsType.{ots_set_of}
-use Rattle.lms_ots.proofs.Writing.{put_mid-parts}
+use Rattle.lms_spec.proofs.Writing.{put_mid-parts}
 use Rattle.lms_tree.proofs.signing.public_key_bytes.Goals as goal
 use borrow.Rule.Slice.PartMut.{put_mid}
 

@@ -8,7 +8,7 @@ use Rattle.lms_spec.proofs.TreeSignatures.{tree-accepts}
 use Rattle.lms_params.specs.LmsType.{lms_set_of}
 use Rattle.lms_params.specs.OtsType.{ots_set_of}
 use Rattle.lms_params.proofs.KnownSets.{known_lms_set, known_ots_set}
-use Rattle.lms_ots.proofs.Writing.{put_mid-parts}
+use Rattle.lms_spec.proofs.Writing.{put_mid-parts}
 use Rattle.lms_tree.specs.declared.tree_key.TreeKey.{TreeKey}
 use Rattle.lms_tree.specs.TreeKey.{tree_of}
 use Rattle.lms_tree.proofs.signing.sign_into.Goals as goal
