@@ -80,7 +80,7 @@ fn time_digests_at_once(
     digests: u64,
 ) -> Result<Duration> {
     let threads = rayon::current_num_threads(rt);
-    let each = digests / (threads as u64).max(1);
+    let each = digests / threads as u64;
     let mut texts = vec![in rt.alloc(); [0; 55]; threads]?;
     let start = Instant::now(rt)?;
     par_for_each_mut(rt, &mut texts, |_place: usize, text: &mut [u8; 55]| {
