@@ -87,3 +87,14 @@ through-parts count m t id root message signatures km kt li (signature, next, re
       subst₂ (λ x y. LmsAccepts (lms_public_key m t id root) x y) (sym second) (sym first) a,
       subst₂ (λ x y. AcceptsThrough count x message y) (sym second) (sym third) r,
     )
+
+-- an upper signature and the key that it signs fit the text
+pub through-length : (count : ℕ) (m : LmsSet) (t : OtsSet) (id root message signatures : List ℕ)
+    → lms_set m.code ≡ Some m → ots_set t.code ≡ Some t → length id ≡ 16
+    → AcceptsThrough (suc count) (lms_public_key m t id root) message signatures
+    → lms_signature_length m t + 56 ≤ length signatures
+through-length count m t id root message signatures km kt li (signature, next, rest, e, a, r) =
+    let k = key-parts-same a.lms m a.ots t a.id id a.root root a.lms_known km a.ots_known kt a.id_length li (sym a.key_parts) in
+    let ls : length signature ≡ lms_signature_length m t
+    = (length-lms (lms_public_key m t id root) next signature a).1 ∙ ap₂ lms_signature_length k.0 k.1 in
+    omega (arith, ls, next-length count next message rest r, ap length e, length-append (signature ++ next) rest, length-append signature next)

@@ -1,5 +1,4 @@
 pub mod CommandLine
 pub mod FullRows
-pub mod OneLevel
 pub mod Parsing
 pub mod Stops

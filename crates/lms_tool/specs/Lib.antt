@@ -2,7 +2,6 @@ pub mod Application
 pub mod Commands
 pub mod Faults
 pub mod Files
-pub mod OneLevel
 pub mod Runs
 pub mod UsageWords
 pub mod Verdicts

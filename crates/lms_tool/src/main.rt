@@ -3,7 +3,6 @@
 
 mod command;
 mod fault;
-mod hss;
 mod run;
 mod status;
 mod verdict;

@@ -4,7 +4,6 @@ ghost use Rattle.std.specs.Io.KnownBytes.{Appends};
 ghost use Rattle.lms_tool.specs.Faults.{code_of};
 ghost use Rattle.lms_tool.specs.Verdicts.{IsRightFor, line_of, verdict_status};
 
-use crate::hss;
 use crate::status::Status;
 use std::io;
 use std::io::Write;
@@ -33,7 +32,7 @@ impl Verdict {
 pub fn judge(public: &[u8], message: &[u8], signature: &[u8]) -> Verdict
     ensures { IsRightFor result public.now message.now signature.now }
 {
-    if hss::verify(public, message, signature) {
+    if lms_hss::verify(public, message, signature) {
         Verdict::Valid
     } else {
         Verdict::Invalid

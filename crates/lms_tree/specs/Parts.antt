@@ -1,7 +1,7 @@
 -- The parts of an LMS public key and of an LMS signature, as byte strings.
 use Rattle.std.specs.Prelude.{ℕ, ◌≡◌, ◌^◌, ◌<◌, List, ◌++◌, length, All, Some}
 use Rattle.std.specs.List.{concat}
-use Rattle.lms_spec.specs.Parameters.{OtsSet, LmsSet, ots_set, lms_set, ots_signature_length}
+use Rattle.lms_spec.specs.Parameters.{OtsSet, LmsSet, ots_set, lms_set, ots_signature_length, lms_signature_length}
 use Rattle.lms_spec.specs.Bytes.{u32str}
 use Rattle.lms_spec.specs.Tree.{lms_public_key}
 
@@ -12,6 +12,15 @@ pub record IsLmsPublicKey (m : LmsSet) (t : OtsSet) (id root public_key : List �
   pub id_length : length id ≡ 16
   pub root_length : length root ≡ 32
   pub parts : public_key ≡ lms_public_key m t id root
+
+-- a public key under which signatures have n bytes (5.4)
+pub record HasSignaturesOf (n : ℕ) (public_key : List ℕ) : Type 0 where
+  pub lms : LmsSet
+  pub ots : OtsSet
+  pub id : List ℕ
+  pub root : List ℕ
+  pub parts : IsLmsPublicKey lms ots id root public_key
+  pub length_is : n ≡ lms_signature_length lms ots
 
 -- the parts of an LMS signature under a key of these sets (5.4)
 pub record IsLmsSignature (m : LmsSet) (t : OtsSet) (q : ℕ) (ots_part : List ℕ) (path : List (List ℕ)) (signature : List ℕ) : Type 0 where

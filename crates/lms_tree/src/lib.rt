@@ -16,5 +16,5 @@ mod whole_tree;
 pub use crate::node_source::NodeSource;
 pub use crate::signing::{public_bytes, sign_into};
 pub use crate::tree_key::TreeKey;
-pub use crate::verification::verify;
+pub use crate::verification::{signature_len, verify};
 pub use crate::whole_tree::WholeTree;

@@ -1,4 +1,4 @@
-use crate::{NodeSource, TreeKey, WholeTree, public_bytes, sign_into, verify};
+use crate::{NodeSource, TreeKey, WholeTree, public_bytes, sign_into, signature_len, verify};
 use hex::FromHex;
 use lms_params::{LmsType, OtsType, OutOfMemory, lms_sig_len};
 use lms_slow::vectors::ONE_10_8;
@@ -68,6 +68,9 @@ fn signs_with_every_leaf(rt: HostRuntime) -> Result<(), Fail> {
         id: i,
     };
     assert_eq!(rt; (tree.first(), tree.last()), (0, 31));
+    let public = public_bytes(&tree);
+    assert_eq!(rt; signature_len(&public), Some(1292));
+    assert_eq!(rt; signature_len(public.get(..55).unwrap_or(&[])), None);
     for q in 0..32 {
         let text = check_leaf(&rt, &tree, q)?;
         assert_eq!(rt; text.len(), 1292);

@@ -4,7 +4,7 @@ ghost use Rattle.lms_spec.specs.Parameters.{OtsSet, LmsSet};
 ghost use Rattle.lms_spec.specs.Tree.{climb as climb_of, LmsAccepts};
 ghost use Rattle.lms_params.specs.LmsType.{lms_set_of};
 ghost use Rattle.lms_params.specs.OtsType.{ots_set_of};
-ghost use Rattle.lms_tree.specs.Parts.{IsLmsPublicKey, IsLmsSignature};
+ghost use Rattle.lms_tree.specs.Parts.{IsLmsPublicKey, IsLmsSignature, HasSignaturesOf};
 
 use crate::nodes::{inner_hash, leaf_count, leaf_hash};
 use lms_ots::{OtsId, candidate};
@@ -26,6 +26,16 @@ pub fn verify(public: &[u8], msg: &[u8], sig: &[u8]) -> bool
     };
     let leaf = leaf_count(key.lms) + sig.q;
     climb(&key.i, leaf, leaf_hash(&key.i, leaf, &ots_public), sig.path) == key.root
+}
+
+/// The bytes of each signature under a public key (RFC 8554, 5.4). None exactly where it is no public key with known
+/// typecodes.
+pub fn signature_len(public: &[u8]) -> Option<usize>
+    ensures some { IfSome result (λ n. HasSignaturesOf n public.now) }
+    ensures none { IfNone result ((m : LmsSet) (t : OtsSet) (id root : List ℕ) → ¬ IsLmsPublicKey m t id root public.now) }
+{
+    let key = PublicKey::parse(public)?;
+    Some(lms_sig_len(key.lms, key.ots))
 }
 
 /// The parts of a public key (5.3): the sets of its tree, the tree's identifier I and its root T[1].

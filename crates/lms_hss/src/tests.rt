@@ -1,6 +1,6 @@
-use crate::hss::verify;
+use crate::verify;
 use lms_params::{LmsType, OtsType};
-use lms_slow::vectors::{ONE_5_1, ONE_5_2, ONE_5_4, ONE_5_8, ONE_10_8, THREE};
+use lms_slow::vectors::VECTORS;
 use lms_slow::{SlowKey, SlowTree, planted, slow_public, slow_sign};
 use std::alloc::{AllocError, Global};
 use std::process::Abort;
@@ -170,7 +170,7 @@ fn reads_the_typecode_in_its_place(rt: HostRuntime) -> Result<(), Fail> {
 
 #[test]
 fn agrees_with_another_implementation(rt: HostRuntime) -> Result<(), Fail> {
-    for vector in [ONE_5_1, ONE_5_2, ONE_5_4, ONE_5_8, ONE_10_8] {
+    for vector in VECTORS {
         let public = hex::decode(rt.alloc(), vector.public)?;
         let signature = hex::decode(rt.alloc(), vector.signature)?;
         let message = vector.message.as_bytes();
@@ -197,11 +197,51 @@ fn agrees_with_another_implementation(rt: HostRuntime) -> Result<(), Fail> {
     Ok(())
 }
 
-/// A key of three levels is refused until levels come.
+/// A key of three levels of different widths.
+const THREE_LEVELS: SlowKey<'static> = SlowKey {
+    levels: &[
+        (LmsType::H5, OtsType::W8),
+        (LmsType::H5, OtsType::W4),
+        (LmsType::H5, OtsType::W2),
+    ],
+    seed: [0x11; 32],
+    id: [0x22; 16],
+};
+
+/// Places of numbers in a signature under `THREE_LEVELS`: the count; and for each level the leaf, the two typecodes, and
+/// the typecodes of the key that it signs.
+const NUMBERS: [u16; 14] = [
+    0, 4, 8, 1132, 1296, 1300, 1352, 1356, 3536, 3700, 3704, 3756, 3760, 8052,
+];
+
 #[test]
-fn takes_one_level(rt: HostRuntime) -> Result<(), Fail> {
-    let public = hex::decode(rt.alloc(), THREE.public)?;
-    let signature = hex::decode(rt.alloc(), THREE.signature)?;
-    assert!(rt; !verify(&public, THREE.message.as_bytes(), &signature));
+fn verifies_every_level(rt: HostRuntime) -> Result<(), Fail> {
+    let public = slow_public(rt.alloc(), &THREE_LEVELS)?;
+    let signature = slow_sign(rt.alloc(), &THREE_LEVELS, 1025, &RANDOMIZER, b"abc")?;
+    assert_eq!(rt; signature.len(), 8216);
+    assert!(rt; verify(&public, b"abc", &signature));
+    for at in NUMBERS {
+        let other = with_flip(rt.alloc(), &signature, usize::from(at) + 3)?;
+        assert!(rt; !verify(&public, b"abc", &other), "{at}");
+    }
+    for levels in [0, 1, 2, 4, 9] {
+        let other = with_number(rt.alloc(), &public, 0, levels)?;
+        assert!(rt; !verify(&other, b"abc", &signature), "{levels} levels");
+    }
+    Ok(())
+}
+
+#[test]
+fn verifies_eight_levels(rt: HostRuntime) -> Result<(), Fail> {
+    let key = SlowKey {
+        levels: &[(LmsType::H5, OtsType::W4); 8],
+        seed: [0x11; 32],
+        id: [0x22; 16],
+    };
+    let public = slow_public(rt.alloc(), &key)?;
+    let mut signature = slow_sign(rt.alloc(), &key, 34359738367, &RANDOMIZER, b"abc")?;
+    assert!(rt; verify(&public, b"abc", &signature));
+    signature.push(0)?;
+    assert!(rt; !verify(&public, b"abc", &signature));
     Ok(())
 }
