@@ -1,1 +1,4 @@
+pub mod Forests
+pub mod Keys
+pub mod Sets
 pub mod SignedKeys

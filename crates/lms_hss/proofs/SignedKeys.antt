@@ -1,6 +1,6 @@
 -- The first signed key of a text that is accepted.
-use Rattle.std.proofs.Common.{ℕ, suc, ◌≡◌, ◌+◌, ◌≤◌, List, ◌++◌, length, take, drop, sym, ◌∙◌, ap₂, arith, subst, subst₂, append_assoc, take-append-drop}
-use Rattle.std.proofs.lemmas.List.{drop-drop}
+use Rattle.std.proofs.Common.{ℕ, suc, ◌≡◌, ◌+◌, ◌≤◌, List, ◌++◌, length, take, drop, sym, ◌∙◌, ap, arith, subst, subst₂, append_assoc, length-append}
+use Rattle.std.proofs.lemmas.List.{take_at, drop_at}
 use Rattle.lms_spec.specs.Parameters.{lms_signature_length}
 use Rattle.lms_spec.specs.Tree.{LmsAccepts}
 use Rattle.lms_spec.specs.Hss.{AcceptsThrough}
@@ -24,23 +24,24 @@ pub accepted-parts : (count : ℕ) (signer message text signature key rest : Lis
     → IsCut signer text signature key rest → AcceptsThrough (suc count) signer message text
     → LmsAccepts signer key signature × AcceptsThrough count key message rest
 accepted-parts count signer message text signature key rest cut accepted =
-    let is = cut.signer_parts in
-    let there = subst (λ key. AcceptsThrough (suc count) key message text) is.parts accepted in
-    let parts = through-parts count cut.lms cut.ots cut.id cut.root message text is.lms_known is.ots_known is.id_length there in
-    let n = lms_signature_length cut.lms cut.ots in
+    let has = cut.signature_length in
+    let is = has.parts in
+    let n = lms_signature_length has.lms has.ots in
+    let there = subst (λ signer. AcceptsThrough (suc count) signer message text) is.parts accepted in
+    let parts = through-parts count has.lms has.ots has.id has.root message text is.lms_known is.ots_known is.id_length there in
+    let from_left : text ≡ signature ++ (key ++ rest) = cut.parts ∙ append_assoc signature key rest in
+    let signature_is : take n text ≡ signature = ap (take n) from_left ∙ take_at signature (key ++ rest) n has.length_is in
+    let after : drop n text ≡ key ++ rest = ap (drop n) from_left ∙ drop_at signature (key ++ rest) n has.length_is in
+    let key_is : take 56 (drop n text) ≡ key = ap (take 56) after ∙ take_at key rest 56 cut.key_length in
+    let rest_is : drop (n + 56) text ≡ rest
+    = ap (drop (n + 56)) cut.parts ∙ drop_at (signature ++ key) rest (n + 56) (omega (arith, length-append signature key, has.length_is, cut.key_length)) in
     let first = subst (λ signer. LmsAccepts signer (take 56 (drop n text)) (take n text)) (sym is.parts) parts.0 in (
-      subst₂ (λ x y. LmsAccepts signer x y) (sym cut.key_is) (sym cut.signature_is) first,
-      subst₂ (λ x y. AcceptsThrough count x message y) (sym cut.key_is) (sym cut.rest_is) parts.1,
+      subst₂ (LmsAccepts signer) key_is signature_is first,
+      subst₂ (λ key rest. AcceptsThrough count key message rest) key_is rest_is parts.1,
     )
 
 -- a text whose parts are accepted is accepted
 pub accepts-parts : (count : ℕ) (signer message text signature key rest : List ℕ)
     → IsCut signer text signature key rest → LmsAccepts signer key signature → AcceptsThrough count key message rest
     → AcceptsThrough (suc count) signer message text
-accepts-parts count signer message text signature key rest cut first others =
-    let n = lms_signature_length cut.lms cut.ots in
-    let after : drop n text ≡ key ++ rest
-    = sym (take-append-drop 56 (drop n text)) ∙ ap₂ (λ x y. x ++ y) (sym cut.key_is) (drop-drop 56 n text ∙ sym cut.rest_is) in
-    let whole : text ≡ signature ++ key ++ rest
-    = sym (take-append-drop n text) ∙ (ap₂ (λ x y. x ++ y) (sym cut.signature_is) after ∙ sym (append_assoc signature key rest)) in
-    (signature, key, rest, whole, first, others)
+accepts-parts count signer message text signature key rest cut first others = (signature, key, rest, cut.parts, first, others)

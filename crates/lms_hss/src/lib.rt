@@ -1,8 +1,20 @@
 //! HSS, the hierarchy of LMS trees (RFC 8554, section 6).
+//!
+//! An index signs one message. Two messages under one index give a forger what he needs: who calls `Forest::sign` keeps the
+//! indices apart.
 #![tactic(auto)]
 
+mod child_key;
+mod forest;
+mod key;
+mod level_trees;
+mod levels;
+mod signed_tree;
 #[cfg(test)]
 mod tests;
 mod verification;
 
+pub use crate::forest::Forest;
+pub use crate::key::HssKey;
+pub use crate::levels::{KeyFault, Levels};
 pub use crate::verification::verify;

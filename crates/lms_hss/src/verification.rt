@@ -7,7 +7,7 @@ use lms_params::split_u32;
 use lms_tree::signature_len;
 
 /// The bytes of an LMS public key (5.3).
-const KEY_LEN: usize = 56;
+pub(crate) const KEY_LEN: usize = 56;
 
 /// Whether a signature is accepted for a message under a public key (RFC 8554, 6.3). Any lengths.
 pub fn verify(public: &[u8], msg: &[u8], sig: &[u8]) -> bool

@@ -1,5 +1,5 @@
 //! Want of memory.
-use std::alloc::AllocError;
+use std::alloc::{AllocError, AllocFailed};
 use thiserror::Error;
 
 /// A request for memory was refused. What each call that can answer so leaves behind is said at that call.
@@ -9,6 +9,12 @@ pub struct OutOfMemory;
 
 impl From<AllocError> for OutOfMemory {
     fn from(_: AllocError) -> Self {
+        OutOfMemory
+    }
+}
+
+impl<T: Drop> From<AllocFailed<T>> for OutOfMemory {
+    fn from(_: AllocFailed<T>) -> Self {
         OutOfMemory
     }
 }

@@ -56,6 +56,7 @@ fn has_the_rows_of_the_tables(rt: HostRuntime) {
     ];
     for (lms, height) in heights {
         assert_eq!(rt; lms.height(), height);
+        assert_eq!(rt; lms.is_signed(), height < 20);
     }
 }
 

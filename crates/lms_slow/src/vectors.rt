@@ -3,10 +3,12 @@
 mod narrow_digits;
 mod one_level;
 mod three_levels;
+mod two_levels;
 
 pub use crate::vectors::narrow_digits::{ONE_5_1, ONE_5_2};
 pub use crate::vectors::one_level::{ONE_5_4, ONE_5_8, ONE_10_8};
 pub use crate::vectors::three_levels::THREE;
+pub use crate::vectors::two_levels::TWO;
 use lms_params::{LmsType, OtsType};
 
 /// A private key and what it signs at an index, with its public key and the signature. Byte strings
@@ -23,4 +25,4 @@ pub struct Vector {
     pub signature: &'static str,
 }
 
-pub const VECTORS: [Vector; 6] = [ONE_10_8, ONE_5_8, ONE_5_4, ONE_5_2, ONE_5_1, THREE];
+pub const VECTORS: [Vector; 7] = [ONE_10_8, ONE_5_8, ONE_5_4, ONE_5_2, ONE_5_1, TWO, THREE];

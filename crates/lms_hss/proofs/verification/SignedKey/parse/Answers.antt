@@ -1,6 +1,6 @@
-use Rattle.std.proofs.Common.{◌≡◌, take, drop, ◌∙◌, ap, arith, length, length-drop}
-use Rattle.std.proofs.lemmas.List.{drop-drop}
-use Rattle.lms_spec.specs.Parameters.{lms_signature_length}
+use Rattle.std.proofs.Common.{◌≡◌, ◌++◌, ◌∙◌, sym, ap, ap₂, arith, subst, length, length-drop, append_assoc, take-append-drop}
+use Rattle.std.proofs.lemmas.List.{length-take-le}
+use Rattle.lms_tree.specs.Parts.{HasSignaturesOf}
 use Rattle.lms_hss.proofs.SignedKeys.{accepted-long}
 use Rattle.lms_hss.proofs.verification.SignedKey.parse.Goals as goal
 
@@ -29,19 +29,16 @@ returns-in_err-key-clause-none c =
 
 pub returns-clause-some : goal.returns-clause-some
 returns-clause-some c =
-    let has = c.in_ok-length.ensures.some in
+    let n = c.in_ok-length.length in
     let text = c.args.text.now in
     let first = c.in_ok-signature.ensures.cases in
     let second = c.in_ok-key.ensures.cases in
-    let back : c.in_ok-signature.rest.now ≡ _ = first.2 ∙ ap (λ n. drop n text) has.length_is in
+    let signature = c.in_ok-signature.signature.now in
+    let rest = c.in_ok-signature.rest.now in
+    let whole : signature ++ rest ≡ text = ap₂ (λ x y. x ++ y) first.1 first.2 ∙ take-append-drop n text in
+    let others = ap₂ (λ x y. x ++ y) second.1 second.2 ∙ take-append-drop 56 rest in
     record {
-      lms = has.lms;
-      ots = has.ots;
-      id = has.id;
-      root = has.root;
-      signer_parts = has.parts;
-      long = omega (arith, has.length_is, first.0, second.0, first.4);
-      signature_is = first.1 ∙ ap (λ n. take n text) has.length_is;
-      key_is = second.1 ∙ ap (take 56) back;
-      rest_is = second.2 ∙ (ap (drop 56) back ∙ drop-drop 56 (lms_signature_length has.lms has.ots) text);
+      signature_length = subst (λ n. HasSignaturesOf n c.args.signer.now) (sym (ap length first.1 ∙ length-take-le n text (omega (arith, first.0)))) c.in_ok-length.ensures.some;
+      key_length = ap length second.1 ∙ length-take-le 56 rest (omega (arith, second.0));
+      parts = sym whole ∙ (ap (λ rest. signature ++ rest) (sym others) ∙ sym (append_assoc signature _ _));
     }

@@ -1,0 +1,7 @@
+use Rattle.std.proofs.Common.{◌+◌}
+use Rattle.lms_hss.specs.Keys.{hss_key_of}
+use Rattle.lms_hss.specs.Forests.{HoldsTrees}
+use Rattle.lms_hss.proofs.level_trees.LevelTrees.below.Given as goal
+
+abbrev pub invariant-loop-number : goal.invariant-loop-number
+invariant-loop-number g l = HoldsTrees (hss_key_of l.key) (l.k + 1) l.first l.number l.trees.items

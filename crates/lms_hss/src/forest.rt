@@ -1,0 +1,101 @@
+//! The trees that a range of indices needs, and signatures from them.
+ghost use Rattle.std.specs.Prelude.{◌≡◌, ◌+◌, ◌-◌, ◌≤◌, ◌↔◌, length, IsTrue, IfOk};
+ghost use Rattle.lms_spec.specs.Hss.{capacity_of, leaf_at, hss_signature, hss_public_key, HssAccepts};
+ghost use Rattle.lms_hss.specs.Keys.{hss_key_of};
+ghost use Rattle.lms_hss.specs.Covered.{IsCovered};
+ghost use Rattle.lms_hss.specs.Levels.{IsAdmitted};
+ghost use Rattle.lms_hss.specs.Forests.{IsSignedTree};
+
+use crate::key::HssKey;
+use crate::level_trees::LevelTrees;
+use crate::signed_tree::SignedTree;
+use lms_params::OutOfMemory;
+use std::alloc::Global;
+use std::marker::Model;
+use std::thread::Threads;
+
+/// What signs a range of a key's indices: the trees of the bottom level that these go through, each held once, with the
+/// signatures of the levels above, each made once. Contracts see the key and the range.
+#[derive(Drop)]
+pub struct Forest {
+    key: HssKey,
+    start: u64,
+    len: u64,
+    bottom: LevelTrees,
+    alloc: Global,
+}
+
+impl Model for Forest {
+    ghost use Rattle.lms_hss.specs.Covered.{Covered};
+
+    ghost Value = { Covered };
+
+    ghost use Rattle.lms_hss.specs.Forests.{HoldsBottom};
+
+    ghost view = { λ a. record { key = a.key; start = a.start; len = a.len } };
+
+    ghost invariant = { λ a. HoldsBottom a.key a.start a.len a.bottom };
+}
+
+impl Forest {
+    /// Works out what signs the indices from `start` to `start + len - 1`, 1 to 1024 indices below the key's capacity. The
+    /// trees are worked out level by level from the top, each whole and in a thread for each processor, up to 32.
+    /// `OutOfMemory` where memory is refused.
+    pub fn cover(
+        rt: &(impl Threads + Sync),
+        alloc: Global,
+        key: HssKey,
+        start: u64,
+        len: u64,
+    ) -> Result<Self, OutOfMemory>
+        requires some { 1 ≤ len }
+        requires at_most { len ≤ 1024 }
+        requires within { start + len ≤ capacity_of (hss_key_of key) }
+        ensures { IfOk result (λ forest. forest ≡ record { key = key; start = start; len = len }) }
+    {
+        let below_top = key.levels.as_slice().len() - 1;
+        let last = start + (len - 1);
+        let mut trees = LevelTrees::top(rt, alloc, &key)?;
+        for k in 0..below_top {
+            trees = trees.below(rt, alloc, &key, k, start, last)?;
+        }
+        Ok(Forest {
+            key,
+            start,
+            len,
+            bottom: trees,
+            alloc,
+        })
+    }
+
+    /// Whether index g is in the range.
+    pub fn covers(&self, g: u64) -> bool
+        ensures { IsTrue result ↔ IsCovered self.now g }
+    {
+        g >= self.start && g - self.start < self.len
+    }
+
+    /// Signs a message with index g, which is covered, under the randomizer `c` (RFC 8554, 6.2). `OutOfMemory` where the one
+    /// request for memory, the signature's, is refused: no part of a signature exists then.
+    pub fn sign(&self, g: u64, c: &[u8; 32], msg: &[u8]) -> Result<Vec<u8>, OutOfMemory>
+        requires { IsCovered self.now g }
+        ensures signature { IfOk result (λ text. text.items ≡ hss_signature (hss_key_of self.now.key) g c.now msg.now) }
+        ensures accepted { IfOk result (λ text. HssAccepts (hss_public_key (hss_key_of self.now.key)) msg.now text.items) }
+    {
+        let (tree, leaf) = self.signer(g);
+        tree.signed(self.alloc, leaf, c, msg)
+    }
+
+    /// The bottom tree that index g goes through, and the leaf of it.
+    fn signer(&self, g: u64) -> (&SignedTree, u32)
+        requires { IsCovered self.now g }
+        ensures tree { IsSignedTree (hss_key_of self.now.key) g (length self.now.key.levels - 1) result.0.now }
+        ensures leaf { result.1 ≡ leaf_at (hss_key_of self.now.key) g (length self.now.key.levels - 1) }
+        ensures admitted { IsAdmitted self.now.key.levels }
+        ensures id { length self.now.key.i ≡ 16 }
+    {
+        let bottom = self.key.levels.as_slice().len() - 1;
+        let number = self.key.tree_number(g, bottom);
+        (self.bottom.tree(number), self.key.place(g, bottom))
+    }
+}

@@ -1,0 +1,132 @@
+//! The private key of HSS, and what its indices go through.
+ghost use Rattle.std.specs.Prelude.{◌≡◌, ◌-◌, ◌/◌, ◌%◌, ◌^◌, ◌<◌, ◌≤◌, ◌++◌, length, map, drop, replicate, IfOk};
+ghost use Rattle.lms_spec.specs.Bytes.{below, u32str};
+ghost use Rattle.lms_spec.specs.Hss.{height_of, hss_signature_length, hss_public_key, capacity_of, leaf_at, tree_at, level};
+ghost use Rattle.lms_tree.specs.TreeKey.{tree_of};
+ghost use Rattle.lms_hss.specs.Levels.{levels_of};
+ghost use Rattle.lms_hss.specs.Keys.{hss_key_of};
+
+use crate::levels::Levels;
+use crate::verification::KEY_LEN;
+use byteorder::{BigEndian, ByteOrder};
+use lms_params::{OutOfMemory, lms_sig_len};
+use lms_tree::{TreeKey, WholeTree, public_bytes};
+use std::alloc::Global;
+use std::thread::Threads;
+
+/// A private key of HSS (RFC 8554, 6.1): its levels, and the seed and the identifier I of the top tree, from which all
+/// trees below follow. There is no `Debug`, which would print the seed.
+#[derive(Clone, Copy, PartialEq, Eq)]
+pub struct HssKey {
+    pub levels: Levels,
+    pub seed: [u8; 32],
+    pub i: [u8; 16],
+}
+
+impl HssKey {
+    /// The key of these levels with this seed and this identifier.
+    pub fn new(levels: Levels, seed: [u8; 32], i: [u8; 16]) -> Self
+        ensures levels { result.levels ≡ levels }
+        ensures seed { result.seed ≡ seed }
+        ensures id { result.i ≡ i }
+    {
+        HssKey { levels, seed, i }
+    }
+
+    /// How many messages the key can sign: 2 to the sum of its heights, at most 2^60.
+    pub fn capacity(&self) -> u64
+        ensures capacity { result ≡ capacity_of (hss_key_of self.now) }
+        ensures limit { result ≤ 2 ^ 60 }
+    {
+        1 << self.levels.height_from(0)
+    }
+
+    /// The bytes of each signature under the key (RFC 8554, 6.2).
+    pub fn sig_len(&self) -> usize
+        ensures { result ≡ hss_signature_length (levels_of self.now.levels) }
+    {
+        let levels = self.levels.as_slice();
+        let mut length = 4 + KEY_LEN * (levels.len() - 1);
+        for (lms, ots) in levels {
+            length += lms_sig_len(*lms, *ots);
+        }
+        length
+    }
+
+    /// The leaves that index g goes through, from the top level down, and zeros past the last level. Indices count the
+    /// one-time keys of the bottom level from 0. The index is below the capacity.
+    pub fn places(&self, g: u64) -> [u32; 8]
+        requires { g < capacity_of (hss_key_of self.now) }
+        ensures { result
+            ≡ map (leaf_at (hss_key_of self.now) g) (below (length self.now.levels)) ++ replicate (8 - length self.now.levels) 0 }
+    {
+        let mut places = [0; 8];
+        for k in 0..self.levels.as_slice().len() {
+            places[k] = self.place(g, k);
+        }
+        places
+    }
+
+    /// The public key, 60 bytes (RFC 8554, 6.1). The top tree is worked out whole, in a thread for each processor, up to 32.
+    /// `OutOfMemory` where its memory is refused.
+    pub fn public_key(
+        &self,
+        rt: &(impl Threads + Sync),
+        alloc: Global,
+    ) -> Result<[u8; 60], OutOfMemory>
+        ensures { IfOk result (λ text. text ≡ hss_public_key (hss_key_of self.now)) }
+    {
+        let tree = WholeTree::build(rt, alloc, self.top_tree())?;
+        let levels = self.levels.as_slice().len();
+        Ok(public_key_bytes(levels as u32, &public_bytes(&tree)))
+    }
+
+    /// The tree of level 0.
+    pub(crate) fn top_tree(&self) -> TreeKey
+        ensures { tree_of result ≡ tree_at (hss_key_of self.now) 0 0 }
+    {
+        let (lms, ots) = self.levels.as_slice()[0];
+        let HssKey { levels: _, seed, i } = *self;
+        TreeKey { lms, ots, i, seed }
+    }
+
+    /// The leaf of level k's tree that index g goes through.
+    pub(crate) fn place(&self, g: u64, k: usize) -> u32
+        requires few { length self.now.levels ≤ 8 }
+        requires there { k < length self.now.levels }
+        ensures { result ≡ leaf_at (hss_key_of self.now) g k }
+    {
+        let (_, leaf) = self.parent(self.tree_number(g, k + 1), k);
+        leaf
+    }
+
+    /// The number of the tree of level k that stands above tree `number` of the next level, and the leaf of it that does.
+    pub(crate) fn parent(&self, number: u64, k: usize) -> (u64, u32)
+        requires { k < length self.now.levels }
+        ensures tree { result.0 ≡ number / 2 ^ (level (hss_key_of self.now) k).lms.h }
+        ensures leaf { result.1 ≡ number % 2 ^ (level (hss_key_of self.now) k).lms.h }
+    {
+        let (lms, _) = self.levels.as_slice()[k];
+        let height = lms.height();
+        (number >> height, (number % (1 << height)) as u32)
+    }
+
+    /// The number of the tree of level k that index g goes through, counted in its level from 0; with k the number of
+    /// levels, the index itself.
+    pub(crate) fn tree_number(&self, g: u64, k: usize) -> u64
+        requires { k ≤ length self.now.levels }
+        ensures { result ≡ g / 2 ^ height_of (drop k (levels_of self.now.levels)) }
+    {
+        g >> self.levels.height_from(k)
+    }
+}
+
+/// The public key over this LMS public key of the top tree (6.1).
+fn public_key_bytes(levels: u32, top: &[u8; 56]) -> [u8; 60]
+    ensures { result ≡ u32str levels ++ top.now }
+{
+    let mut text = [0; 60];
+    BigEndian::write_u32(&mut text, levels);
+    text[4..].copy_from_slice(top);
+    text
+}

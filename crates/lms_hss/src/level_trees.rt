@@ -1,0 +1,71 @@
+//! The trees of one level that a range of indices goes through.
+ghost use Rattle.std.specs.Prelude.{ℕ, ◌≡◌, ◌+◌, ◌-◌, ◌<◌, ◌≤◌, length, slice_index_or, IfOk};
+ghost use Rattle.lms_spec.specs.Hss.{capacity_of};
+ghost use Rattle.lms_hss.specs.Keys.{hss_key_of};
+ghost use Rattle.lms_hss.specs.Forests.{HoldsLevel};
+
+use crate::key::HssKey;
+use crate::signed_tree::SignedTree;
+use lms_params::OutOfMemory;
+use std::alloc::Global;
+use std::thread::Threads;
+
+/// Trees of one level that stand side by side, the first of them being number `first` of the level.
+#[derive(Drop)]
+pub(crate) struct LevelTrees {
+    first: u64,
+    trees: Vec<SignedTree>,
+}
+
+impl LevelTrees {
+    /// The top tree.
+    pub(crate) fn top(
+        rt: &(impl Threads + Sync),
+        alloc: Global,
+        key: &HssKey,
+    ) -> Result<Self, OutOfMemory>
+        ensures { IfOk result (λ trees. (start last : ℕ) → start < capacity_of (hss_key_of key.now) → last < capacity_of (hss_key_of key.now)
+            → HoldsLevel (hss_key_of key.now) 0 start last trees) }
+    {
+        let mut trees = Vec::new(alloc);
+        trees.push(SignedTree::top(rt, alloc, key)?)?;
+        Ok(LevelTrees { first: 0, trees })
+    }
+
+    /// The tree of this number, which is there.
+    pub(crate) fn tree(&self, number: u64) -> &SignedTree
+        requires from { self.now.first ≤ number }
+        requires to { number < self.now.first + length self.now.trees.items }
+        ensures { result.now ≡ slice_index_or self.now.trees.items (number - self.now.first) result.now }
+    {
+        &self.trees[(number - self.first) as usize]
+    }
+
+    /// The trees of the next level that the indices from `start` to `last` go through, each signed by the one above it.
+    /// These here are those of level k.
+    pub(crate) fn below(
+        &self,
+        rt: &(impl Threads + Sync),
+        alloc: Global,
+        key: &HssKey,
+        k: usize,
+        start: u64,
+        last: u64,
+    ) -> Result<Self, OutOfMemory>
+        requires below { k + 1 < length key.now.levels }
+        requires order { start ≤ last }
+        requires within { last < capacity_of (hss_key_of key.now) }
+        requires level { HoldsLevel (hss_key_of key.now) k start last self.now }
+        ensures { IfOk result (λ trees. HoldsLevel (hss_key_of key.now) (k + 1) start last trees) }
+    {
+        let sets = key.levels.as_slice()[k + 1];
+        let first = key.tree_number(start, k + 1);
+        let mut trees = Vec::new(alloc);
+        for number in first..key.tree_number(last, k + 1) + 1 {
+            let (parent, leaf) = key.parent(number, k);
+            let tree = self.tree(parent).child(rt, alloc, leaf, sets)?;
+            trees.push(tree)?;
+        }
+        Ok(LevelTrees { first, trees })
+    }
+}

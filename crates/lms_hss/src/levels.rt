@@ -1,0 +1,129 @@
+//! The levels of a key that signs.
+ghost use Rattle.std.specs.Prelude.{◌≡◌, ◌≤◌, ◌↔◌, IsTrue, All, length, drop};
+ghost use Rattle.lms_params.specs.LmsType.{IsSigned};
+ghost use Rattle.lms_spec.specs.Hss.{height_of};
+ghost use Rattle.lms_hss.specs.Levels.{levels_of, padded as padded_of, IsAdmitted, Judges};
+
+use lms_params::{LmsType, OtsType};
+use std::marker::Model;
+use thiserror::Error;
+
+/// The most levels of a key (RFC 8554, 6).
+const MOST_LEVELS: usize = 8;
+
+/// The most that the heights of a signer's levels sum to, so that an index fits 64 bits.
+const TALLEST: u32 = 60;
+
+/// What stands in a `Levels` past its last level.
+const UNUSED: (LmsType, OtsType) = (LmsType::H5, OtsType::W1);
+
+/// Why a list of levels was refused.
+#[derive(Clone, Copy, Debug, PartialEq, Eq, Error)]
+pub enum KeyFault {
+    #[error("no levels")]
+    NoLevels,
+    #[error("too many levels")]
+    TooManyLevels,
+    #[error("height not signed")]
+    HeightNotSigned,
+    #[error("too tall")]
+    TooTall,
+}
+
+/// The levels of a key that signs, from the top: the LMS set and the LM-OTS set of each. There are 1 to 8, of heights 5,
+/// 10 and 15, which sum to at most 60. Contracts see the list.
+#[derive(Clone, Copy, PartialEq, Eq)]
+pub struct Levels {
+    sets: [(LmsType, OtsType); 8],
+    count: usize,
+}
+
+impl Model for Levels {
+    ghost use Rattle.std.specs.Prelude.{List, length, take};
+    ghost use Rattle.std.proofs.Common.{sym};
+    ghost use Rattle.lms_params.specs.declared.lms_type.LmsType.{LmsType as KindOfTree};
+    ghost use Rattle.lms_params.specs.declared.ots_type.OtsType.{OtsType as KindOfKey};
+
+    ghost Value = { List (KindOfTree × KindOfKey) };
+
+    ghost use Rattle.lms_hss.specs.Levels.{IsHeld, padded};
+
+    ghost view = { λ a. take a.count a.sets };
+
+    ghost invariant = { λ a. IsHeld a.count a.sets };
+
+    ghost inverse = { λ levels. record { sets = padded levels; count = length levels } };
+
+    ghost inverse_ok = { λ a held i. record { sets = sym held.others_unused i; count = held.count_is i } };
+}
+
+impl Levels {
+    /// Takes a list of levels, from the top. The first of these faults is answered: `NoLevels`, `TooManyLevels` for more
+    /// than 8, `HeightNotSigned` for a height of 20 or 25, `TooTall` for heights that sum to over 60.
+    pub fn new(sets: &[(LmsType, OtsType)]) -> Result<Self, KeyFault>
+        ensures { Judges sets.now result }
+    {
+        if sets.is_empty() {
+            return Err(KeyFault::NoLevels);
+        }
+        if sets.len() > MOST_LEVELS {
+            return Err(KeyFault::TooManyLevels);
+        }
+        if !all_signed(sets) {
+            return Err(KeyFault::HeightNotSigned);
+        }
+        if height(sets) > TALLEST {
+            return Err(KeyFault::TooTall);
+        }
+        Ok(Levels {
+            sets: padded(sets),
+            count: sets.len(),
+        })
+    }
+
+    /// The levels, from the top.
+    pub fn as_slice(&self) -> &[(LmsType, OtsType)]
+        ensures levels { result.now ≡ self.now }
+        ensures admitted { IsAdmitted self.now }
+    {
+        &self.sets[..self.count]
+    }
+
+    /// The heights of the levels from k on, added up.
+    pub(crate) fn height_from(&self, k: usize) -> u32
+        requires { k ≤ length self.now }
+        ensures height { result ≡ height_of (drop k (levels_of self.now)) }
+        ensures limit { result ≤ 60 }
+    {
+        height(&self.as_slice()[k..])
+    }
+}
+
+/// Levels in the first of eight places.
+fn padded(sets: &[(LmsType, OtsType)]) -> [(LmsType, OtsType); 8]
+    requires { length sets.now ≤ 8 }
+    ensures { result ≡ padded_of sets.now }
+{
+    let mut padded = [UNUSED; 8];
+    padded[..sets.len()].copy_from_slice(sets);
+    padded
+}
+
+/// Whether the signer takes all of these heights.
+fn all_signed(sets: &[(LmsType, OtsType)]) -> bool
+    ensures { IsTrue result ↔ All (λ s. IsSigned s.0) sets.now }
+{
+    sets.iter().all(|(lms, _)| lms.is_signed())
+}
+
+/// The heights of these levels, added up.
+fn height(sets: &[(LmsType, OtsType)]) -> u32
+    requires { length sets.now ≤ 8 }
+    ensures { result ≡ height_of (levels_of sets.now) }
+{
+    let mut height = 0;
+    for (lms, _) in sets {
+        height += lms.height();
+    }
+    height
+}

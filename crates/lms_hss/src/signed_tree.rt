@@ -1,0 +1,90 @@
+//! A tree of a hierarchy, with what the levels above it sign.
+ghost use Rattle.std.specs.Prelude.{◌≡◌, ◌+◌, ◌^◌, ◌<◌, ◌++◌, length, IfOk};
+ghost use Rattle.lms_spec.specs.Parameters.{lms_signature_length};
+ghost use Rattle.lms_spec.specs.Tree.{lms_signature, public_key_of};
+ghost use Rattle.lms_spec.specs.Hss.{child as child_of, derived, for_randomizer};
+ghost use Rattle.lms_tree.specs.TreeKey.{tree_of};
+ghost use Rattle.lms_hss.specs.Levels.{level_of};
+ghost use Rattle.lms_hss.specs.Keys.{hss_key_of};
+ghost use Rattle.lms_hss.specs.Forests.{IsSignedTree};
+
+use crate::child_key::{child_key, randomizer};
+use crate::key::HssKey;
+use lms_params::{LmsType, OtsType, OutOfMemory, lms_sig_len};
+use lms_tree::{NodeSource, WholeTree, public_bytes, sign_into};
+use std::alloc::Global;
+use std::thread::Threads;
+
+/// A tree, and what the HSS signatures by its leaves begin with: the number of signed public keys, and those of the levels
+/// from the top to its own (RFC 8554, 6.2).
+#[derive(Drop)]
+pub(crate) struct SignedTree {
+    tree: WholeTree,
+    head: Vec<u8>,
+}
+
+impl SignedTree {
+    /// The tree of level 0, which no level signs.
+    pub(crate) fn top(
+        rt: &(impl Threads + Sync),
+        alloc: Global,
+        key: &HssKey,
+    ) -> Result<Self, OutOfMemory>
+        ensures { IfOk result (IsSignedTree (hss_key_of key.now) 0 0) }
+    {
+        let signed_keys = key.levels.as_slice().len() as u32 - 1;
+        let head = Vec::from_slice(alloc, &signed_keys.to_be_bytes())?;
+        let tree = WholeTree::build(rt, alloc, key.top_tree())?;
+        Ok(SignedTree { tree, head })
+    }
+
+    /// The tree of these sets below leaf q, signed by that leaf.
+    pub(crate) fn child(
+        &self,
+        rt: &(impl Threads + Sync),
+        alloc: Global,
+        q: u32,
+        sets: (LmsType, OtsType),
+    ) -> Result<Self, OutOfMemory>
+        requires { q < 2 ^ (tree_of self.now.tree).lms.h }
+        ensures tree { IfOk result (λ s. tree_of s.tree ≡ child_of (tree_of self.now.tree) q (level_of sets)) }
+        ensures head { IfOk result (λ s. s.head.items ≡ self.now.head.items
+            ++ lms_signature (tree_of self.now.tree) q (derived (tree_of self.now.tree) q for_randomizer) (public_key_of (tree_of s.tree))
+            ++ public_key_of (tree_of s.tree)) }
+    {
+        let key = self.tree.key();
+        let tree = WholeTree::build(rt, alloc, child_key(&key, q, sets))?;
+        let public = public_bytes(&tree);
+        let mut head = self.signed(alloc, q, &randomizer(&key, q), &public)?;
+        head.extend_from_slice(&public)?;
+        Ok(SignedTree { tree, head })
+    }
+
+    /// The head and the LMS signature of a message by leaf q, under the randomizer `c`.
+    pub(crate) fn signed(
+        &self,
+        alloc: Global,
+        q: u32,
+        c: &[u8; 32],
+        msg: &[u8],
+    ) -> Result<Vec<u8>, OutOfMemory>
+        requires { q < 2 ^ (tree_of self.now.tree).lms.h }
+        ensures { IfOk result (λ text. text.items ≡ self.now.head.items ++ lms_signature (tree_of self.now.tree) q c.now msg.now) }
+    {
+        let key = self.tree.key();
+        let mut text = vec![in alloc; 0; self.head.len() + lms_sig_len(key.lms, key.ots)]?;
+        self.sign_into(q, c, msg, &mut text);
+        Ok(text)
+    }
+
+    /// Writes the head and the LMS signature of a message by leaf q.
+    fn sign_into(&self, q: u32, c: &[u8; 32], msg: &[u8], out: &mut [u8])
+        requires leaf { q < 2 ^ (tree_of self.now.tree).lms.h }
+        requires room { length out.old ≡ length self.now.head.items + lms_signature_length (tree_of self.now.tree).lms (tree_of self.now.tree).ots }
+        ensures { out.new ≡ self.now.head.items ++ lms_signature (tree_of self.now.tree) q c.now msg.now }
+    {
+        let start = self.head.len();
+        out[..start].copy_from_slice(&self.head);
+        sign_into(&self.tree, q, c, msg, &mut out[start..]);
+    }
+}

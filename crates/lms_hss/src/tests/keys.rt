@@ -1,0 +1,100 @@
+use crate::tests::{LEVEL, THREE_LEVELS, key_of, slow_key};
+use crate::{KeyFault, Levels};
+use lms_params::{LmsType, OtsType, OutOfMemory};
+use lms_slow::slow_public;
+use std::test::Fail;
+
+const TALL: (LmsType, OtsType) = (LmsType::H15, OtsType::W8);
+
+const NOT_SIGNED: (LmsType, OtsType) = (LmsType::H20, OtsType::W8);
+
+/// Lists of levels that are refused, where two faults hold the first.
+const REFUSED: [(&[(LmsType, OtsType)], KeyFault); 6] = [
+    (&[], KeyFault::NoLevels),
+    (&[NOT_SIGNED; 9], KeyFault::TooManyLevels),
+    (&[NOT_SIGNED], KeyFault::HeightNotSigned),
+    (
+        &[LEVEL, (LmsType::H25, OtsType::W1)],
+        KeyFault::HeightNotSigned,
+    ),
+    (
+        &[TALL, TALL, TALL, TALL, NOT_SIGNED],
+        KeyFault::HeightNotSigned,
+    ),
+    (&[TALL, TALL, TALL, TALL, LEVEL], KeyFault::TooTall),
+];
+
+#[test]
+fn refuses_levels_by_the_first_fault(rt: HostRuntime) {
+    for (levels, fault) in REFUSED {
+        assert_eq!(rt; Levels::new(levels).err(), Some(fault));
+    }
+}
+
+/// Levels, the capacity of a key and the bytes of its signatures.
+const SIZES: [(&[(LmsType, OtsType)], u64, usize); 6] = [
+    (&[LEVEL], 32, 1296),
+    (&[LEVEL; 2], 1024, 2644),
+    (&[LEVEL, (LmsType::H10, OtsType::W4), LEVEL], 1048576, 5208),
+    (&[TALL; 4], 1152921504606846976, 6620),
+    (&[LEVEL; 8], 1099511627776, 10732),
+    (
+        &[
+            (LmsType::H5, OtsType::W1),
+            (LmsType::H5, OtsType::W2),
+            (LmsType::H5, OtsType::W4),
+            LEVEL,
+        ],
+        1048576,
+        16956,
+    ),
+];
+
+#[test]
+fn knows_capacities_and_lengths(rt: HostRuntime) -> Result<(), Fail> {
+    for (levels, capacity, sig_len) in SIZES {
+        let taken = Levels::new(levels)?;
+        assert_eq!(rt; taken.as_slice(), levels);
+        let key = key_of(levels)?;
+        assert_eq!(rt; (key.capacity(), key.sig_len()), (capacity, sig_len));
+    }
+    Ok(())
+}
+
+/// Levels, an index and the leaves that it goes through.
+const PLACES: [(&[(LmsType, OtsType)], u64, [u32; 8]); 7] = [
+    (&[LEVEL], 5, [5, 0, 0, 0, 0, 0, 0, 0]),
+    (&[LEVEL; 2], 31, [0, 31, 0, 0, 0, 0, 0, 0]),
+    (&[LEVEL; 2], 32, [1, 0, 0, 0, 0, 0, 0, 0]),
+    (&[LEVEL; 2], 1023, [31, 31, 0, 0, 0, 0, 0, 0]),
+    (
+        &[LEVEL, (LmsType::H10, OtsType::W4), LEVEL],
+        33000,
+        [1, 7, 8, 0, 0, 0, 0, 0],
+    ),
+    (&[LEVEL; 8], 34359738367, [0, 31, 31, 31, 31, 31, 31, 31]),
+    (&[LEVEL; 8], 34359738368, [1, 0, 0, 0, 0, 0, 0, 0]),
+];
+
+#[test]
+fn knows_the_places_of_an_index(rt: HostRuntime) -> Result<(), Fail> {
+    for (levels, g, places) in PLACES {
+        let key = key_of(levels)?;
+        assert!(rt; g < key.capacity());
+        assert_eq!(rt; key.places(g), places, "{g}");
+    }
+    Ok(())
+}
+
+/// `rt test` refuses no memory. With `rt try --test --fail-alloc 1` the first call here is refused, and the second works.
+#[test]
+fn makes_public_keys_after_refused_memory(rt: HostRuntime) -> Result<(), Fail> {
+    let key = key_of(&THREE_LEVELS)?;
+    let public = match key.public_key(&rt, rt.alloc()) {
+        Ok(public) => public,
+        Err(OutOfMemory) => key.public_key(&rt, rt.alloc())?,
+    };
+    let slow = slow_public(rt.alloc(), &slow_key(&THREE_LEVELS))?;
+    assert_eq!(rt; public.as_slice(), slow.as_slice());
+    Ok(())
+}

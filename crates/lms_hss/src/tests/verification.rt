@@ -1,0 +1,299 @@
+use crate::tests::{LEVEL, RANDOMIZER, THREE_LEVELS, slow_key};
+use crate::verify;
+use lms_params::{LmsType, OtsType};
+use lms_slow::vectors::{THREE, TWO, VECTORS, Vector};
+use lms_slow::{PlantedTexts, SlowTree, planted, slow_public, slow_sign};
+use std::alloc::{AllocError, Global};
+use std::process::Abort;
+use std::test::Fail;
+
+/// A text with four of its bytes replaced.
+fn with_number(alloc: Global, text: &[u8], at: usize, number: u32) -> Result<Vec<u8>, AllocError> {
+    let mut changed = Vec::new(alloc);
+    for (place, byte) in text.iter().enumerate() {
+        let digit = place
+            .checked_sub(at)
+            .and_then(|i| number.to_be_bytes().get(i).copied());
+        changed.push(digit.unwrap_or(*byte))?;
+    }
+    Ok(changed)
+}
+
+/// A text with the lowest bit of one byte changed.
+fn with_flip(alloc: Global, text: &[u8], at: usize) -> Result<Vec<u8>, AllocError> {
+    let mut changed = Vec::new(alloc);
+    for (place, byte) in text.iter().enumerate() {
+        changed.push(if place == at { *byte ^ 1 } else { *byte })?;
+    }
+    Ok(changed)
+}
+
+/// Where a text is changed: at its first byte, in its middle and at its last byte.
+fn places(text: &[u8]) -> [usize; 3] {
+    [0, text.len() / 2, text.len().saturating_sub(1)]
+}
+
+#[test]
+fn decides_on_a_signature(rt: HostRuntime) -> Result<(), Fail> {
+    let public = slow_public(rt.alloc(), &slow_key(&[LEVEL]))?;
+    let signature = slow_sign(rt.alloc(), &slow_key(&[LEVEL]), 5, &RANDOMIZER, b"abc")?;
+    let head = [0, 0, 0, 1, 0, 0, 0, 5, 0, 0, 0, 4];
+    assert!(rt; public.starts_with(&head) && public.len() == 60);
+    assert_eq!(rt; public.get(12..28), Some([0x22; 16].as_slice()));
+    assert!(rt; signature.starts_with(&[0, 0, 0, 0, 0, 0, 0, 5, 0, 0, 0, 4]));
+    assert_eq!(rt; signature.get(1132..1136), Some([0, 0, 0, 5].as_slice()));
+    assert!(rt; verify(&public, b"abc", &signature));
+    assert!(rt; !verify(&public, b"abd", &signature));
+    assert!(rt;
+        !verify(
+            &public,
+            b"abc",
+            &with_number(rt.alloc(), &signature, 4, 32)?
+        ),
+        "leaf 32"
+    );
+    assert!(rt;
+        !verify(&public, b"abc", &with_number(rt.alloc(), &signature, 0, 1)?),
+        "count 1"
+    );
+    for levels in [0, 2, 9] {
+        let other = with_number(rt.alloc(), &public, 0, levels)?;
+        assert!(rt; !verify(&other, b"abc", &signature), "{levels} levels");
+    }
+    Ok(())
+}
+
+#[test]
+fn wants_the_exact_lengths(rt: HostRuntime) -> Result<(), Fail> {
+    let public = slow_public(rt.alloc(), &slow_key(&[LEVEL]))?;
+    let mut signature = slow_sign(rt.alloc(), &slow_key(&[LEVEL]), 5, &RANDOMIZER, b"abc")?;
+    assert_eq!(rt; signature.len(), 1296);
+    for length in 0..1296 {
+        let cut = signature.get(..length).unwrap_or(&[]);
+        assert!(rt; !verify(&public, b"abc", cut), "cut to {length}");
+    }
+    let cut = public.get(..59).unwrap_or(&[]);
+    assert!(rt; !verify(cut, b"abc", &signature));
+    signature.push(0)?;
+    assert!(rt; !verify(&public, b"abc", &signature));
+    Ok(())
+}
+
+/// The LMS sets, and the number of their leaves.
+const TREES: [(LmsType, u32); 5] = [
+    (LmsType::H5, 32),
+    (LmsType::H10, 1024),
+    (LmsType::H15, 32768),
+    (LmsType::H20, 1048576),
+    (LmsType::H25, 33554432),
+];
+
+/// A planted signature by the last leaf of each height is valid, and each change of it is not.
+fn check_heights(rt: &(impl Abort + AllocGlobal), ots: OtsType) -> Result<(), Fail> {
+    for (lms, leaves) in TREES {
+        let tree = SlowTree {
+            lms,
+            ots,
+            seed: [0x11; 32],
+            id: [0x22; 16],
+        };
+        let made = planted(rt.alloc(), &tree, leaves - 1, &RANDOMIZER, b"abc")?;
+        assert!(rt;
+            verify(&made.public, b"abc", &made.signature),
+            "{lms:?} {ots:?}"
+        );
+        let past = with_number(rt.alloc(), &made.signature, 4, leaves)?;
+        assert!(rt; !verify(&made.public, b"abc", &past), "{lms:?} {ots:?}");
+        let past = planted(rt.alloc(), &tree, leaves, &RANDOMIZER, b"abc")?;
+        assert!(rt;
+            !verify(&past.public, b"abc", &past.signature),
+            "{lms:?} {ots:?}"
+        );
+        let mut longer = made.signature;
+        longer.push(0)?;
+        assert!(rt; !verify(&made.public, b"abc", &longer), "{lms:?} {ots:?}");
+        let _zero = longer.pop();
+        let _last = longer.pop();
+        assert!(rt; !verify(&made.public, b"abc", &longer), "{lms:?} {ots:?}");
+    }
+    Ok(())
+}
+
+#[test]
+fn knows_every_pair_of_sets(rt: HostRuntime) -> Result<(), Fail> {
+    for ots in [OtsType::W1, OtsType::W2, OtsType::W4, OtsType::W8] {
+        check_heights(&rt, ots)?;
+    }
+    Ok(())
+}
+
+/// Sets, the bytes of a signature, and the place and the value of its LMS typecode.
+const LAYOUTS: [(LmsType, OtsType, usize, usize, u8); 4] = [
+    (LmsType::H10, OtsType::W8, 1456, 1132, 6),
+    (LmsType::H15, OtsType::W4, 2672, 2188, 7),
+    (LmsType::H20, OtsType::W2, 4944, 4300, 8),
+    (LmsType::H25, OtsType::W1, 9328, 8524, 9),
+];
+
+#[test]
+fn reads_the_typecode_in_its_place(rt: HostRuntime) -> Result<(), Fail> {
+    for (lms, ots, length, at, code) in LAYOUTS {
+        let tree = SlowTree {
+            lms,
+            ots,
+            seed: [0x11; 32],
+            id: [0x22; 16],
+        };
+        let made = planted(rt.alloc(), &tree, 3, &RANDOMIZER, b"abc")?;
+        assert_eq!(rt; made.signature.len(), length);
+        assert_eq!(rt;
+            made.signature.get(at..at + 4),
+            Some([0, 0, 0, code].as_slice())
+        );
+        assert!(rt;
+            verify(&made.public, b"abc", &made.signature),
+            "{lms:?} {ots:?}"
+        );
+        let other = with_flip(rt.alloc(), &made.signature, at + 3)?;
+        assert!(rt; !verify(&made.public, b"abc", &other), "{lms:?} {ots:?}");
+    }
+    Ok(())
+}
+
+#[test]
+fn agrees_with_another_implementation(rt: HostRuntime) -> Result<(), Fail> {
+    for vector in VECTORS {
+        let public = hex::decode(rt.alloc(), vector.public)?;
+        let signature = hex::decode(rt.alloc(), vector.signature)?;
+        let message = vector.message.as_bytes();
+        assert!(rt; verify(&public, message, &signature), "{message:?}");
+        for at in places(&public) {
+            let other = with_flip(rt.alloc(), &public, at)?;
+            assert!(rt;
+                !verify(&other, message, &signature),
+                "{message:?} key {at}"
+            );
+        }
+        for at in places(message) {
+            let other = with_flip(rt.alloc(), message, at)?;
+            assert!(rt; !verify(&public, &other, &signature), "{message:?} {at}");
+        }
+        for at in places(&signature) {
+            let other = with_flip(rt.alloc(), &signature, at)?;
+            assert!(rt;
+                !verify(&public, message, &other),
+                "{message:?} signature {at}"
+            );
+        }
+    }
+    Ok(())
+}
+
+/// Places of numbers in a signature under `THREE_LEVELS`: the count; and for each level the leaf, the two typecodes, and
+/// the typecodes of the key that it signs.
+const NUMBERS: [u16; 14] = [
+    0, 4, 8, 1132, 1296, 1300, 1352, 1356, 3536, 3700, 3704, 3756, 3760, 8052,
+];
+
+#[test]
+fn verifies_every_level(rt: HostRuntime) -> Result<(), Fail> {
+    let public = slow_public(rt.alloc(), &slow_key(&THREE_LEVELS))?;
+    let signature = slow_sign(
+        rt.alloc(),
+        &slow_key(&THREE_LEVELS),
+        1025,
+        &RANDOMIZER,
+        b"abc",
+    )?;
+    assert_eq!(rt; signature.len(), 8216);
+    assert!(rt; verify(&public, b"abc", &signature));
+    for at in NUMBERS {
+        let other = with_flip(rt.alloc(), &signature, usize::from(at) + 3)?;
+        assert!(rt; !verify(&public, b"abc", &other), "{at}");
+    }
+    for levels in [0, 1, 2, 4, 9] {
+        let other = with_number(rt.alloc(), &public, 0, levels)?;
+        assert!(rt; !verify(&other, b"abc", &signature), "{levels} levels");
+    }
+    Ok(())
+}
+
+#[test]
+fn verifies_eight_levels(rt: HostRuntime) -> Result<(), Fail> {
+    let key = slow_key(&[(LmsType::H5, OtsType::W4); 8]);
+    let public = slow_public(rt.alloc(), &key)?;
+    let mut signature = slow_sign(rt.alloc(), &key, 34359738367, &RANDOMIZER, b"abc")?;
+    assert!(rt; verify(&public, b"abc", &signature));
+    signature.push(0)?;
+    assert!(rt; !verify(&public, b"abc", &signature));
+    Ok(())
+}
+
+#[test]
+fn verifies_levels_of_different_heights(rt: HostRuntime) -> Result<(), Fail> {
+    let key = slow_key(&[(LmsType::H10, OtsType::W4), LEVEL]);
+    let public = slow_public(rt.alloc(), &key)?;
+    let signature = slow_sign(rt.alloc(), &key, 32 * 700 + 9, &RANDOMIZER, b"abc")?;
+    assert_eq!(rt; signature.len(), 4 + 2508 + 56 + 1292);
+    assert!(rt; verify(&public, b"abc", &signature));
+    let other = with_flip(rt.alloc(), &signature, 4 + 2508 + 3)?;
+    assert!(rt; !verify(&public, b"abc", &other));
+    Ok(())
+}
+
+/// No signature of the other implementation's is accepted with the lowest bit changed in one of every four bytes: each
+/// number's last byte and eight bytes of each hash are among them.
+fn check_changes(rt: &(impl Abort + AllocGlobal), vector: Vector) -> Result<(), Fail> {
+    let public = hex::decode(rt.alloc(), vector.public)?;
+    let signature = hex::decode(rt.alloc(), vector.signature)?;
+    let message = vector.message.as_bytes();
+    assert!(rt; verify(&public, message, &signature));
+    for at in (3..signature.len()).step_by(4) {
+        let other = with_flip(rt.alloc(), &signature, at)?;
+        assert!(rt; !verify(&public, message, &other), "{message:?} {at}");
+    }
+    Ok(())
+}
+
+#[test]
+fn refuses_each_changed_field(rt: HostRuntime) -> Result<(), Fail> {
+    check_changes(&rt, TWO)?;
+    check_changes(&rt, THREE)
+}
+
+/// A public key of two levels and a signature under it: leaf 7 of a top tree of 5/8 signs this child's key, and the child
+/// signs the message. The public key and the signature of the child are those of one level.
+fn below_a_top(alloc: Global, child: &PlantedTexts) -> Result<PlantedTexts, AllocError> {
+    let top = slow_key(&[LEVEL]);
+    let child_key = child.public.get(4..).unwrap_or(&[]);
+    let mut public = Vec::from_slice(alloc, &2u32.to_be_bytes())?;
+    let top_public = slow_public(alloc, &top)?;
+    public.extend_from_slice(top_public.get(4..).unwrap_or(&[]))?;
+    let top_signature = slow_sign(alloc, &top, 7, &RANDOMIZER, child_key)?;
+    let mut signature = Vec::from_slice(alloc, &1u32.to_be_bytes())?;
+    signature.extend_from_slice(top_signature.get(4..).unwrap_or(&[]))?;
+    signature.extend_from_slice(child_key)?;
+    signature.extend_from_slice(child.signature.get(4..).unwrap_or(&[]))?;
+    Ok(PlantedTexts { public, signature })
+}
+
+#[test]
+fn takes_the_sets_of_a_child_from_its_key(rt: HostRuntime) -> Result<(), Fail> {
+    let child = SlowTree {
+        lms: LmsType::H25,
+        ots: OtsType::W1,
+        seed: [0x44; 32],
+        id: [0x55; 16],
+    };
+    let mut made = planted(rt.alloc(), &child, 33554431, &RANDOMIZER, b"abc")?;
+    let whole = below_a_top(rt.alloc(), &made)?;
+    assert_eq!(rt; whole.signature.len(), 4 + 1292 + 56 + 9324);
+    assert!(rt; verify(&whole.public, b"abc", &whole.signature));
+    made.public = with_number(rt.alloc(), &made.public, 4, 10)?;
+    let whole = below_a_top(rt.alloc(), &made)?;
+    assert!(rt;
+        !verify(&whole.public, b"abc", &whole.signature),
+        "typecode 10"
+    );
+    Ok(())
+}
