@@ -1,6 +1,13 @@
 //! A case and what it works on.
 use crate::case::{Case, ID, MESSAGE, Operation, RANDOMIZER, SEED, key_of};
+use anyhow::Result;
 use lms_ots::{candidate, public_hash, sign_into};
+
+/// What is run again and again while its time is taken.
+pub trait Timed {
+    /// Runs it so often. An `Err` where a run does not give what it should.
+    fn repeat(&mut self, runs: u64) -> Result<()>;
+}
 
 /// A case with the signature that it works on.
 #[derive(Clone, Copy)]
@@ -50,5 +57,16 @@ impl Bench {
         self.signature[36..68].copy_from_slice(&first_value);
         let length = self.case.ots.sig_len();
         candidate(self.case.ots, ID, &self.signature[..length], &MESSAGE).unwrap_or(first_value)
+    }
+}
+
+impl Timed for Bench {
+    fn repeat(&mut self, runs: u64) -> Result<()> {
+        let mut value = SEED;
+        for _ in 0..runs {
+            value = self.run(value);
+        }
+        anyhow::ensure!(value != SEED, "a run gave back its seed");
+        Ok(())
     }
 }

@@ -1,10 +1,10 @@
 //! What is timed, and how many compressions it needs.
-ghost use Rattle.std.specs.Prelude.{◌+◌, ◌*◌, ◌^◌, ◌<◌, ◌≤◌};
+ghost use Rattle.std.specs.Prelude.{◌≡◌};
 
-use lms_ots::{OtsId, hasher_at};
-use lms_params::{LmsType, OtsType, digits};
+use crate::compressions::{Signed, public_hash_compressions, tree_compressions};
+use lms_ots::OtsId;
+use lms_params::{LmsType, OtsType};
 use lms_tree::TreeKey;
-use sha2::Digest;
 use std::fmt;
 
 /// The seed that each case begins with.
@@ -23,7 +23,10 @@ pub const MESSAGE: [u8; 3] = *b"abc";
 pub const TREE: LmsType = LmsType::H10;
 
 /// The key of a tree.
-pub fn key_of(ots: OtsType, seed: [u8; 32]) -> TreeKey {
+pub fn key_of(ots: OtsType, seed: [u8; 32]) -> TreeKey
+    ensures ots { result.ots ≡ ots }
+    ensures seed { result.seed ≡ seed }
+{
     let OtsId { i, q: _ } = ID;
     TreeKey {
         lms: TREE,
@@ -123,49 +126,12 @@ impl fmt::Display for Case {
 impl Case {
     /// The compressions of SHA-256 that the standard's definition of this case needs.
     pub fn compressions(self) -> u64 {
-        let chains = self.ots.p() as u64;
-        let steps = chains * ((1 << self.ots.w()) - 1);
-        let ends = compressions_of(22 + 32 * chains);
-        let signed = signed_steps(self.ots);
+        let signed = Signed::new(self.ots, ID, &RANDOMIZER, &MESSAGE);
         match self.operation {
-            Operation::PublicHash => chains + steps + ends,
-            Operation::SignInto => compressions_of(54 + 3) + chains + signed,
-            Operation::Candidate => compressions_of(54 + 3) + steps.saturating_sub(signed) + ends,
-            Operation::SubtreeRoot => tree_compressions(self.ots),
+            Operation::PublicHash => public_hash_compressions(self.ots),
+            Operation::SignInto => signed.signature_compressions(),
+            Operation::Candidate => signed.candidate_compressions(),
+            Operation::SubtreeRoot => tree_compressions(TREE, self.ots),
         }
     }
-}
-
-/// The compressions of all nodes of a tree: a public hash and one compression a leaf, two an inner node. A float has each
-/// number below 2^53.
-pub fn tree_compressions(ots: OtsType) -> u64
-    ensures { result < 2 ^ 53 }
-{
-    let chains = ots.p() as u64;
-    let public_hash = (chains << ots.w()) + compressions_of(22 + 32 * chains);
-    let leaves = 1 << TREE.height();
-    leaves * (public_hash + compressions_of(54)) + (leaves - 1) * compressions_of(86)
-}
-
-/// The compressions of a text of so many bytes, with its padding.
-fn compressions_of(bytes: u64) -> u64
-    requires { bytes < 10000 }
-    ensures { result < 10000 }
-{
-    (bytes + 9).div_ceil(64)
-}
-
-/// The steps from the secrets to a signature's values: its digits, added up.
-fn signed_steps(ots: OtsType) -> u64
-    ensures { result ≤ 265 * 255 }
-{
-    let mut hasher = hasher_at(&ID.i, ID.q);
-    hasher.update([0x81, 0x81]);
-    hasher.update(RANDOMIZER);
-    hasher.update(MESSAGE);
-    let mut steps = 0;
-    for digit in digits(&hasher.finalize(), ots) {
-        steps += u64::from(digit);
-    }
-    steps
 }

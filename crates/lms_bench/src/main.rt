@@ -1,8 +1,8 @@
-//! Times one-time keys and trees against bare SHA-256 digests.
+//! Times one-time keys, trees and keys of HSS against bare SHA-256 digests.
 //!
 //! Without words it runs each case once and prints the cases' names. With the word `measure` it prints for each case
 //! its time, the compressions of SHA-256 that the standard's definition needs, and the ratio of its time to that of as
-//! many bare digests of 55 bytes, each the least of several rounds. For a tree that all processors build it prints the
+//! many bare digests of 55 bytes, each the least of several rounds. For trees that all processors build it prints the
 //! compressions a second, how many times those of one thread with bare digests they are, their share of those of a thread
 //! with bare digests on each processor at once, and how long it takes to start and join threads that do nothing.
 #![tactic(auto)]
@@ -10,13 +10,19 @@
 mod bench;
 mod build;
 mod case;
+mod compressions;
+mod hierarchy;
+mod hss_bench;
 mod measure;
+mod signed_level;
 #[cfg(test)]
 mod tests;
 
-use crate::bench::Bench;
+use crate::bench::{Bench, Timed};
 use crate::build::BUILDS;
 use crate::case::{CASES, SEED};
+use crate::hierarchy::{COVERED, VERIFIED};
+use crate::hss_bench::{Signing, Verification};
 use crate::measure::measure;
 use anyhow::{Result, bail};
 use std::env;
@@ -37,8 +43,14 @@ fn run_once(rt: &(impl Print + AllocGlobal + Threads + Sync)) -> Result<()> {
         let _value = Bench::new(case).run(SEED);
         println!(rt; "{case}")?;
     }
+    for hierarchy in VERIFIED {
+        Verification::new(rt, rt.alloc(), hierarchy)?.repeat(1)?;
+        println!(rt; "verify {hierarchy}")?;
+    }
+    Signing::new(rt, rt.alloc(), COVERED)?.repeat(1)?;
+    println!(rt; "Forest::sign {COVERED}")?;
     for build in BUILDS {
-        let _public = build.run(rt, rt.alloc())?;
+        build.run(rt, rt.alloc())?;
         println!(rt; "{build}")?;
     }
     Ok(())

@@ -1,7 +1,9 @@
 //! The timing.
-use crate::bench::Bench;
+use crate::bench::{Bench, Timed};
 use crate::build::{BUILDS, Build};
-use crate::case::{CASES, Case, SEED};
+use crate::case::CASES;
+use crate::hierarchy::{COVERED, VERIFIED};
+use crate::hss_bench::{Signing, Verification};
 use anyhow::Result;
 use rayon::prelude::*;
 use sha2::{Digest, Sha256};
@@ -16,28 +18,44 @@ const COMPRESSIONS_A_ROUND: u64 = 1 << 16;
 
 /// Times each case and each build.
 pub fn measure(rt: &(impl Print + AllocGlobal + Clock + CpuClock + Threads + Sync)) -> Result<()> {
-    measure_cases(rt)?;
+    for case in CASES {
+        print!(rt; "{case}")?;
+        measure_timed(rt, case.compressions(), &mut Bench::new(case))?;
+    }
+    for hierarchy in VERIFIED {
+        let mut verification = Verification::new(rt, rt.alloc(), hierarchy)?;
+        print!(rt; "verify {hierarchy}")?;
+        measure_timed(
+            rt,
+            verification.compressions(rt.alloc())?,
+            &mut verification,
+        )?;
+    }
+    let mut signing = Signing::new(rt, rt.alloc(), COVERED)?;
+    print!(rt; "Forest::sign {COVERED}")?;
+    measure_timed(rt, signing.compressions(rt.alloc())?, &mut signing)?;
     for build in BUILDS {
         measure_build(rt, build)?;
     }
     Ok(())
 }
 
-/// Prints for each case its time, its compressions, and the ratio of its time to that of bare digests.
-fn measure_cases(rt: &(impl Print + CpuClock)) -> Result<()> {
-    for case in CASES {
-        let compressions = case.compressions();
-        let runs = COMPRESSIONS_A_ROUND / compressions.max(1) + 1;
-        let mut own = Duration::MAX;
-        let mut bare = Duration::MAX;
-        for _ in 0..ROUNDS {
-            own = own.min(time_case(rt, case, runs)?);
-            bare = bare.min(time_digests(rt, runs.saturating_mul(compressions))?);
-        }
-        let micros = own.as_secs_f64() * 1e6 / runs as f64;
-        let ratio = own.as_secs_f64() / bare.as_secs_f64();
-        println!(rt; "{case}: {micros:.1} us, {compressions} compressions, ratio {ratio:.3}")?;
+/// Prints the time of a run, its compressions, and the ratio of its time to that of bare digests.
+fn measure_timed<T: Timed>(
+    rt: &(impl Print + CpuClock),
+    compressions: u64,
+    timed: &mut T,
+) -> Result<()> {
+    let runs = COMPRESSIONS_A_ROUND / compressions.max(1) + 1;
+    let mut own = Duration::MAX;
+    let mut bare = Duration::MAX;
+    for _ in 0..ROUNDS {
+        own = own.min(time_runs(rt, timed, runs)?);
+        bare = bare.min(time_digests(rt, runs.saturating_mul(compressions))?);
     }
+    let micros = own.as_secs_f64() * 1e6 / runs as f64;
+    let ratio = own.as_secs_f64() / bare.as_secs_f64();
+    println!(rt; ": {micros:.1} us, {compressions} compressions, ratio {ratio:.3}")?;
     Ok(())
 }
 
@@ -47,6 +65,7 @@ fn measure_build(
     rt: &(impl Print + AllocGlobal + Clock + CpuClock + Threads + Sync),
     build: Build,
 ) -> Result<()> {
+    let compressions = build.compressions(rt, rt.alloc())?;
     let mut own = Duration::MAX;
     let mut bare = Duration::MAX;
     let mut at_once = Duration::MAX;
@@ -54,10 +73,10 @@ fn measure_build(
     for _ in 0..ROUNDS {
         own = own.min(time_build(rt, build)?);
         bare = bare.min(time_digests(rt, COMPRESSIONS_A_ROUND)?);
-        at_once = at_once.min(time_digests_at_once(rt, build.compressions())?);
+        at_once = at_once.min(time_digests_at_once(rt, compressions)?);
         nothing = nothing.min(time_digests_at_once(rt, 0)?);
     }
-    let rate = build.compressions() as f64 / own.as_secs_f64();
+    let rate = compressions as f64 / own.as_secs_f64();
     let threads = rate * bare.as_secs_f64() / COMPRESSIONS_A_ROUND as f64;
     let share = at_once.as_secs_f64() / own.as_secs_f64();
     let micros = nothing.as_secs_f64() * 1e6;
@@ -70,7 +89,7 @@ fn measure_build(
 /// The time of a build.
 fn time_build(rt: &(impl AllocGlobal + Clock + Threads + Sync), build: Build) -> Result<Duration> {
     let start = Instant::now(rt)?;
-    let _public = build.run(rt, rt.alloc())?;
+    build.run(rt, rt.alloc())?;
     Ok(start.elapsed(rt)?)
 }
 
@@ -96,17 +115,11 @@ fn time_digests_at_once(
     Ok(time)
 }
 
-/// The processor time of so many runs of a case.
-fn time_case(clock: &impl CpuClock, case: Case, runs: u64) -> Result<Duration> {
-    let mut bench = Bench::new(case);
-    let mut value = SEED;
+/// The processor time of so many runs.
+fn time_runs<T: Timed>(clock: &impl CpuClock, timed: &mut T, runs: u64) -> Result<Duration> {
     let start = clock.thread_cpu_time()?;
-    for _ in 0..runs {
-        value = bench.run(value);
-    }
-    let time = clock.thread_cpu_time()?.saturating_sub(start);
-    anyhow::ensure!(value != SEED, "a run gave back its seed");
-    Ok(time)
+    timed.repeat(runs)?;
+    Ok(clock.thread_cpu_time()?.saturating_sub(start))
 }
 
 /// The processor time of so many digests of 55 bytes, each a single compression.

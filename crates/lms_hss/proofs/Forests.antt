@@ -13,11 +13,14 @@ use Rattle.lms_spec.proofs.Below.{concat-below-suc}
 use Rattle.lms_spec.proofs.Hierarchies.{level-lms}
 use Rattle.lms_spec.proofs.Places.{height-more}
 use Rattle.lms_tree.specs.TreeKey.{tree_of}
+use Rattle.lms_params.specs.declared.lms_type.LmsType.{LmsType}
+use Rattle.lms_params.specs.declared.ots_type.OtsType.{OtsType}
+use Rattle.lms_hss.specs.Levels.{level_of}
 use Rattle.lms_hss.specs.declared.key.HssKey.{HssKey as KeyOfCode}
 use Rattle.lms_hss.specs.declared.level_trees.LevelTrees.{LevelTrees}
 use Rattle.lms_hss.specs.declared.signed_tree.SignedTree.{SignedTree}
-use Rattle.lms_hss.specs.Keys.{hss_key_of}
-use Rattle.lms_hss.specs.Forests.{tree_number, signature_head, IsSignedTree, HoldsTrees, HoldsLevel, HoldsBottom}
+use Rattle.lms_hss.specs.Keys.{hss_key_of, tree_number}
+use Rattle.lms_hss.specs.Forests.{signature_head, IsChild, IsSignedTree, HoldsTrees, HoldsBottom}
 
 -- the tree above a tree, by their numbers
 pub number-above : (key : HssKey) (g k : ℕ) → k < length key.levels
@@ -55,89 +58,57 @@ above-to key k g n there to =
 pub top-number : (key : HssKey) (g : ℕ) → g < capacity_of key → tree_number key g 0 ≡ 0
 top-number key g low = div-eq_of_lt low
 
-pub holds-top : (key : HssKey) (start last : ℕ) (tree : SignedTree) → start < capacity_of key → last < capacity_of key
-    → IsSignedTree key 0 0 tree → HoldsTrees key 0 0 (tree_number key last 0 + 1) (tree ∷ [])
-holds-top key start last tree first end is =
-    let zero-last = top-number key last end in
-    record {
-      count = omega (arith, zero-last);
-      each = λ g other from to.
-          let here : tree_number key g 0 - 0 ≡ 0 = omega (arith, zero-last) in
-          let same : get_or (tree ∷ []) (tree_number key g 0 - 0) other ≡ tree = ap (λ i. get_or (tree ∷ []) i other) here in
-          subst (IsSignedTree key g 0) (sym same) record { tree = is.tree; head = is.head };
-    }
-
 -- the tree that stands below a leaf
 tree-below : (key : HssKey) (g k : ℕ) → tree_at key g (k + 1) ≡ child (tree_at key g k) (leaf_at key g k) (level_at key (k + 1))
 tree-below key g k =
     let next : suc k ≡ k + 1 = omega arith in
     subst (λ n. tree_at key g n ≡ child (tree_at key g k) (leaf_at key g k) (level_at key n)) next refl
 
--- the tree below a leaf, signed by it
-pub signed-child : (key : HssKey) (g k q : ℕ) (parent tree : SignedTree) → IsSignedTree key g k parent → q ≡ leaf_at key g k
-    → tree_of tree.tree ≡ child (tree_of parent.tree) q (level_at key (k + 1))
-    → tree.head.items ≡ parent.head.items
-    ++ lms_signature (tree_of parent.tree) q (derived (tree_of parent.tree) q for_randomizer) (public_key_of (tree_of tree.tree))
-    ++ public_key_of (tree_of tree.tree)
-    → IsSignedTree key g (k + 1) tree
+-- the tree below the leaf that an index goes through
+pub signed-child : (key : HssKey) (g k q : ℕ) (sets : LmsType × OtsType) (parent tree : SignedTree) → IsSignedTree key g k parent → q ≡ leaf_at key g k
+    → level_of sets ≡ level_at key (k + 1) → IsChild parent q sets tree → IsSignedTree key g (k + 1) tree
 unfolding signed_key
-signed-child key g k q parent tree is leaf made head =
+signed-child key g k q sets parent tree is leaf at made =
     let count = u32str (length key.levels - 1) in
     let before = concat (map (signed_key key g) (below k)) in
-    let here : tree_of tree.tree ≡ tree_at key g (k + 1) = made ∙ (ap₂ (λ t q. child t q (level_at key (k + 1))) is.tree leaf ∙ sym (tree-below key g k)) in
+    let signed : Tree → ℕ → Tree → List ℕ = λ t q next. lms_signature t q (derived t q for_randomizer) (public_key_of next) in
+    let here : tree_of tree.tree ≡ tree_at key g (k + 1)
+    = made.tree
+    ∙ (ap (child (tree_of parent.tree) q) at
+    ∙ (ap₂ (λ t q. child t q (level_at key (k + 1))) is.tree leaf ∙ sym (tree-below key g k))) in
     let parts : tree.head.items ≡ (count ++ before) ++ signed_key key g k
-    = head
-    ∙ (ap₂ (λ xs t. xs ++ lms_signature t q (derived t q for_randomizer) (public_key_of (tree_of tree.tree)) ++ public_key_of (tree_of tree.tree)) is.head is.tree
-    ∙ (ap₂ (λ q next. (count ++ before) ++ lms_signature (tree_at key g k) q (derived (tree_at key g k) q for_randomizer) (public_key_of next) ++ public_key_of next) leaf here
-    ∙ append_assoc (count ++ before) (lms_signature (tree_at key g k) (leaf_at key g k) (derived (tree_at key g k) (leaf_at key g k) for_randomizer) (public_key_of (tree_at key g (k + 1)))) (public_key_of (tree_at key g (k + 1))))) in
+    = made.head
+    ∙ (ap₂ (λ head t. head ++ signed t q (tree_of tree.tree) ++ public_key_of (tree_of tree.tree)) is.head is.tree
+    ∙ (ap₂ (λ q next. (count ++ before) ++ signed (tree_at key g k) q next ++ public_key_of next) leaf here
+    ∙ append_assoc (count ++ before) (signed (tree_at key g k) (leaf_at key g k) (tree_at key g (k + 1))) (public_key_of (tree_at key g (k + 1))))) in
     record {
       tree = here;
       head = parts ∙ (append_assoc count before (signed_key key g k) ∙ ap (λ text. count ++ text) (sym (concat-below-suc (signed_key key g) k)));
     }
 
 -- one more tree of a level
-pub holds-more : (key : HssKey) (k first n : ℕ) (trees : List SignedTree) (tree : SignedTree) → HoldsTrees key k first n trees → first ≤ n
-    → ((g : ℕ) → tree_number key g k ≡ n → IsSignedTree key g k tree) → HoldsTrees key k first (n + 1) (trees ++ tree ∷ [])
-holds-more key k first n trees tree held order is =
-    record {
-      count = omega (arith, held.count, length-append trees (tree ∷ []));
-      each = λ g other from to.
-          let number = tree_number key g k in
-          ⊎_elim
-          (λ e. let place : number - first ≡ length trees = omega (arith, held.count) in
-          let same : get_or (trees ++ tree ∷ []) (number - first) other ≡ tree
-          = ap (λ i. get_or (trees ++ tree ∷ []) i other) place ∙ get_or-append_seam trees tree [] other in
-          subst (IsSignedTree key g k) (sym same) (is g e))
-          (λ lt. let same = get_or_append_left trees (tree ∷ []) other (number - first) (omega (arith, held.count)) in
-          subst (IsSignedTree key g k) (sym same) (held.each g other from lt))
-          (eq-or-lt_of_le {n = number} {m = n} (omega arith));
-    }
-
--- that tree n of the next level is one of those that the indices from `start` to `last` go through
-pub record IsBetween (key : HssKey) (k start last n : ℕ) : Type 0 where
-  pub there : k < length key.levels
-  pub from : tree_number key start (k + 1) ≤ n
-  pub to : n ≤ tree_number key last (k + 1)
-
-pub parent-from : (key : HssKey) (k start last n : ℕ) (level : LevelTrees) → IsBetween key k start last n → HoldsLevel key k start last level
-    → level.first ≤ n / 2 ^ (level_at key k).lms.h
-parent-from key k start last n level between held = omega (arith, held.first, above-from key k start n between.there between.from)
-
-pub parent-to : (key : HssKey) (k start last n : ℕ) (level : LevelTrees) → IsBetween key k start last n → HoldsLevel key k start last level
-    → n / 2 ^ (level_at key k).lms.h < level.first + length level.trees.items
-parent-to key k start last n level between held = omega (arith, held.held.count, above-to key k last n between.there between.to)
+pub holds-more : (key : HssKey) (k first n : ℕ) (trees : List SignedTree) (tree : SignedTree) → HoldsTrees key k first trees → first + length trees ≡ n
+    → ((g : ℕ) → tree_number key g k ≡ n → IsSignedTree key g k tree) → HoldsTrees key k first (trees ++ tree ∷ [])
+holds-more key k first n trees tree held count is g other from to =
+    let number = tree_number key g k in
+    ⊎_elim
+    (λ e. let place : number - first ≡ length trees = omega (arith, count) in
+    let same : get_or (trees ++ tree ∷ []) (number - first) other ≡ tree
+    = ap (λ i. get_or (trees ++ tree ∷ []) i other) place ∙ get_or-append_seam trees tree [] other in
+    subst (IsSignedTree key g k) (sym same) (is g e))
+    (λ lt. let same = get_or_append_left trees (tree ∷ []) other (number - first) (omega (arith, count)) in
+    subst (IsSignedTree key g k) (sym same) (held g other from (omega (arith, count))))
+    (eq-or-lt_of_le {n = number} {m = n} (omega (arith, count, length-append trees (tree ∷ []))))
 
 -- the tree above tree n of the next level
-pub parent-is : (key : HssKey) (k start last n p : ℕ) (level : LevelTrees) (parent : SignedTree)
-    → IsBetween key k start last n → HoldsLevel key k start last level → p ≡ n / 2 ^ (level_at key k).lms.h
-    → parent ≡ get_or level.trees.items (p - level.first) parent
+pub parent-is : (key : HssKey) (k n p first : ℕ) (trees : List SignedTree) (parent : SignedTree)
+    → k < length key.levels → HoldsTrees key k first trees → p ≡ n / 2 ^ (level_at key k).lms.h → first ≤ p → p < first + length trees
+    → parent ≡ get_or trees (p - first) parent
     → (g : ℕ) → tree_number key g (k + 1) ≡ n → IsSignedTree key g k parent
-parent-is key k start last n p level parent between held at found g e =
-    let same : tree_number key g k ≡ p = sym (number-above key g k between.there) ∙ (ap (λ m. m / 2 ^ (level_at key k).lms.h) e ∙ sym at) in
-    let from = parent-from key k start last n level between held in
-    let to = parent-to key k start last n level between held in
-    let here = held.held.each g parent (omega (arith, same, at, from)) (omega (arith, same, at, to, held.held.count)) in
-    subst (IsSignedTree key g k) (sym found) (subst (λ m. IsSignedTree key g k (get_or level.trees.items (m - level.first) parent)) same here)
+parent-is key k n p first trees parent there held at from to found g e =
+    let same : tree_number key g k ≡ p = sym (number-above key g k there) ∙ (ap (λ m. m / 2 ^ (level_at key k).lms.h) e ∙ sym at) in
+    let here = held g parent (omega (arith, same, from)) (omega (arith, same, to)) in
+    subst (IsSignedTree key g k) (sym found) (subst (λ m. IsSignedTree key g k (get_or trees (m - first) parent)) same here)
 
 -- a leaf that an index goes through is a leaf of its tree
 pub leaf-in-tree : (key : HssKey) (g k q : ℕ) (tree : SignedTree) → IsSignedTree key g k tree → q ≡ leaf_at key g k
@@ -146,6 +117,13 @@ leaf-in-tree key g k q tree is leaf =
     let height = ap (λ (t : Tree). t.lms.h) is.tree ∙ ap (λ (m : LmsSet). m.h) (level-lms key g k) in
     let low : leaf_at key g k < 2 ^ (level_at key k).lms.h = mod_below _ (2 ^ (level_at key k).lms.h) (pow_pos (level_at key k).lms.h) in
     subst (λ h. q < 2 ^ h) (sym height) (subst (λ q. q < 2 ^ (level_at key k).lms.h) (sym leaf) low)
+
+-- the bottom tree of an index that is covered is among those held
+pub bottom-to : (key : KeyOfCode) (start len g : ℕ) (bottom : LevelTrees) → HoldsBottom key start len bottom → g < start + len
+    → tree_number (hss_key_of key) g (length key.levels - 1) < bottom.first + length bottom.trees.items
+bottom-to key start len g bottom held to =
+    let k = length key.levels - 1 in
+    omega (arith, held.level.count, number-order (hss_key_of key) k g (start + (len - 1)) (omega (arith, held.some_index)))
 
 -- the bottom tree of an index that is covered
 pub bottom-is : (key : KeyOfCode) (start len g : ℕ) (bottom : LevelTrees) (tree : SignedTree) → HoldsBottom key start len bottom
@@ -156,9 +134,8 @@ bottom-is key start len g bottom tree held from to found =
     let whole = hss_key_of key in
     let k = length key.levels - 1 in
     let after = number-order whole k start g from in
-    let before = number-order whole k g (start + (len - 1)) (omega (arith, held.some_index)) in
     subst (IsSignedTree whole g k) (sym found)
-    (held.level.held.each g tree (omega (arith, held.level.first, after)) (omega (arith, before)))
+    (held.level.held g tree (omega (arith, held.level.first, after)) (bottom-to key start len g bottom held to))
 
 -- what the bottom tree of an index signs is the signature by that index
 pub signature-is : (key : HssKey) (g k q : ℕ) (tree : SignedTree) (randomizer message : List ℕ) → IsSignedTree key g k tree → k ≡ length key.levels - 1

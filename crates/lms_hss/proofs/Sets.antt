@@ -1,12 +1,11 @@
 -- The sets of one level.
-use Rattle.std.proofs.Common.{ℕ, ◌≡◌, ◌<◌, List, length, get_or, sym, ◌∙◌}
+use Rattle.std.proofs.Common.{ℕ, ◌≡◌, ◌<◌, List, length, get_or, sym, ◌∙◌, arith}
 use Rattle.std.proofs.Math.ListN.{get_or-map}
 use Rattle.std.proofs.lemmas.List.{get_or_default, length-map}
 use Rattle.lms_spec.specs.Hss.{no_level}
 use Rattle.lms_params.specs.declared.lms_type.LmsType.{LmsType}
 use Rattle.lms_params.specs.declared.ots_type.OtsType.{OtsType}
 use Rattle.lms_hss.specs.Levels.{level_of, levels_of}
-use Rattle.std.proofs.Common.{arith}
 
 -- the sets of level k of a key
 pub level-there : (levels : List (LmsType × OtsType)) (k : ℕ) (other : LmsType × OtsType) → k < length levels

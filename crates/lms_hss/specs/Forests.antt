@@ -1,17 +1,17 @@
 -- The trees that a range of indices goes through, and what stands above them.
-use Rattle.std.specs.Prelude.{ℕ, ◌≡◌, ◌+◌, ◌-◌, ◌/◌, ◌^◌, ◌<◌, ◌≤◌, List, ◌++◌, length, map, drop, slice_index_or}
+use Rattle.std.specs.Prelude.{ℕ, ◌≡◌, ◌+◌, ◌-◌, ◌<◌, ◌≤◌, List, ◌++◌, length, map, slice_index_or}
 use Rattle.std.specs.List.{concat}
 use Rattle.lms_spec.specs.Bytes.{below, u32str}
-use Rattle.lms_spec.specs.Hss.{HssKey, height_of, capacity_of, tree_at, signed_key}
+use Rattle.lms_spec.specs.Hss.{HssKey, tree_at, signed_key, child, derived, for_randomizer}
+use Rattle.lms_spec.specs.Tree.{lms_signature, public_key_of}
+use Rattle.lms_params.specs.declared.lms_type.LmsType.{LmsType}
+use Rattle.lms_params.specs.declared.ots_type.OtsType.{OtsType}
 use Rattle.lms_tree.specs.TreeKey.{tree_of}
-use Rattle.lms_hss.specs.Keys.{hss_key_of}
+use Rattle.lms_hss.specs.Levels.{level_of}
+use Rattle.lms_hss.specs.Keys.{hss_key_of, tree_number}
 use Rattle.lms_hss.specs.declared.key.HssKey.{HssKey as KeyOfCode}
 use Rattle.lms_hss.specs.declared.level_trees.LevelTrees.{LevelTrees}
 use Rattle.lms_hss.specs.declared.signed_tree.SignedTree.{SignedTree}
-
--- the number of the tree of level k that index g goes through, counted in its level
-abbrev pub tree_number : HssKey → ℕ → ℕ → ℕ
-tree_number key g k = g / 2 ^ height_of (drop k key.levels)
 
 -- what a signature by index g has before level k's own (6.2)
 abbrev pub signature_head : HssKey → ℕ → ℕ → List ℕ
@@ -22,20 +22,27 @@ pub record IsSignedTree (key : HssKey) (g k : ℕ) (signed_tree : SignedTree) : 
   pub tree : tree_of signed_tree.tree ≡ tree_at key g k
   pub head : signed_tree.head.items ≡ signature_head key g k
 
--- the trees of level k from number `first` up to, not including, number `end`, in order
-pub record HoldsTrees (key : HssKey) (k first end : ℕ) (trees : List SignedTree) : Type 0 where
-  pub count : length trees + first ≡ end
-  pub each : (g : ℕ) (other : SignedTree) → first ≤ tree_number key g k → tree_number key g k < end
-      → IsSignedTree key g k (slice_index_or trees (tree_number key g k - first) other)
+-- the tree of these sets below leaf q of another, signed by that leaf
+pub record IsChild (parent : SignedTree) (q : ℕ) (sets : LmsType × OtsType) (signed_tree : SignedTree) : Type 0 where
+  pub tree : tree_of signed_tree.tree ≡ child (tree_of parent.tree) q (level_of sets)
+  pub head : signed_tree.head.items ≡ parent.head.items
+      ++ lms_signature (tree_of parent.tree) q (derived (tree_of parent.tree) q for_randomizer) (public_key_of (tree_of signed_tree.tree))
+      ++ public_key_of (tree_of signed_tree.tree)
+
+-- trees of level k side by side, from number `first` on
+abbrev pub HoldsTrees : HssKey → ℕ → ℕ → List SignedTree → Type 0
+HoldsTrees key k first trees =
+    (g : ℕ) (other : SignedTree) → first ≤ tree_number key g k → tree_number key g k < first + length trees
+    → IsSignedTree key g k (slice_index_or trees (tree_number key g k - first) other)
 
 -- the trees of level k that the indices from `start` to `last` go through
 pub record HoldsLevel (key : HssKey) (k start last : ℕ) (level : LevelTrees) : Type 0 where
   pub first : level.first ≡ tree_number key start k
-  pub held : HoldsTrees key k level.first (tree_number key last k + 1) level.trees.items
+  pub count : level.first + length level.trees.items ≡ tree_number key last k + 1
+  pub held : HoldsTrees key k level.first level.trees.items
 
 -- the trees of the bottom level that the `len` indices from `start` on go through
 pub record HoldsBottom (key : KeyOfCode) (start len : ℕ) (bottom : LevelTrees) : Type 0 where
   pub id_length : length key.i ≡ 16
   pub some_index : 1 ≤ len
-  pub within : start + len ≤ capacity_of (hss_key_of key)
   pub level : HoldsLevel (hss_key_of key) (length key.levels - 1) start (start + (len - 1)) bottom

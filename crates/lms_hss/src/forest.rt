@@ -1,9 +1,8 @@
 //! The trees that a range of indices needs, and signatures from them.
 ghost use Rattle.std.specs.Prelude.{◌≡◌, ◌+◌, ◌-◌, ◌≤◌, ◌↔◌, length, IsTrue, IfOk};
-ghost use Rattle.lms_spec.specs.Hss.{capacity_of, leaf_at, hss_signature, hss_public_key, HssAccepts};
+ghost use Rattle.lms_spec.specs.Hss.{capacity_of, hss_signature, hss_public_key, HssAccepts};
 ghost use Rattle.lms_hss.specs.Keys.{hss_key_of};
 ghost use Rattle.lms_hss.specs.Covered.{IsCovered};
-ghost use Rattle.lms_hss.specs.Levels.{IsAdmitted};
 ghost use Rattle.lms_hss.specs.Forests.{IsSignedTree};
 
 use crate::key::HssKey;
@@ -75,27 +74,25 @@ impl Forest {
         g >= self.start && g - self.start < self.len
     }
 
-    /// Signs a message with index g, which is covered, under the randomizer `c` (RFC 8554, 6.2). `OutOfMemory` where the one
+    /// The signature of a message by index g, which is covered, under the randomizer `c` (RFC 8554, 6.2): `HssKey::sig_len`
+    /// bytes. An index must sign one message only, and nothing here keeps a caller from more. `OutOfMemory` where the one
     /// request for memory, the signature's, is refused: no part of a signature exists then.
     pub fn sign(&self, g: u64, c: &[u8; 32], msg: &[u8]) -> Result<Vec<u8>, OutOfMemory>
         requires { IsCovered self.now g }
         ensures signature { IfOk result (λ text. text.items ≡ hss_signature (hss_key_of self.now.key) g c.now msg.now) }
         ensures accepted { IfOk result (λ text. HssAccepts (hss_public_key (hss_key_of self.now.key)) msg.now text.items) }
     {
-        let (tree, leaf) = self.signer(g);
-        tree.signed(self.alloc, leaf, c, msg)
+        let bottom = self.key.levels.as_slice().len() - 1;
+        let tree = self.bottom_tree(g, bottom);
+        tree.signed(self.alloc, self.key.place(g, bottom), c, msg)
     }
 
-    /// The bottom tree that index g goes through, and the leaf of it.
-    fn signer(&self, g: u64) -> (&SignedTree, u32)
-        requires { IsCovered self.now g }
-        ensures tree { IsSignedTree (hss_key_of self.now.key) g (length self.now.key.levels - 1) result.0.now }
-        ensures leaf { result.1 ≡ leaf_at (hss_key_of self.now.key) g (length self.now.key.levels - 1) }
-        ensures admitted { IsAdmitted self.now.key.levels }
-        ensures id { length self.now.key.i ≡ 16 }
+    /// The tree of the bottom level that index g goes through.
+    fn bottom_tree(&self, g: u64, bottom: usize) -> &SignedTree
+        requires covered { IsCovered self.now g }
+        requires bottom { bottom ≡ length self.now.key.levels - 1 }
+        ensures { IsSignedTree (hss_key_of self.now.key) g bottom result.now }
     {
-        let bottom = self.key.levels.as_slice().len() - 1;
-        let number = self.key.tree_number(g, bottom);
-        (self.bottom.tree(number), self.key.place(g, bottom))
+        self.bottom.tree(self.key.tree_number(g, bottom))
     }
 }

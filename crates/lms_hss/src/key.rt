@@ -4,7 +4,7 @@ ghost use Rattle.lms_spec.specs.Bytes.{below, u32str};
 ghost use Rattle.lms_spec.specs.Hss.{height_of, hss_signature_length, hss_public_key, capacity_of, leaf_at, tree_at, level};
 ghost use Rattle.lms_tree.specs.TreeKey.{tree_of};
 ghost use Rattle.lms_hss.specs.Levels.{levels_of};
-ghost use Rattle.lms_hss.specs.Keys.{hss_key_of};
+ghost use Rattle.lms_hss.specs.Keys.{hss_key_of, tree_number as number_of};
 
 use crate::levels::Levels;
 use crate::verification::KEY_LEN;
@@ -92,12 +92,11 @@ impl HssKey {
 
     /// The leaf of level k's tree that index g goes through.
     pub(crate) fn place(&self, g: u64, k: usize) -> u32
-        requires few { length self.now.levels ≤ 8 }
-        requires there { k < length self.now.levels }
+        requires { k < length self.now.levels }
         ensures { result ≡ leaf_at (hss_key_of self.now) g k }
     {
-        let (_, leaf) = self.parent(self.tree_number(g, k + 1), k);
-        leaf
+        let (lms, _) = self.levels.as_slice()[k];
+        (self.tree_number(g, k + 1) % (1 << lms.height())) as u32
     }
 
     /// The number of the tree of level k that stands above tree `number` of the next level, and the leaf of it that does.
@@ -115,7 +114,7 @@ impl HssKey {
     /// levels, the index itself.
     pub(crate) fn tree_number(&self, g: u64, k: usize) -> u64
         requires { k ≤ length self.now.levels }
-        ensures { result ≡ g / 2 ^ height_of (drop k (levels_of self.now.levels)) }
+        ensures { result ≡ number_of (hss_key_of self.now) g k }
     {
         g >> self.levels.height_from(k)
     }

@@ -1,12 +1,10 @@
 //! A tree of a hierarchy, with what the levels above it sign.
 ghost use Rattle.std.specs.Prelude.{◌≡◌, ◌+◌, ◌^◌, ◌<◌, ◌++◌, length, IfOk};
 ghost use Rattle.lms_spec.specs.Parameters.{lms_signature_length};
-ghost use Rattle.lms_spec.specs.Tree.{lms_signature, public_key_of};
-ghost use Rattle.lms_spec.specs.Hss.{child as child_of, derived, for_randomizer};
+ghost use Rattle.lms_spec.specs.Tree.{lms_signature};
 ghost use Rattle.lms_tree.specs.TreeKey.{tree_of};
-ghost use Rattle.lms_hss.specs.Levels.{level_of};
 ghost use Rattle.lms_hss.specs.Keys.{hss_key_of};
-ghost use Rattle.lms_hss.specs.Forests.{IsSignedTree};
+ghost use Rattle.lms_hss.specs.Forests.{IsChild, IsSignedTree};
 
 use crate::child_key::{child_key, randomizer};
 use crate::key::HssKey;
@@ -47,10 +45,7 @@ impl SignedTree {
         sets: (LmsType, OtsType),
     ) -> Result<Self, OutOfMemory>
         requires { q < 2 ^ (tree_of self.now.tree).lms.h }
-        ensures tree { IfOk result (λ s. tree_of s.tree ≡ child_of (tree_of self.now.tree) q (level_of sets)) }
-        ensures head { IfOk result (λ s. s.head.items ≡ self.now.head.items
-            ++ lms_signature (tree_of self.now.tree) q (derived (tree_of self.now.tree) q for_randomizer) (public_key_of (tree_of s.tree))
-            ++ public_key_of (tree_of s.tree)) }
+        ensures { IfOk result (IsChild self.now q sets) }
     {
         let key = self.tree.key();
         let tree = WholeTree::build(rt, alloc, child_key(&key, q, sets))?;

@@ -1,5 +1,4 @@
 -- What an `LmsType` means.
-use Rattle.std.specs.Prelude.{◌≤◌}
 use Rattle.lms_spec.specs.Parameters.{LmsSet, lms_h5, lms_h10, lms_h15, lms_h20, lms_h25}
 use Rattle.lms_params.specs.declared.lms_type.LmsType.{LmsType}
 use Rattle.lms_params.specs.declared.lms_type.LmsType.TheVariants.{H5, H10, H15, H20, H25}
@@ -14,4 +13,8 @@ lms_set_of H25 = lms_h25
 
 -- the signer takes trees of this height
 abbrev pub IsSigned : LmsType → Type 0
-IsSigned t = (lms_set_of t).h ≤ 15
+IsSigned H5 = Unit {0}
+IsSigned H10 = Unit {0}
+IsSigned H15 = Unit {0}
+IsSigned H20 = ⊥
+IsSigned H25 = ⊥

@@ -61,7 +61,7 @@ impl LmsType {
     pub fn is_signed(self) -> bool
         ensures { IsTrue result ↔ IsSigned self }
     {
-        self.height() <= 15
+        matches!(self, LmsType::H5 | LmsType::H10 | LmsType::H15)
     }
 }
 

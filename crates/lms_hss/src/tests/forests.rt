@@ -95,10 +95,10 @@ fn signs_as_another_implementation(rt: HostRuntime) -> Result<(), Fail> {
     Ok(())
 }
 
-/// `rt test` refuses no memory. `rt try --test --fail-alloc N` refuses one request of those that `cover` and `sign` make
-/// here, for each N from 1 on, and the second call works.
+/// `rt test` refuses no memory. `rt try --test --fail-alloc N` refuses one request of those that are made here, for each N
+/// from 1 to 16, and the second call works.
 #[test]
-fn signs_after_refused_memory(rt: HostRuntime) -> Result<(), Fail> {
+fn works_after_refused_memory(rt: HostRuntime) -> Result<(), Fail> {
     let key = key_of(&[(LmsType::H5, OtsType::W1); 2])?;
     assert!(rt; key.capacity() == 1024);
     let forest = match Forest::cover(&rt, rt.alloc(), key, 31, 2) {
@@ -110,6 +110,11 @@ fn signs_after_refused_memory(rt: HostRuntime) -> Result<(), Fail> {
         Ok(signature) => signature,
         Err(OutOfMemory) => forest.sign(32, &RANDOMIZER, b"abc")?,
     };
-    assert_eq!(rt; signature.len(), key.sig_len());
+    let public = match key.public_key(&rt, rt.alloc()) {
+        Ok(public) => public,
+        Err(OutOfMemory) => key.public_key(&rt, rt.alloc())?,
+    };
+    assert!(rt; verify(&public, b"abc", &signature));
+    assert!(rt; !verify(&public, b"abd", &signature));
     Ok(())
 }

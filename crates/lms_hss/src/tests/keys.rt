@@ -1,6 +1,6 @@
 use crate::tests::{LEVEL, THREE_LEVELS, key_of, slow_key};
 use crate::{KeyFault, Levels};
-use lms_params::{LmsType, OtsType, OutOfMemory};
+use lms_params::{LmsType, OtsType};
 use lms_slow::slow_public;
 use std::test::Fail;
 
@@ -86,14 +86,9 @@ fn knows_the_places_of_an_index(rt: HostRuntime) -> Result<(), Fail> {
     Ok(())
 }
 
-/// `rt test` refuses no memory. With `rt try --test --fail-alloc 1` the first call here is refused, and the second works.
 #[test]
-fn makes_public_keys_after_refused_memory(rt: HostRuntime) -> Result<(), Fail> {
-    let key = key_of(&THREE_LEVELS)?;
-    let public = match key.public_key(&rt, rt.alloc()) {
-        Ok(public) => public,
-        Err(OutOfMemory) => key.public_key(&rt, rt.alloc())?,
-    };
+fn makes_the_public_key(rt: HostRuntime) -> Result<(), Fail> {
+    let public = key_of(&THREE_LEVELS)?.public_key(&rt, rt.alloc())?;
     let slow = slow_public(rt.alloc(), &slow_key(&THREE_LEVELS))?;
     assert_eq!(rt; public.as_slice(), slow.as_slice());
     Ok(())

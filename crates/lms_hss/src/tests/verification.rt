@@ -290,6 +290,7 @@ fn takes_the_sets_of_a_child_from_its_key(rt: HostRuntime) -> Result<(), Fail> {
     assert_eq!(rt; whole.signature.len(), 4 + 1292 + 56 + 9324);
     assert!(rt; verify(&whole.public, b"abc", &whole.signature));
     made.public = with_number(rt.alloc(), &made.public, 4, 10)?;
+    made.signature = with_number(rt.alloc(), &made.signature, 8524, 10)?;
     let whole = below_a_top(rt.alloc(), &made)?;
     assert!(rt;
         !verify(&whole.public, b"abc", &whole.signature),

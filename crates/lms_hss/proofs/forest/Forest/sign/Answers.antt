@@ -1,8 +1,9 @@
-use Rattle.std.proofs.Common.{◌≡◌, ◌-◌, length, sym, ◌∙◌, arith, subst}
+use Rattle.std.proofs.Common.{◌≡◌, ◌-◌, length, sym, ◌∙◌, ap, arith, subst}
 use Rattle.std.proofs.lemmas.List.{length-map}
 use Rattle.std.proofs.lemmas.Result.{IfOk-weaker}
-use Rattle.lms_spec.specs.Hss.{hss_public_key, HssAccepts}
-use Rattle.lms_hss.specs.Levels.{level_of}
+use Rattle.lms_spec.specs.Hss.{leaf_at, hss_public_key, HssAccepts}
+use Rattle.lms_hss.specs.declared.key.HssKey.{HssKey}
+use Rattle.lms_hss.specs.Levels.{level_of, IsAdmitted}
 use Rattle.lms_hss.specs.Keys.{hss_key_of}
 use Rattle.lms_hss.proofs.Keys.{key-accepts}
 use Rattle.lms_hss.proofs.Forests.{leaf-in-tree, signature-is}
@@ -10,20 +11,28 @@ use Rattle.lms_hss.proofs.forest.Forest.sign.Goals as goal
 
 pub signed-requires : goal.signed-requires
 signed-requires c =
-    let key = c.args.self.now.key in
-    leaf-in-tree (hss_key_of key) c.args.g (length key.levels - 1) c.signer-leaf.result.1 c.signer-leaf.result.0.now c.signer-leaf.ensures.tree c.signer-leaf.ensures.leaf
+    let key = ap (λ v. v.key) c.self.view_is in
+    let leaf = c.place.ensures ∙ ap (λ key. leaf_at (hss_key_of key) c.args.g (length c.as_slice.result.now - 1)) key in
+    leaf-in-tree (hss_key_of c.args.self.now.key) c.args.g (length c.as_slice.result.now - 1) c.place.result c.bottom_tree-tree.result.now c.bottom_tree-tree.ensures leaf
 
 pub returns-clause-signature : goal.returns-clause-signature
 returns-clause-signature c =
-    let key = c.args.self.now.key in
-    let bottom : length key.levels - 1 ≡ length (hss_key_of key).levels - 1 = omega (arith, length-map key.levels level_of) in
+    let key = ap (λ v. v.key) c.self.view_is in
+    let whole = c.args.self.now.key in
+    let k = length c.as_slice.result.now - 1 in
+    let leaf = c.place.ensures ∙ ap (λ key. leaf_at (hss_key_of key) c.args.g k) key in
+    let levels = c.as_slice.ensures.levels ∙ ap (λ (key : HssKey). key.levels) key in
+    let bottom : k ≡ length (hss_key_of whole).levels - 1 = omega (arith, length-map whole.levels level_of, ap length levels) in
     IfOk-weaker c.signed.result _ _
-    (λ text is. is ∙ signature-is (hss_key_of key) c.args.g (length key.levels - 1) c.signer-leaf.result.1 c.signer-leaf.result.0.now c.args.c.now c.args.msg.now
-    c.signer-leaf.ensures.tree bottom c.signer-leaf.ensures.leaf) c.signed.ensures
+    (λ text is. is ∙ signature-is (hss_key_of whole) c.args.g k c.place.result c.bottom_tree-tree.result.now c.args.c.now c.args.msg.now
+    c.bottom_tree-tree.ensures bottom leaf) c.signed.ensures
 
 pub returns-clause-accepted : goal.returns-clause-accepted
 returns-clause-accepted c =
-    let key = c.args.self.now.key in
+    let key = ap (λ v. v.key) c.self.view_is in
+    let whole = c.args.self.now.key in
+    let admitted = subst (λ (key : HssKey). IsAdmitted key.levels) key c.as_slice.ensures.admitted in
+    let sixteen = ap (λ (key : HssKey). length key.i) (sym key) ∙ c.self.invariant.id_length in
     IfOk-weaker c.signed.result _ _
-    (λ text is. subst (HssAccepts (hss_public_key (hss_key_of key)) c.args.msg.now) (sym is)
-    (key-accepts key c.args.g c.args.c.now c.args.msg.now c.signer-leaf.ensures.admitted c.signer-leaf.ensures.id c.told-c)) (returns-clause-signature c)
+    (λ text is. subst (HssAccepts (hss_public_key (hss_key_of whole)) c.args.msg.now) (sym is)
+    (key-accepts whole c.args.g c.args.c.now c.args.msg.now admitted sixteen c.told-c)) (returns-clause-signature c)

@@ -1,7 +1,10 @@
-use Rattle.std.proofs.Common.{◌+◌}
+use Rattle.std.proofs.Common.{◌≡◌, ◌+◌, length}
 use Rattle.lms_hss.specs.Keys.{hss_key_of}
 use Rattle.lms_hss.specs.Forests.{HoldsTrees}
 use Rattle.lms_hss.proofs.level_trees.LevelTrees.below.Given as goal
 
 abbrev pub invariant-loop-number : goal.invariant-loop-number
-invariant-loop-number g l = HoldsTrees (hss_key_of l.key) (l.k + 1) l.first l.number l.trees.items
+invariant-loop-number g l = record {
+  count : l.first + length l.trees.items ≡ l.number;
+  held : HoldsTrees (hss_key_of l.key) (l.k + 1) l.first l.trees.items;
+}

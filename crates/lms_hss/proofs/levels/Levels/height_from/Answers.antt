@@ -18,7 +18,7 @@ from-slice k sets levels same =
 part-height : (k : ℕ) (levels : List Level) → height_of (drop k levels) ≤ height_of levels
 part-height k levels =
     let f : Level → ℕ = λ l. l.lms.h in
-    let whole = sum_by-append f (take k levels) (drop k levels) ∙ refl in
+    let whole = sum_by-append f (take k levels) (drop k levels) in
     let all = ap height_of (take-append-drop k levels) in
     omega (arith, whole, all)
 

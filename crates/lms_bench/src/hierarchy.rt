@@ -1,0 +1,73 @@
+//! Keys of HSS, and signatures under them.
+ghost use Rattle.std.specs.Prelude.{◌<◌, IfOk};
+ghost use Rattle.lms_hss.specs.Covered.{IsCovered};
+
+use crate::case::{ID, MESSAGE, RANDOMIZER, SEED};
+use anyhow::Result;
+use lms_hss::{Forest, HssKey, Levels};
+use lms_params::{LmsType, OtsType};
+use std::alloc::Global;
+use std::fmt;
+use std::thread::Threads;
+
+/// The index that signs.
+pub const INDEX: u64 = 0;
+
+/// The levels of a key of HSS, from the top.
+#[derive(Clone, Copy)]
+pub struct Hierarchy {
+    pub levels: &'static [(LmsType, OtsType)],
+}
+
+/// Each key whose signatures are verified, in the order in which they are printed.
+pub const VERIFIED: [Hierarchy; 4] = [
+    Hierarchy {
+        levels: &[(LmsType::H5, OtsType::W8)],
+    },
+    Hierarchy {
+        levels: &[(LmsType::H10, OtsType::W4)],
+    },
+    Hierarchy {
+        levels: &[(LmsType::H5, OtsType::W8); 2],
+    },
+    Hierarchy {
+        levels: &[(LmsType::H5, OtsType::W8); 8],
+    },
+];
+
+/// The key whose trees are covered.
+pub const COVERED: Hierarchy = Hierarchy {
+    levels: &[(LmsType::H10, OtsType::W8); 2],
+};
+
+impl fmt::Display for Hierarchy {
+    fn fmt<W: fmt::Write>(&self, f: &mut fmt::Formatter<W>) -> fmt::Result {
+        let mut comma = "";
+        for (lms, ots) in self.levels {
+            write!(f, "{comma}{}/{}", lms.height(), ots.w())?;
+            comma = ",";
+        }
+        Ok(())
+    }
+}
+
+impl Hierarchy {
+    /// The key of these levels.
+    pub fn key(self) -> Result<HssKey> {
+        Ok(HssKey::new(Levels::new(self.levels)?, SEED, ID.i))
+    }
+
+    /// What signs `INDEX`.
+    pub fn forest(self, rt: &(impl Threads + Sync), alloc: Global) -> Result<Forest>
+        ensures { IfOk result (λ forest. IsCovered forest 0) }
+    {
+        Ok(Forest::cover(rt, alloc, self.key()?, INDEX, 1)?)
+    }
+}
+
+/// A signature of `MESSAGE` with `INDEX`.
+pub fn signature(forest: &Forest) -> Result<Vec<u8>>
+    requires { IsCovered forest.now 0 }
+{
+    Ok(forest.sign(INDEX, &RANDOMIZER, &MESSAGE)?)
+}
