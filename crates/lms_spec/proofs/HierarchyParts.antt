@@ -68,6 +68,15 @@ next-length : (count : ℕ) (public_key message signatures : List ℕ) → Accep
 next-length zero public_key message signatures a = (length-lms public_key message signatures a).0
 next-length (suc count) public_key message signatures (signature, next, rest, e, a, r) = (length-lms public_key next signature a).0
 
+-- how long an upper signature and the key that it signs are
+cut-lengths : (count : ℕ) (m : LmsSet) (t : OtsSet) (id root message signature next rest : List ℕ)
+    → lms_set m.code ≡ Some m → ots_set t.code ≡ Some t → length id ≡ 16
+    → LmsAccepts (lms_public_key m t id root) next signature → AcceptsThrough count next message rest
+    → (length signature ≡ lms_signature_length m t) × (length next ≡ 56)
+cut-lengths count m t id root message signature next rest km kt li a r =
+    let k = key-parts-same a.lms m a.ots t a.id id a.root root a.lms_known km a.ots_known kt a.id_length li (sym a.key_parts) in
+    ((length-lms (lms_public_key m t id root) next signature a).1 ∙ ap₂ lms_signature_length k.0 k.1, next-length count next message rest r)
+
 pub through-parts : (count : ℕ) (m : LmsSet) (t : OtsSet) (id root message signatures : List ℕ)
     → lms_set m.code ≡ Some m → ots_set t.code ≡ Some t → length id ≡ 16
     → AcceptsThrough (suc count) (lms_public_key m t id root) message signatures
@@ -75,9 +84,7 @@ pub through-parts : (count : ℕ) (m : LmsSet) (t : OtsSet) (id root message sig
     × AcceptsThrough count (take 56 (drop (lms_signature_length m t) signatures)) message (drop (lms_signature_length m t + 56) signatures)
 through-parts count m t id root message signatures km kt li (signature, next, rest, e, a, r) =
     let n = lms_signature_length m t in
-    let k = key-parts-same a.lms m a.ots t a.id id a.root root a.lms_known km a.ots_known kt a.id_length li (sym a.key_parts) in
-    let ls : length signature ≡ n = (length-lms (lms_public_key m t id root) next signature a).1 ∙ ap₂ lms_signature_length k.0 k.1 in
-    let ln = next-length count next message rest r in
+    let (ls, ln) = cut-lengths count m t id root message signature next rest km kt li a r in
     let nested = e ∙ append_assoc signature next rest in
     let first : take n signatures ≡ signature = ap (take n) nested ∙ take_at signature (next ++ rest) n ls in
     let second : take 56 (drop n signatures) ≡ next
@@ -94,7 +101,5 @@ pub through-length : (count : ℕ) (m : LmsSet) (t : OtsSet) (id root message si
     → AcceptsThrough (suc count) (lms_public_key m t id root) message signatures
     → lms_signature_length m t + 56 ≤ length signatures
 through-length count m t id root message signatures km kt li (signature, next, rest, e, a, r) =
-    let k = key-parts-same a.lms m a.ots t a.id id a.root root a.lms_known km a.ots_known kt a.id_length li (sym a.key_parts) in
-    let ls : length signature ≡ lms_signature_length m t
-    = (length-lms (lms_public_key m t id root) next signature a).1 ∙ ap₂ lms_signature_length k.0 k.1 in
-    omega (arith, ls, next-length count next message rest r, ap length e, length-append (signature ++ next) rest, length-append signature next)
+    let (ls, ln) = cut-lengths count m t id root message signature next rest km kt li a r in
+    omega (arith, ls, ln, ap length e, length-append (signature ++ next) rest, length-append signature next)

@@ -98,7 +98,7 @@ fn signs_as_another_implementation(rt: HostRuntime) -> Result<(), Fail> {
 /// `rt test` refuses no memory. `rt try --test --fail-alloc N` refuses one request of those that are made here, for each N
 /// from 1 to 16, and the second call works.
 #[test]
-fn works_after_refused_memory(rt: HostRuntime) -> Result<(), Fail> {
+fn covers_and_signs_after_refused_memory(rt: HostRuntime) -> Result<(), Fail> {
     let key = key_of(&[(LmsType::H5, OtsType::W1); 2])?;
     assert!(rt; key.capacity() == 1024);
     let forest = match Forest::cover(&rt, rt.alloc(), key, 31, 2) {
