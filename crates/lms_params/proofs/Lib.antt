@@ -1,3 +1,4 @@
 pub mod Filling
+pub mod Heights
 pub mod KnownSets
 pub mod Widths

@@ -1,4 +1,4 @@
-use crate::vectors::VECTORS;
+use crate::vectors::{VECTORS, Vector};
 use crate::{SlowKey, SlowTree, planted, slow_digits, slow_public, slow_sign};
 use hex::FromHex;
 use lms_params::{LmsType, OtsType};
@@ -7,26 +7,27 @@ use std::alloc::{AllocError, Global};
 use std::process::Abort;
 use std::test::Fail;
 
+/// The public key and the signature of a vector, made again byte for byte.
+fn check_vector(rt: &(impl Abort + AllocGlobal), vector: Vector) -> Result<(), Fail> {
+    let key = SlowKey {
+        levels: vector.levels,
+        seed: FromHex::from_hex(vector.seed)?,
+        id: FromHex::from_hex(vector.id)?,
+    };
+    assert!(rt; !key.levels.is_empty() && key.levels.len() <= 8);
+    let randomizer = FromHex::from_hex(vector.randomizer)?;
+    let public = slow_public(rt.alloc(), &key)?;
+    let message = vector.message.as_bytes();
+    let signature = slow_sign(rt.alloc(), &key, vector.index, &randomizer, message)?;
+    assert_eq!(rt; public, hex::decode(rt.alloc(), vector.public)?);
+    assert_eq!(rt; signature, hex::decode(rt.alloc(), vector.signature)?);
+    Ok(())
+}
+
 #[test]
 fn equals_another_implementation(rt: HostRuntime) -> Result<(), Fail> {
     for vector in VECTORS {
-        let key = SlowKey {
-            levels: vector.levels,
-            seed: FromHex::from_hex(vector.seed)?,
-            id: FromHex::from_hex(vector.id)?,
-        };
-        assert!(rt; !key.levels.is_empty() && key.levels.len() <= 8);
-        let randomizer = FromHex::from_hex(vector.randomizer)?;
-        let public = slow_public(rt.alloc(), &key)?;
-        let signature = slow_sign(
-            rt.alloc(),
-            &key,
-            vector.index,
-            &randomizer,
-            vector.message.as_bytes(),
-        )?;
-        assert_eq!(rt; public, hex::decode(rt.alloc(), vector.public)?);
-        assert_eq!(rt; signature, hex::decode(rt.alloc(), vector.signature)?);
+        check_vector(&rt, vector)?;
     }
     Ok(())
 }

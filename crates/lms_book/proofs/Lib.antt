@@ -1,0 +1,11 @@
+pub mod Faultless
+pub mod Faults
+pub mod Fields
+pub mod Histories
+pub mod ImageCuts
+pub mod ImageParts
+pub mod Images
+pub mod Known
+pub mod LevelTexts
+pub mod Overlap
+pub mod SameKeys

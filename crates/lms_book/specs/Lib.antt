@@ -1,0 +1,9 @@
+pub mod Books
+pub mod History
+pub mod Image
+pub mod ImageLaws
+pub mod ImageReading
+pub mod Lives
+pub mod Memory
+pub mod States
+pub mod Stops

@@ -1,0 +1,119 @@
+-- A store in memory: the texts that it held, and which calls are to fail.
+use Rattle.std.specs.Prelude.{◌≡◌, ◌⊎◌, ℕ, ◌-◌, ◌<◌, ◌≤◌, List, [], ◌∷◌, ◌++◌, length, get_or, drop, replicate, Option, Some, None, Bool, false, ◌||◌, Contains, Result, Ok, Err}
+use Rattle.std.specs.Global.{Vec}
+use Rattle.std.proofs.Math.ListN.{set}
+use Rattle.std.proofs.Common.{inl, inr, arith, length-drop}
+use Rattle.lms_book.specs.declared.plans.Left.{Left}
+use Rattle.lms_book.specs.declared.plans.Left.TheVariants.{Old, New}
+use Rattle.lms_book.specs.declared.plans.Plan.{Plan}
+use Rattle.lms_book.specs.declared.store.ReadFault.{ReadFault}
+use Rattle.lms_book.specs.declared.store.ReadFault.TheVariants.{Device, OutOfMemory}
+use Rattle.lms_book.specs.declared.store.StoreFault.{StoreFault}
+use Rattle.lms_book.specs.Stops.{raised}
+
+pub record MemoryState : Type 0 where
+  -- what it held before each write
+  pub past : List (Option (List ℕ))
+  pub text : Option (List ℕ)
+  -- how many writes it has room for
+  pub room : ℕ
+  pub failures : ℕ
+  -- how the next writes are to fail, and whether the next reads are, eight each
+  pub writes : List (Option Plan)
+  pub reads : List Bool
+  -- whether the program stopped in a write
+  pub stopped : Bool
+
+-- the text is the one that is held
+abbrev pub Holds : MemoryState → List ℕ → Type 0
+Holds store left = store.text ≡ Some left
+
+-- how many writes are recorded
+abbrev pub writes_made : MemoryState → ℕ
+writes_made store = length store.past
+
+-- the text is held, or was at some moment since
+abbrev pub HeldSince : MemoryState → ℕ → List ℕ → Type 0
+HeldSince store since left = (store.text ≡ Some left) ⊎ Contains (drop since store.past) (Some left)
+
+-- nothing recorded, counted or planned
+pub record IsFresh (room : ℕ) (store : MemoryState) : Type 0 where
+  pub past : store.past ≡ []
+  pub room_is : store.room ≡ room
+  pub failures : store.failures ≡ 0
+  pub writes : store.writes ≡ replicate 8 None
+  pub reads : store.reads ≡ replicate 8 false
+  pub stopped : store.stopped ≡ false
+
+-- another text is held, and the one before recorded
+abbrev pub holding : MemoryState → List ℕ → MemoryState
+holding store text = record store { past = store.past ++ store.text ∷ []; text = Some text }
+
+-- a failure is counted
+abbrev pub failed : MemoryState → MemoryState
+failed store = record store { failures = raised store.failures }
+
+-- the k-th write from now is to fail so
+abbrev pub planning : MemoryState → ℕ → Plan → MemoryState
+planning store k plan = record store { writes = set store.writes (k - 1) (Some plan) }
+
+-- how the next write is to fail, if it is
+abbrev pub next_write : MemoryState → Option Plan
+next_write store = get_or store.writes 0 None
+
+-- whether the next read is to fail
+abbrev pub next_read : MemoryState → Bool
+next_read store = get_or store.reads 0 false
+
+-- whether every later call fails
+abbrev pub is_stop : Option Plan → Bool
+is_stop None = false
+is_stop (Some plan) = plan.stops
+
+-- the plans for writes come one place nearer
+abbrev pub past_write : MemoryState → MemoryState
+past_write store = record store { writes = drop 1 store.writes ++ None ∷ []; stopped = store.stopped || is_stop (next_write store) }
+
+-- the plans for reads come one place nearer
+abbrev pub past_read : MemoryState → MemoryState
+past_read store = record store { reads = drop 1 store.reads ++ false ∷ [] }
+
+-- the store can take a write of this text
+pub record Takes (store : MemoryState) (text : List ℕ) : Type 0 where
+  pub running : store.stopped ≡ false
+  pub room_left : length store.past < store.room
+  pub short : length text ≤ 256
+
+-- what a failed write leaves
+abbrev pub left_by : Left → MemoryState → List ℕ → MemoryState
+left_by Old store text = store
+left_by New store text = holding store text
+
+-- a write fails as it is planned to, or where the store can't take it, with the old text left
+abbrev pub FailsToWrite : MemoryState → List ℕ → MemoryState → Type 0
+FailsToWrite old text new =
+    (Takes old text × ((plan : Plan) × (next_write old ≡ Some plan) × (new ≡ failed (left_by plan.left (past_write old) text))))
+    ⊎ ((¬ Takes old text) × (new ≡ failed (past_write old)))
+
+-- what a write of this text answers and leaves
+abbrev pub Replaces : {T : Type 0} → MemoryState → List ℕ → Result T StoreFault → MemoryState → Type 0
+Replaces old text (Ok done) new = Takes old text × (next_write old ≡ None) × (new ≡ holding (past_write old) text)
+Replaces old text (Err fault) new = FailsToWrite old text new
+
+-- the store can read, and the next read is not to fail
+pub record CanRead (store : MemoryState) : Type 0 where
+  pub running : store.stopped ≡ false
+  pub unplanned : next_read store ≡ false
+  pub text_held : ¬ (store.text ≡ None)
+
+-- what a read answers and leaves
+abbrev pub Reads : MemoryState → Result (Vec ℕ) ReadFault → MemoryState → Type 0
+Reads old (Ok text) new = CanRead old × (old.text ≡ Some text.items) × (new ≡ past_read old)
+Reads old (Err Device) new = (¬ CanRead old) × (new ≡ failed (past_read old))
+Reads old (Err OutOfMemory) new = CanRead old × (new ≡ past_read old)
+
+-- since the last write there is no other text
+pub only_text : (past : List (Option (List ℕ))) (text : Option (List ℕ)) (left : List ℕ)
+    → (text ≡ Some left) ⊎ Contains (drop (length past) past) (Some left) → text ≡ Some left
+only_text past text left (inl now) = now
+only_text past text left (inr (k, lt, is)) = absurd (omega (arith, length-drop (length past) past))

@@ -1,0 +1,261 @@
+//! A store in memory, for tests. It keeps a record of the texts that it held, and fails where it is told to.
+ghost use Rattle.std.specs.Prelude.{◌≡◌, ◌⊎◌, ◌-◌, ◌<◌, ◌≤◌, [], ◌∷◌, ◌++◌, length, Some, None, true, false, ◌↔◌, IsTrue, IfOk, MatchOption, OnOk, OnErr};
+ghost use Rattle.std.proofs.Math.ListN.{set};
+ghost use Rattle.lms_book.specs.Memory.{IsFresh, Takes, holding, failed, planning, next_write, past_write, next_read, past_read};
+
+use crate::plans::{Left, PLANS, Plan, take_first};
+use crate::store::{ReadFault, StateStore, StoreFault};
+use crate::text::{MOST_BYTES, Text};
+use lms_params::OutOfMemory;
+use std::alloc::Global;
+use std::marker::Model;
+use std::mem;
+
+#[cfg(test)]
+mod tests;
+
+/// A store in memory. Contracts see the text, the texts that it held before each write, how many writes it has room
+/// for, how many calls failed, and which calls are to fail.
+#[derive(Drop)]
+pub struct MemoryStore {
+    past: Vec<Option<Text>>,
+    text: Option<Text>,
+    room: usize,
+    failures: u64,
+    writes: [Option<Plan>; 8],
+    reads: [bool; 8],
+    stopped: bool,
+}
+
+impl Model for MemoryStore {
+    ghost use Rattle.std.specs.Prelude.{◌≤◌, vec_len, vec_capacity};
+    ghost use Rattle.lms_book.specs.Memory.{MemoryState};
+
+    ghost Value = { MemoryState };
+
+    ghost view = { λ store. record {
+      past = store.past.items;
+      text = store.text;
+      room = store.room;
+      failures = store.failures;
+      writes = store.writes;
+      reads = store.reads;
+      stopped = store.stopped;
+    } };
+
+    ghost invariant = { λ store. (vec_len store.past ≤ store.room) × (store.room ≤ vec_capacity store.past) };
+}
+
+impl MemoryStore {
+    /// A store with this text, of at most 256 bytes, or with none. All memory is taken here, for a record of `room`
+    /// writes; `OutOfMemory` where it is refused.
+    pub fn new(alloc: Global, text: Option<&[u8]>, room: usize) -> Result<Self, OutOfMemory>
+        requires { MatchOption text (Unit {0}) (λ text. length text.now ≤ 256) }
+        ensures fresh { IfOk result (IsFresh room) }
+        ensures text { IfOk result (λ store.
+            MatchOption text.entry (store.text ≡ None) (λ text. store.text ≡ Some text.now)) }
+    {
+        let past = Vec::with_capacity(alloc, room)?;
+        Ok(MemoryStore {
+            past,
+            text: text.map(|text| Text::new(text)),
+            room,
+            failures: 0,
+            writes: [None; PLANS],
+            reads: [false; PLANS],
+            stopped: false,
+        })
+    }
+
+    /// The text that it holds.
+    pub fn text(&self) -> Option<&[u8]>
+        ensures { MatchOption result (self.now.text ≡ None) (λ text. self.now.text ≡ Some text.now) }
+    {
+        match &self.text {
+            None => None,
+            Some(text) => Some(text.as_slice()),
+        }
+    }
+
+    /// Plans that the k-th `replace` from now, 1 to 8, fails, and leaves this text. Plans for other calls stay.
+    pub fn fail_replace(&mut self, k: usize, left: Left)
+        requires first { 1 ≤ k }
+        requires at_most { k ≤ 8 }
+        ensures { self.new ≡ planning self.old k (record { left = left; stops = false }) }
+    {
+        self.writes[k - 1] = Some(Plan { left, stops: false });
+    }
+
+    /// Plans that the program stops in the k-th `replace` from now, 1 to 8: it fails, leaves this text, and every call
+    /// after it fails. Plans for other calls stay.
+    pub fn stop_replace(&mut self, k: usize, left: Left)
+        requires first { 1 ≤ k }
+        requires at_most { k ≤ 8 }
+        ensures { self.new ≡ planning self.old k (record { left = left; stops = true }) }
+    {
+        self.writes[k - 1] = Some(Plan { left, stops: true });
+    }
+
+    /// Plans that the k-th `read` from now, 1 to 8, fails. Plans for other calls stay.
+    pub fn fail_read(&mut self, k: usize)
+        requires first { 1 ≤ k }
+        requires at_most { k ≤ 8 }
+        ensures { self.new ≡ record self.old { reads = set self.old.reads (k - 1) true } }
+    {
+        self.reads[k - 1] = true;
+    }
+
+    /// The store as the program finds it when it starts again: its text and its room, with an empty record, nothing
+    /// planned and no failure counted.
+    pub fn restart(self) -> Self
+        ensures text { result.text ≡ self.text }
+        ensures fresh { IsFresh self.room result }
+    {
+        let MemoryStore {
+            past,
+            text,
+            room,
+            failures: _,
+            writes: _,
+            reads: _,
+            stopped: _,
+        } = self;
+        let mut past = past;
+        past.clear();
+        MemoryStore {
+            past,
+            text,
+            room,
+            failures: 0,
+            writes: [None; PLANS],
+            reads: [false; PLANS],
+            stopped: false,
+        }
+    }
+
+    /// Whether a write of this text can be taken.
+    fn takes(&self, text: &[u8]) -> bool
+        ensures { IsTrue result ↔ Takes self.now text.now }
+    {
+        !self.stopped && self.past.len() < self.room && text.len() <= MOST_BYTES
+    }
+
+    /// How the next write is to fail, if it is. The plans for the others come one place nearer.
+    fn next_write(&mut self) -> Option<Plan>
+        ensures plan { result ≡ next_write self.old }
+        ensures others { self.new ≡ past_write self.old }
+    {
+        let plan = take_first(&mut self.writes, None);
+        if let Some(plan) = plan {
+            self.stopped |= plan.stops;
+        }
+        plan
+    }
+
+    /// Whether the next read is to fail. The plans for the others come one place nearer.
+    fn next_read(&mut self) -> bool
+        ensures plan { result ≡ next_read self.old }
+        ensures others { self.new ≡ past_read self.old }
+    {
+        take_first(&mut self.reads, false)
+    }
+
+    /// Holds another text from now on, and records the one before.
+    fn hold(&mut self, text: &[u8])
+        requires room { length self.old.past < self.old.room }
+        requires short { length text.now ≤ 256 }
+        ensures { self.new ≡ holding self.old text.now }
+    {
+        let old = mem::replace(&mut self.text, Some(Text::new(text)));
+        self.past.push_reserved(old);
+    }
+
+    /// Counts a failure.
+    fn fail(&mut self)
+        ensures { self.new ≡ failed self.old }
+    {
+        self.failures = self.failures.saturating_add(1);
+    }
+}
+
+impl StateStore for MemoryStore {
+    ghost use Rattle.std.specs.Prelude.{◌⊎◌, List, ℕ};
+    ghost use Rattle.std.proofs.Common.{inl};
+    ghost use Rattle.lms_book.specs.Memory.{Holds, writes_made, HeldSince, only_text, Reads, Replaces};
+    ghost use Rattle.lms_book.specs.Stops.{HasSameStops, IsOnlyStop, AtEachMoment, raised, CountsRead};
+
+    ghost may_leave = { Holds };
+
+    ghost moment = { writes_made };
+
+    ghost left_since = { HeldSince };
+
+    ghost failures = { λ store. store.failures };
+
+    ghost counts_now = { λ store since left le now. inl now };
+
+    ghost only_now = { λ store left was. only_text store.past store.text left was };
+
+    /// Fails where it is told to, where the program stopped, and while it holds no text.
+    fn read(&mut self, alloc: Global) -> Result<Vec<u8>, ReadFault>
+        ensures text { IfOk result (λ text. Holds self.old text.items) }
+        ensures stops { HasSameStops (Holds self.old) (Holds self.new) }
+        ensures moments { AtEachMoment writes_made HeldSince self.old self.new (Holds self.old) }
+        ensures failures { CountsRead self.old.failures self.new.failures result }
+        ensures planned { Reads self.old result self.new }
+    {
+        let fails = self.next_read();
+        let copied = match &self.text {
+            Some(text) if !fails && !self.stopped => Vec::from_slice(alloc, text.as_slice()),
+            _ => {
+                self.fail();
+                return Err(ReadFault::Device);
+            }
+        };
+        copied.map_err(|_| ReadFault::OutOfMemory)
+    }
+
+    /// Takes no memory. Fails where it is told to and where the program stopped; and, with the old text left, where its
+    /// record is full and at a text of over 256 bytes.
+    fn replace(&mut self, text: &[u8]) -> Result<(), StoreFault>
+        ensures ok { OnOk result (IsOnlyStop text.now (Holds self.new)) }
+        ensures err { OnErr result ((left : List ℕ) → Holds self.new left → Holds self.old left ⊎ (left ≡ text.now)) }
+        ensures moments { AtEachMoment writes_made HeldSince self.old self.new
+            (λ left. Holds self.old left ⊎ (left ≡ text.now)) }
+        ensures ok_failures { OnOk result (self.new.failures ≡ self.old.failures) }
+        ensures err_failures { OnErr result (self.new.failures ≡ raised self.old.failures) }
+        ensures planned { Replaces self.old text.now result self.new }
+    {
+        let takes = self.takes(text);
+        let plan = self.next_write();
+        if !takes {
+            self.fail();
+            return Err(StoreFault);
+        }
+        match plan {
+            None => {
+                self.hold(text);
+                Ok(())
+            }
+            Some(
+                Plan {
+                    left: Left::New,
+                    stops: _,
+                },
+            ) => {
+                self.hold(text);
+                self.fail();
+                Err(StoreFault)
+            }
+            Some(
+                Plan {
+                    left: Left::Old,
+                    stops: _,
+                },
+            ) => {
+                self.fail();
+                Err(StoreFault)
+            }
+        }
+    }
+}
