@@ -3,13 +3,10 @@ ghost use Rattle.std.specs.Prelude.{◌*◌, ◌^◌, ◌<◌, ◌≤◌, length
 
 use crate::compressions::{Signed, climb_compressions, tree_compressions};
 use anyhow::{Context, Result};
-use lms_hss::HssKey;
+use lms_hss::{HssKey, LMS_KEY_LEN};
 use lms_ots::OtsId;
 use lms_params::{LmsType, OtsType, lms_sig_len, split_u32};
 use std::alloc::Global;
-
-/// The bytes of an LMS public key (RFC 8554, 5.3).
-const KEY_LEN: usize = 56;
 
 /// How many compressions derive the key of a tree and the randomizer of its public key's signature: one for each of the
 /// randomizer, the seed and the identifier.
@@ -96,7 +93,7 @@ impl<'a> FirstLevel<'a> {
     {
         let (lms, ots) = sets;
         let (signature, rest) = text.split_at_checked(lms_sig_len(lms, ots))?;
-        match rest.split_at_checked(KEY_LEN) {
+        match rest.split_at_checked(LMS_KEY_LEN) {
             None => Some(FirstLevel {
                 level: SignedLevel::new(sets, i, signature, msg)?,
                 next_i: i,

@@ -6,7 +6,8 @@ use Rattle.std.proofs.lemmas.Bool.Decides.{nat_tests}
 use Rattle.lms_hss.specs.declared.key.HssKey.{HssKey as KeyOfCode}
 use Rattle.lms_book.specs.declared.history.Entry.{Entry}
 use Rattle.lms_book.specs.History.{Range, leases, has_range, range_of}
-use Rattle.lms_book.specs.States.{BookState, LeaseState}
+use Rattle.lms_book.specs.States.{LeaseState}
+use Rattle.lms_book.specs.Reservations.{ReservationsState}
 
 same_at : (range r : Range) → ((r.start == range.start) && (r.len == range.len)) ≡ true → r ≡ range
 same_at range r is =
@@ -36,20 +37,20 @@ is_found range [] (k, lt, at) = absurd (omega arith)
 is_found range (r ∷ ranges) (zero, lt, at) = or_left _ _ (at_same range r at)
 is_found range (r ∷ ranges) (suc k, lt, at) = or_right ((r.start == range.start) && (r.len == range.len)) _ (is_found range ranges (k, omega arith, at))
 
-abbrev book_of : {S : Type 0} → KeyOfCode → ℕ → List Entry → S → BookState S
-book_of key base history store = record { key = key; base = base; history = history; store = store }
+abbrev reserved_as : KeyOfCode → ℕ → List Entry → ReservationsState
+reserved_as key base history = record { key = key; base = base; history = history }
 
 abbrev lease_of : KeyOfCode → ℕ → ℕ → LeaseState
 lease_of key start len = record { key = key; start = start; len = len }
 
 -- what the two tests of `knows` say
-pub knows_is : {S : Type 0} (key mine : KeyOfCode) (base : ℕ) (history seen : List Entry) (store : S) (start len : ℕ) (book : BookState S) (lease : LeaseState) (r : Bool)
-    → book_of key base history store ≡ book → lease_of mine start len ≡ lease → mine ≡ key → seen ≡ history → r ≡ has_range (range_of start len) (leases base seen)
-    → IsTrue r ↔ ((lease.key ≡ book.key) × Contains (leases book.base book.history) (range_of lease.start lease.len))
-knows_is {S} key mine base history seen store start len book lease r b l k s is =
-    let answer : r ≡ has_range (range_of start len) (leases base history) = is ∙ ap (λ (h : List Entry). has_range (range_of start len) (leases base h)) s in
-    let P : BookState S → LeaseState → Type 0 = λ x y. IsTrue r ↔ ((y.key ≡ x.key) × Contains (leases x.base x.history) (range_of y.start y.len)) in
-    subst (λ (x : BookState S). P x lease) b (subst (P (book_of key base history store)) l (
-      (λ yes. (k, found (range_of start len) (leases base history) (sym answer ∙ yes))),
-      (λ both. answer ∙ is_found (range_of start len) (leases base history) both.1),
+pub knows_is : (key mine : KeyOfCode) (base : ℕ) (history : List Entry) (start len : ℕ) (reserved : ReservationsState) (lease : LeaseState) (r : Bool)
+    → reserved_as key base history ≡ reserved → mine ≡ lease.key → start ≡ lease.start → len ≡ lease.len → mine ≡ key → r ≡ has_range (range_of start len) (leases base history)
+    → IsTrue r ↔ ((lease.key ≡ reserved.key) × Contains (leases reserved.base reserved.history) (range_of lease.start lease.len))
+knows_is key mine base history start len reserved lease r b m s l k is =
+    let same : lease_of mine start len ≡ lease = λ i. record { key = m i; start = s i; len = l i } in
+    let P : ReservationsState → LeaseState → Type 0 = λ x y. IsTrue r ↔ ((y.key ≡ x.key) × Contains (leases x.base x.history) (range_of y.start y.len)) in
+    subst (λ (x : ReservationsState). P x lease) b (subst (P (reserved_as key base history)) same (
+      (λ yes. (k, found (range_of start len) (leases base history) (sym is ∙ yes))),
+      (λ both. is ∙ is_found (range_of start len) (leases base history) both.1),
     ))

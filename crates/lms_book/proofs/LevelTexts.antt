@@ -1,9 +1,9 @@
 -- The eight bytes of a level, and what they name.
-use Rattle.std.proofs.Common.{ℕ, ◌≡◌, ◌+◌, ◌*◌, ◌^◌, ◌<◌, ◌≤◌, List, [], ◌∷◌, ◌++◌, length, map, take, get_or, All, true, false, ◌==◌, if◌then◌else◌, nat_le, Some, None, option_map, is_some, refl, sym, ◌∙◌, ap, ap₂, arith, sum_by, length-append, append_assoc}
+use Rattle.std.proofs.Common.{ℕ, ◌≡◌, ◌+◌, ◌*◌, ◌^◌, ◌<◌, ◌≤◌, List, [], ◌∷◌, ◌++◌, length, map, take, get_or, All, true, false, ◌==◌, if◌then◌else◌, Some, None, option_map, is_some, refl, sym, ◌∙◌, ap, ap₂, arith, sum_by, length-append, append_assoc}
 use Rattle.std.specs.Prelude.{unwrap_or, slice_set}
 use Rattle.std.specs.Prelude.Result.{Err}
 use Rattle.std.specs.List.{concat, list_all}
-use Rattle.std.proofs.lemmas.Bool.{le-leb, leb-true, and_from, and_left, and_right, and_parts, false_from_ne_true}
+use Rattle.std.proofs.lemmas.Bool.{and_from, and_left, and_right, and_parts, false_from_ne_true}
 use Rattle.std.proofs.lemmas.List.{take_more, take_more_set, take_all, append-nil, map-append, nil_from_length, length-map}
 use Rattle.std.proofs.lemmas.List.Folds.{concat-append}
 use Rattle.std.proofs.lemmas.List.Elements.{All-head, All-tail, All-map, All-nil, All-cons}
@@ -12,8 +12,7 @@ use Rattle.lms_spec.specs.Parameters.{ots_set, lms_set}
 use Rattle.lms_spec.specs.Bytes.{u32str}
 use Rattle.lms_spec.specs.Hss.{Level, height_of}
 use Rattle.lms_spec.proofs.Sets.{small-ots_code, small-lms_code, code-ots_set, code-lms_set}
-use Rattle.lms_params.specs.LmsType.{lms_set_of, IsSigned}
-use Rattle.lms_params.proofs.Heights.{signed-low, low-signed}
+use Rattle.lms_params.specs.LmsType.{lms_set_of, is_signed_set, IsSigned}
 use Rattle.lms_params.specs.OtsType.{ots_set_of}
 use Rattle.lms_params.specs.declared.lms_type.LmsType.{LmsType}
 use Rattle.lms_params.specs.declared.ots_type.OtsType.{OtsType}
@@ -60,9 +59,9 @@ pub level-of-text : (sets : LmsType × OtsType) → IsSigned sets.0 → is_level
 unfolding is_level
 level-of-text sets signed =
     and_from _ _
-    (ap (λ code. unwrap_or (option_map (λ m. nat_le m.h 15) (lms_set code)) false) (lms-code sets)
-    ∙ ap (λ set. unwrap_or (option_map (λ m. nat_le m.h 15) set) false) (known_lms_set sets.0)
-    ∙ le-leb (lms_set_of sets.0).h 15 (signed-low sets.0 signed))
+    (ap (λ code. unwrap_or (option_map is_signed_set (lms_set code)) false) (lms-code sets)
+    ∙ ap (λ set. unwrap_or (option_map is_signed_set set) false) (known_lms_set sets.0)
+    ∙ signed)
     (ap (λ code. is_some (ots_set code)) (ots-code sets) ∙ ap is_some (known_ots_set sets.1))
 
 -- the types of typecodes
@@ -165,8 +164,8 @@ pub unknown-lms : (text rest : List ℕ) (a : ℕ) → a < 2 ^ 32 → text ≡ u
 unfolding is_level
 unknown-lms text rest a small e none =
     and_left _ _
-    (ap (λ code. unwrap_or (option_map (λ m. nat_le m.h 15) (lms_set code)) false) (u32-at 0 a text [] rest refl small e)
-    ∙ ap (λ set. unwrap_or (option_map (λ m. nat_le m.h 15) set) false) (sym none))
+    (ap (λ code. unwrap_or (option_map is_signed_set (lms_set code)) false) (u32-at 0 a text [] rest refl small e)
+    ∙ ap (λ set. unwrap_or (option_map is_signed_set set) false) (sym none))
 
 pub unknown-ots : (text rest last : List ℕ) (a b : ℕ) → b < 2 ^ 32 → text ≡ u32str a ++ rest → rest ≡ u32str b ++ last → None ≡ ots_set b
     → is_level text ≡ false
@@ -190,10 +189,10 @@ level-read text rest last a b lms ots eight e e' el eo =
 signed-of-text : (sets : LmsType × OtsType) → is_level (level_text sets) ≡ true → IsSigned sets.0
 unfolding is_level
 signed-of-text sets known =
-    let test : unwrap_or (option_map (λ m. nat_le m.h 15) (lms_set (number_at 0 4 (level_text sets)))) false ≡ nat_le (lms_set_of sets.0).h 15
-    = ap (λ code. unwrap_or (option_map (λ m. nat_le m.h 15) (lms_set code)) false) (lms-code sets)
-    ∙ ap (λ set. unwrap_or (option_map (λ m. nat_le m.h 15) set) false) (known_lms_set sets.0) in
-    low-signed sets.0 (leb-true (lms_set_of sets.0).h 15 (sym test ∙ (and_parts _ _ known).0))
+    let test : unwrap_or (option_map is_signed_set (lms_set (number_at 0 4 (level_text sets)))) false ≡ is_signed_set (lms_set_of sets.0)
+    = ap (λ code. unwrap_or (option_map is_signed_set (lms_set code)) false) (lms-code sets)
+    ∙ ap (λ set. unwrap_or (option_map is_signed_set set) false) (known_lms_set sets.0) in
+    sym test ∙ (and_parts _ _ known).0
 
 pub signed-of-texts : (levels : List (LmsType × OtsType)) → list_all is_level (map level_text levels) ≡ true → All (λ l. IsSigned l.0) levels
 signed-of-texts [] known = All-nil (λ (l : LmsType × OtsType). IsSigned l.0)

@@ -1,3 +1,4 @@
+pub mod DeskSums
 pub mod Faultless
 pub mod Faults
 pub mod Fields
@@ -5,7 +6,7 @@ pub mod Histories
 pub mod ImageCuts
 pub mod ImageParts
 pub mod Images
+pub mod InOrder
 pub mod Known
 pub mod LevelTexts
 pub mod Overlap
-pub mod SameKeys

@@ -84,7 +84,7 @@ past_all : (key : KeyOfCode) (first : Range) (ls : List (KeyOfCode × Range)) �
 past_all key first [] all = tt
 past_all key first (l ∷ ls) all = (λ same. all.0.1, past_all key first ls all.1)
 
-pairs_cons : {X : Type 0} (R : X → X → Type 0) (x : X) (xs : List X) → AllByRecursion (R x) xs → AllPairs R xs → AllPairs R (x ∷ xs)
+pub pairs_cons : {X : Type 0} (R : X → X → Type 0) (x : X) (xs : List X) → AllByRecursion (R x) xs → AllPairs R xs → AllPairs R (x ∷ xs)
 pairs_cons R x xs first rest zero zero d lt long = absurd (omega arith)
 pairs_cons R x xs first rest zero (suc j) d lt long = All-from_recursion (R x) xs first j d (omega arith)
 pairs_cons R x xs first rest (suc i) zero d lt long = absurd (omega arith)

@@ -1,6 +1,6 @@
 -- The text that a store keeps of a key and of how many of its indices are used: the state image, version 1. Its numbers
 -- are big-endian. A text is a list of numbers below 256.
-use Rattle.std.specs.Prelude.{ℕ, ◌≡◌, ◌+◌, ◌-◌, ◌*◌, ◌^◌, ◌<◌, ◌≤◌, Bool, not, ◌||◌, ◌&&◌, ◌==◌, nat_lt, nat_le, List, [], ◌∷◌, ◌++◌, length, map, take, drop, sum_by, find, All, Option, is_some, option_map, unwrap_or, codes, false}
+use Rattle.std.specs.Prelude.{ℕ, ◌≡◌, ◌+◌, ◌-◌, ◌*◌, ◌^◌, ◌<◌, ◌≤◌, Bool, not, ◌||◌, ◌&&◌, ◌==◌, nat_lt, List, [], ◌∷◌, ◌++◌, length, map, take, drop, sum_by, find, All, Option, is_some, option_map, unwrap_or, codes, false}
 use Rattle.std.specs.List.{concat, list_all}
 use Rattle.std.specs.Str.{bytes_eq}
 use Rattle.std.specs.Int.{w64, to_be_bytes}
@@ -9,7 +9,7 @@ use Rattle.sha2.specs.Sha256.{sha256}
 use Rattle.lms_spec.specs.Parameters.{ots_set, lms_set}
 use Rattle.lms_spec.specs.Bytes.{u32str, number_of}
 use Rattle.lms_spec.specs.Hss.{capacity_of}
-use Rattle.lms_params.specs.LmsType.{lms_set_of}
+use Rattle.lms_params.specs.LmsType.{lms_set_of, is_signed_set}
 use Rattle.lms_params.specs.OtsType.{ots_set_of}
 use Rattle.lms_params.specs.declared.lms_type.LmsType.{LmsType}
 use Rattle.lms_params.specs.declared.ots_type.OtsType.{OtsType}
@@ -90,7 +90,7 @@ digest_in text = drop (length text - 32) text
 -- both typecodes of a level are known, and the signer takes its height
 unfoldable pub is_level : List ℕ → Bool
 is_level level =
-    unwrap_or (option_map (λ m. nat_le m.h 15) (lms_set (number_at 0 4 level))) false && is_some (ots_set (number_at 4 4 level))
+    unwrap_or (option_map is_signed_set (lms_set (number_at 0 4 level))) false && is_some (ots_set (number_at 4 4 level))
 
 -- the height that a level's first typecode names, 0 where none is known
 unfoldable pub height_in : List ℕ → ℕ
@@ -120,3 +120,15 @@ faults =
 -- the first fault that a text has
 unfoldable pub fault_of : List ℕ → Option ImageFault
 fault_of text = find (λ fault. has_fault fault text) faults
+
+-- a fault's name, as it is printed
+abbrev pub name_of : ImageFault → List ℕ
+name_of Truncated = codes "Truncated"
+name_of NotAnImage = codes "NotAnImage"
+name_of UnknownVersion = codes "UnknownVersion"
+name_of BadLevels = codes "BadLevels"
+name_of WrongLength = codes "WrongLength"
+name_of Damaged = codes "Damaged"
+name_of BadType = codes "BadType"
+name_of TooTall = codes "TooTall"
+name_of CounterTooHigh = codes "CounterTooHigh"

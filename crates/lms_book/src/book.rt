@@ -3,10 +3,9 @@ ghost use Rattle.std.specs.Prelude.{◌≡◌, ◌⊎◌, ◌+◌, ◌≤◌, �
 ghost use Rattle.lms_spec.specs.Hss.{capacity_of};
 ghost use Rattle.lms_hss.specs.Keys.{hss_key_of};
 
-use crate::history::{Entry, is_given};
+use crate::history::Entry;
 use crate::image::{Image, decode_image, encode_image};
 use crate::refusals::{BookFault, OpenFault};
-use crate::same_keys::same_key;
 use crate::store::{ReadFault, StateStore, StoreFault};
 use lms_hss::HssKey;
 use std::alloc::Global;
@@ -180,8 +179,7 @@ impl<S: StateStore> Book<S> {
         ensures { IsTrue result ↔ ((lease.now.key ≡ self.now.key)
             × Contains (leases self.now.base self.now.history) (range_of lease.now.start lease.now.len)) }
     {
-        same_key(&lease.key, &self.key)
-            && is_given(&self.history, self.base, lease.start, lease.len)
+        self.reservations().knows(lease)
     }
 
     /// Reserves the next n indices, 1 to 1024. An image that counts them is stored before the lease is given.

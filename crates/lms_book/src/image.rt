@@ -1,5 +1,5 @@
 //! The state image: the text that a store keeps of a key and of how many of its indices are used.
-ghost use Rattle.std.specs.Prelude.{◌≡◌, ◌+◌, ◌*◌, ◌≤◌, ◌<◌, ◌^◌, ◌≢◌, ◌++◌, [], length, map, take, None, Some, IfOk, IfErr, IfSome, IfNone, MatchResult, IsFalse};
+ghost use Rattle.std.specs.Prelude.{◌≡◌, ◌+◌, ◌*◌, ◌≤◌, ◌<◌, ◌^◌, ◌≢◌, ◌++◌, length, map, take, None, Some, IfOk, IfErr, IfSome, IfNone, MatchResult, IsFalse};
 ghost use Rattle.std.specs.List.{list_all};
 ghost use Rattle.sha2.specs.Sha256.{sha256};
 ghost use Rattle.lms_spec.specs.Bytes.{u32str};
@@ -8,12 +8,14 @@ ghost use Rattle.lms_hss.specs.Keys.{hss_key_of};
 ghost use Rattle.lms_book.specs.Image.{image_of, fault_of, head_text, level_text, is_level, HasImage};
 ghost use Rattle.lms_book.specs.ImageReading.{IsHeaded, IsCut, ReadsLevels, refused_as};
 
+use crate::text::Text;
 use byteorder::{BigEndian, ByteOrder};
-use lms_hss::{HssKey, KeyFault, Levels};
+use lms_hss::{HssKey, KeyFault, Levels, NO_SETS};
 use lms_params::{LmsType, OtsType, split_u32};
 use sha2::{Digest, Sha256};
+use std::error::Error;
+use std::fmt;
 use std::marker::Model;
-use thiserror::Error;
 
 #[cfg(test)]
 mod tests;
@@ -27,9 +29,6 @@ const VERSION: u32 = 1;
 /// The bytes of the digest at the end.
 const DIGEST_LEN: usize = 32;
 
-/// What stands in a list of eight levels past the last one.
-const UNUSED: (LmsType, OtsType) = (LmsType::H5, OtsType::W1);
-
 /// A key, and how many of its indices are used. There is no `Debug`, which would print the seed.
 #[derive(Clone, Copy, PartialEq, Eq)]
 pub struct Image {
@@ -38,52 +37,64 @@ pub struct Image {
 }
 
 /// What is wrong with a text that should be an image: the first of these, in this order.
-#[derive(Clone, Copy, Debug, PartialEq, Eq, Error)]
+#[derive(Clone, Copy, Debug, PartialEq, Eq)]
 pub enum ImageFault {
     /// There are fewer than 12 bytes.
-    #[error("Truncated")]
     Truncated,
     /// The first four bytes aren't `HSSK`.
-    #[error("NotAnImage")]
     NotAnImage,
     /// The version isn't 1.
-    #[error("UnknownVersion")]
     UnknownVersion,
     /// The number of levels is 0 or over 8.
-    #[error("BadLevels")]
     BadLevels,
     /// The length isn't that of an image with so many levels.
-    #[error("WrongLength")]
     WrongLength,
     /// The last 32 bytes aren't the digest of those before.
-    #[error("Damaged")]
     Damaged,
     /// A typecode is unknown, or the signer doesn't take its height.
-    #[error("BadType")]
     BadType,
     /// The heights sum to over 60.
-    #[error("TooTall")]
     TooTall,
     /// The counter is over the key's capacity.
-    #[error("CounterTooHigh")]
     CounterTooHigh,
 }
+
+impl fmt::Display for ImageFault {
+    ghost use Rattle.lms_book.specs.Image.{name_of};
+
+    ghost output = { λ fault. Some (name_of fault) };
+
+    fn fmt<W: fmt::Write>(&self, f: &mut fmt::Formatter<W>) -> fmt::Result {
+        f.write_str(match self {
+            ImageFault::Truncated => "Truncated",
+            ImageFault::NotAnImage => "NotAnImage",
+            ImageFault::UnknownVersion => "UnknownVersion",
+            ImageFault::BadLevels => "BadLevels",
+            ImageFault::WrongLength => "WrongLength",
+            ImageFault::Damaged => "Damaged",
+            ImageFault::BadType => "BadType",
+            ImageFault::TooTall => "TooTall",
+            ImageFault::CounterTooHigh => "CounterTooHigh",
+        })
+    }
+}
+
+impl Error for ImageFault {}
 
 /// The text of an image, at most 164 bytes. Contracts see the list of its bytes.
 #[derive(Drop)]
 pub struct ImageBytes {
-    bytes: [u8; 164],
-    used: usize,
+    text: Text,
 }
 
 impl Model for ImageBytes {
-    ghost use Rattle.std.specs.Prelude.{ℕ, List, ◌≤◌, take};
+    ghost use Rattle.std.specs.Prelude.{ℕ, List, ◌≤◌, length};
 
     ghost Value = { List ℕ };
 
-    ghost view = { λ a. take a.used a.bytes };
+    ghost view = { λ a. a.text };
 
-    ghost invariant = { λ a. a.used ≤ 164 };
+    ghost invariant = { λ a. length a.text ≤ 164 };
 }
 
 impl ImageBytes {
@@ -92,37 +103,7 @@ impl ImageBytes {
         ensures bytes { result.now ≡ self.now }
         ensures short { length result.now ≤ 164 }
     {
-        &self.bytes[..self.used]
-    }
-
-    /// No bytes yet.
-    fn new() -> Self
-        ensures { result ≡ [] }
-    {
-        ImageBytes {
-            bytes: [0; 164],
-            used: 0,
-        }
-    }
-
-    /// Puts a part behind what there is.
-    fn append(&mut self, part: &[u8])
-        requires { length self.old + length part.now ≤ 164 }
-        ensures { self.new ≡ self.old ++ part.now }
-    {
-        let end = self.used + part.len();
-        self.bytes[self.used..end].copy_from_slice(part);
-        self.used = end;
-    }
-
-    /// Puts a number behind what there is, in four bytes.
-    fn append_u32(&mut self, number: u32)
-        requires { length self.old + 4 ≤ 164 }
-        ensures { self.new ≡ self.old ++ u32str number }
-    {
-        let mut bytes = [0; 4];
-        BigEndian::write_u32(&mut bytes, number);
-        self.append(&bytes);
+        self.text.as_slice()
     }
 }
 
@@ -141,16 +122,16 @@ pub fn encode_image(image: &Image) -> ImageBytes
     text.append(&counter);
     let digest = Sha256::digest(text.as_slice());
     text.append(&digest);
-    text
+    ImageBytes { text }
 }
 
 /// What stands before the seed.
-fn encode_head(levels: &Levels) -> ImageBytes
+fn encode_head(levels: &Levels) -> Text
     ensures text { result ≡ head_text (map level_text levels.now) }
     ensures short { length result ≤ 76 }
 {
     let levels = levels.as_slice();
-    let mut text = ImageBytes::new();
+    let mut text = Text::empty();
     text.append(&MAGIC);
     text.append_u32(VERSION);
     text.append_u32(levels.len() as u32);
@@ -302,7 +283,7 @@ fn read_sets(texts: &[[u8; 8]]) -> Option<[(LmsType, OtsType); 8]>
     ensures some { IfSome result (λ sets. map level_text (take (length texts.now) sets) ≡ texts.now) }
     ensures none { IfNone result (IsFalse (list_all is_level texts.now)) }
 {
-    let mut sets = [UNUSED; 8];
+    let mut sets = NO_SETS;
     for (k, text) in texts.iter().enumerate() {
         sets[k] = read_level(text)?;
     }

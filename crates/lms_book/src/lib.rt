@@ -5,22 +5,30 @@
 #![tactic(auto)]
 
 mod book;
+mod counted;
+mod desk;
 mod history;
 mod image;
 pub mod laws;
 mod memory;
 mod plans;
 mod refusals;
-mod same_keys;
+mod reservations;
+mod shared;
 mod store;
+mod tally;
 #[cfg(test)]
 mod tests;
 mod text;
 
 pub use crate::book::{Book, Lease};
+pub use crate::desk::Desk;
 pub use crate::history::Entry;
 pub use crate::image::{Image, ImageBytes, ImageFault, decode_image, encode_image};
 pub use crate::memory::MemoryStore;
 pub use crate::plans::Left;
 pub use crate::refusals::{BookFault, OpenFault};
+pub use crate::reservations::Reservations;
+pub use crate::shared::{MissingDesks, SharedBook};
 pub use crate::store::{ReadFault, StateStore, StoreFault};
+pub use crate::tally::{Blanks, Tally};

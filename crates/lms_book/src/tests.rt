@@ -1,4 +1,4 @@
-ghost use Rattle.std.specs.Prelude.{◌≤◌};
+ghost use Rattle.std.specs.Prelude.{◌≡◌, ◌≤◌, [], IfOk};
 
 use crate::{
     Book, BookFault, Entry, Image, ImageFault, Left, MemoryStore, OpenFault, ReadFault, StoreFault,
@@ -41,11 +41,13 @@ fn store_at(alloc: Global, key: HssKey, counter: u64) -> Result<MemoryStore, Fai
 }
 
 /// A store that holds the image of 5/8 and this counter.
-fn small_store(alloc: Global, counter: u64) -> Result<MemoryStore, Fail> {
+pub(crate) fn small_store(alloc: Global, counter: u64) -> Result<MemoryStore, Fail> {
     store_at(alloc, key_of(&LEVELS, 0x11)?, counter)
 }
 
-fn opened(alloc: Global, store: MemoryStore) -> Result<Book<MemoryStore>, Fail> {
+pub(crate) fn opened(alloc: Global, store: MemoryStore) -> Result<Book<MemoryStore>, Fail>
+    ensures { IfOk result (λ book. book.history ≡ []) }
+{
     match Book::open(alloc, store) {
         Ok(book) => Ok(book),
         Err((OpenFault::OutOfMemory, store)) => {
@@ -61,7 +63,7 @@ fn reopened(alloc: Global, book: Book<MemoryStore>) -> Result<Book<MemoryStore>,
 }
 
 /// Reserves, and gives the lease back: the first index and the number of indices.
-fn reserved(book: &mut Book<MemoryStore>, n: u64) -> Result<(u64, u64), BookFault>
+pub(crate) fn reserved(book: &mut Book<MemoryStore>, n: u64) -> Result<(u64, u64), BookFault>
     requires some { 1 ≤ n }
     requires at_most { n ≤ 1024 }
 {
@@ -371,7 +373,22 @@ fn faults_say_what_failed(rt: HostRuntime) -> Result<(), Fail> {
         (BookFault::OutOfMemory, "out of memory"),
         (
             BookFault::Store { start: 10, len: 5 },
-            "cannot write state: 5 burnt from 10 on",
+            "cannot write state: 10 to 14 burnt",
+        ),
+        (
+            BookFault::Store { start: 31, len: 1 },
+            "cannot write state: 31 to 31 burnt",
+        ),
+        (
+            BookFault::Store {
+                start: u64::MAX,
+                len: 2,
+            },
+            "cannot write state: 18446744073709551615 to 18446744073709551615 burnt",
+        ),
+        (
+            BookFault::Store { start: 7, len: 0 },
+            "cannot write state: 7 to 7 burnt",
         ),
     ];
     for (fault, text) in reserving {

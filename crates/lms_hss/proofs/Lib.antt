@@ -1,4 +1,5 @@
 pub mod Forests
 pub mod Keys
+pub mod SameKeys
 pub mod Sets
 pub mod SignedKeys

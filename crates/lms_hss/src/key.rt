@@ -1,13 +1,13 @@
 //! The private key of HSS, and what its indices go through.
-ghost use Rattle.std.specs.Prelude.{◌≡◌, ◌-◌, ◌/◌, ◌%◌, ◌^◌, ◌<◌, ◌≤◌, ◌++◌, length, map, drop, replicate, IfOk};
+ghost use Rattle.std.specs.Prelude.{◌≡◌, ◌↔◌, ◌-◌, ◌/◌, ◌%◌, ◌^◌, ◌<◌, ◌≤◌, ◌++◌, length, map, drop, replicate, IfOk, IsTrue};
 ghost use Rattle.lms_spec.specs.Bytes.{below, u32str};
 ghost use Rattle.lms_spec.specs.Hss.{height_of, hss_signature_length, hss_public_key, capacity_of, leaf_at, tree_at, level};
 ghost use Rattle.lms_tree.specs.TreeKey.{tree_of};
 ghost use Rattle.lms_hss.specs.Levels.{levels_of};
 ghost use Rattle.lms_hss.specs.Keys.{hss_key_of, tree_number as number_of};
 
-use crate::levels::Levels;
-use crate::verification::KEY_LEN;
+use crate::levels::{Levels, MOST_LEVELS};
+use crate::verification::LMS_KEY_LEN;
 use byteorder::{BigEndian, ByteOrder};
 use lms_params::{OutOfMemory, lms_sig_len};
 use lms_tree::{TreeKey, WholeTree, public_bytes};
@@ -46,7 +46,7 @@ impl HssKey {
         ensures { result ≡ hss_signature_length (levels_of self.now.levels) }
     {
         let levels = self.levels.as_slice();
-        let mut length = 4 + KEY_LEN * (levels.len() - 1);
+        let mut length = 4 + LMS_KEY_LEN * (levels.len() - 1);
         for (lms, ots) in levels {
             length += lms_sig_len(*lms, *ots);
         }
@@ -55,12 +55,12 @@ impl HssKey {
 
     /// The leaves that index g goes through, from the top level down, and zeros past the last level. Indices count the
     /// one-time keys of the bottom level from 0. The index is below the capacity.
-    pub fn places(&self, g: u64) -> [u32; 8]
+    pub fn places(&self, g: u64) -> [u32; MOST_LEVELS]
         requires { g < capacity_of (hss_key_of self.now) }
         ensures { result
             ≡ map (leaf_at (hss_key_of self.now) g) (below (length self.now.levels)) ++ replicate (8 - length self.now.levels) 0 }
     {
-        let mut places = [0; 8];
+        let mut places = [0; MOST_LEVELS];
         for k in 0..self.levels.as_slice().len() {
             places[k] = self.place(g, k);
         }
@@ -118,6 +118,13 @@ impl HssKey {
     {
         g >> self.levels.height_from(k)
     }
+}
+
+/// Whether two keys are the same: their levels, seeds and identifiers.
+pub fn same_key(a: &HssKey, b: &HssKey) -> bool
+    ensures { IsTrue result ↔ (a.now ≡ b.now) }
+{
+    a == b
 }
 
 /// The public key over this LMS public key of the top tree (6.1).

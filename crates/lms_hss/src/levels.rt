@@ -9,13 +9,13 @@ use std::marker::Model;
 use thiserror::Error;
 
 /// The most levels of a key (RFC 8554, 6).
-const MOST_LEVELS: usize = 8;
+pub(crate) const MOST_LEVELS: usize = 8;
 
 /// The most that the heights of a signer's levels sum to, so that an index fits 64 bits.
 const TALLEST: u32 = 60;
 
-/// What stands in a `Levels` past its last level.
-const UNUSED: (LmsType, OtsType) = (LmsType::H5, OtsType::W1);
+/// Places for the sets of eight levels, with none of them filled: each holds what stands in a `Levels` past its last level.
+pub const NO_SETS: [(LmsType, OtsType); MOST_LEVELS] = [(LmsType::H5, OtsType::W1); MOST_LEVELS];
 
 /// Why a list of levels was refused.
 #[derive(Clone, Copy, Debug, PartialEq, Eq, Error)]
@@ -34,7 +34,7 @@ pub enum KeyFault {
 /// 10 and 15, which sum to at most 60. Contracts see the list.
 #[derive(Clone, Copy, PartialEq, Eq)]
 pub struct Levels {
-    sets: [(LmsType, OtsType); 8],
+    sets: [(LmsType, OtsType); MOST_LEVELS],
     count: usize,
 }
 
@@ -100,11 +100,11 @@ impl Levels {
 }
 
 /// Levels in the first of eight places.
-fn padded(sets: &[(LmsType, OtsType)]) -> [(LmsType, OtsType); 8]
+fn padded(sets: &[(LmsType, OtsType)]) -> [(LmsType, OtsType); MOST_LEVELS]
     requires { length sets.now ≤ 8 }
     ensures { result ≡ padded_of sets.now }
 {
-    let mut padded = [UNUSED; 8];
+    let mut padded = NO_SETS;
     padded[..sets.len()].copy_from_slice(sets);
     padded
 }

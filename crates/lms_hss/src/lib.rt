@@ -15,6 +15,6 @@ mod tests;
 mod verification;
 
 pub use crate::forest::Forest;
-pub use crate::key::HssKey;
-pub use crate::levels::{KeyFault, Levels};
-pub use crate::verification::verify;
+pub use crate::key::{HssKey, same_key};
+pub use crate::levels::{KeyFault, Levels, NO_SETS};
+pub use crate::verification::{LMS_KEY_LEN, verify};

@@ -3,11 +3,12 @@ ghost use Rattle.std.specs.Prelude.{ℕ, suc, ◌↔◌, List, IsTrue, IfSome, I
 ghost use Rattle.lms_spec.specs.Hss.{AcceptsThrough, HssAccepts};
 ghost use Rattle.lms_hss.specs.SignedKeys.{IsCut};
 
+use crate::levels::MOST_LEVELS;
 use lms_params::split_u32;
 use lms_tree::signature_len;
 
 /// The bytes of an LMS public key (5.3).
-pub(crate) const KEY_LEN: usize = 56;
+pub const LMS_KEY_LEN: usize = 56;
 
 /// Whether a signature is accepted for a message under a public key (RFC 8554, 6.3). Any lengths.
 pub fn verify(public: &[u8], msg: &[u8], sig: &[u8]) -> bool
@@ -19,7 +20,7 @@ pub fn verify(public: &[u8], msg: &[u8], sig: &[u8]) -> bool
     let Some((signed_keys, signatures)) = split_u32(sig) else {
         return false;
     };
-    if levels == 0 || levels > 8 || signed_keys != levels - 1 {
+    if levels == 0 || levels > MOST_LEVELS as u32 || signed_keys != levels - 1 {
         return false;
     }
     verify_through(signed_keys, top_key, msg, signatures)
@@ -56,7 +57,7 @@ impl<'a> SignedKey<'a> {
     {
         let length = signature_len(signer)?;
         let (signature, rest) = text.split_at_checked(length)?;
-        let (key, rest) = rest.split_at_checked(KEY_LEN)?;
+        let (key, rest) = rest.split_at_checked(LMS_KEY_LEN)?;
         Some(SignedKey {
             signature,
             key,

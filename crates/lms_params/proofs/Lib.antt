@@ -1,4 +1,3 @@
 pub mod Filling
-pub mod Heights
 pub mod KnownSets
 pub mod Widths

@@ -1,4 +1,5 @@
 -- What an `LmsType` means.
+use Rattle.std.specs.Prelude.{◌≡◌, Bool, true, nat_le}
 use Rattle.lms_spec.specs.Parameters.{LmsSet, lms_h5, lms_h10, lms_h15, lms_h20, lms_h25}
 use Rattle.lms_params.specs.declared.lms_type.LmsType.{LmsType}
 use Rattle.lms_params.specs.declared.lms_type.LmsType.TheVariants.{H5, H10, H15, H20, H25}
@@ -11,10 +12,9 @@ lms_set_of H15 = lms_h15
 lms_set_of H20 = lms_h20
 lms_set_of H25 = lms_h25
 
--- the signer takes trees of this height
+-- the signer takes trees of these heights
+abbrev pub is_signed_set : LmsSet → Bool
+is_signed_set set = nat_le set.h 15
+
 abbrev pub IsSigned : LmsType → Type 0
-IsSigned H5 = Unit {0}
-IsSigned H10 = Unit {0}
-IsSigned H15 = Unit {0}
-IsSigned H20 = ⊥
-IsSigned H25 = ⊥
+IsSigned t = is_signed_set (lms_set_of t) ≡ true

@@ -1,5 +1,6 @@
 -- What a parse of the program's words gives its caller.
-use Rattle.std.proofs.Common.{◌≡◌, ◌∙◌, refl, sym, ap, subst, true, codes, List, [], Option, Some, None, IsSome, is_some, inl, inr}
+use Rattle.std.proofs.Common.{◌≡◌, ◌∙◌, refl, sym, ap, subst, true, List, [], ◌∷◌, Option, Some, None, IsSome, is_some, inl, inr}
+use Rattle.std.specs.List.{AllByRecursion}
 use Rattle.std.specs.Prelude.{Box}
 use Rattle.std.specs.Option.{option_map, unwrap_or}
 use Rattle.clap.specs.Walk.{Row, Text, first_of, rows_of}
@@ -18,13 +19,12 @@ use Rattle.clap.specs.declared.parser.matches.Found.{Found}
 use Rattle.clap.specs.declared.parser.matches.SubCommand.{SubCommand}
 use Rattle.std.specs.Box.{box_value}
 use Rattle.clap.proofs.WalkLemmas.{first_value-rows}
-use Rattle.lms_tool.specs.Application.{lms_app}
-use Rattle.lms_tool.specs.Commands.{FaultAt, FaultOf, HasOptions, Reads, VerifiesBy}
+use Rattle.lms_tool.specs.Application.{Subcommand, called, lms_app}
+use Rattle.lms_tool.specs.Commands.{FaultAt, FaultOf, HasOptions, IsMadeOf, Reads}
 use Rattle.lms_tool.specs.declared.command.types.Command.{Command}
-use Rattle.lms_tool.specs.declared.command.types.Command.TheVariants.{Verify}
 use Rattle.lms_tool.specs.declared.command.types.CommandFault.{CommandFault}
 use Rattle.lms_tool.specs.declared.command.types.CommandFault.TheVariants.{Help, Usage, OutOfMemory}
-use Rattle.lms_tool.proofs.CommandLine.{lms_app_is_free, lms_app_is_simple, well_read}
+use Rattle.lms_tool.proofs.CommandLine.{HasValues, IsWellRead, lms_app_is_free, lms_app_is_simple, well_read}
 
 -- ---- clap's clauses, over a command that is built as the program
 
@@ -68,31 +68,49 @@ name_in_rows None = refl
 name_in_rows (Some b) = refl
 
 module _ (words : List Text) (m : ArgMatches) (none : fault_of lms_app words ≡ []) (matches : HasMatchesOf lms_app words m) where
-  entered_rows : subcommand_rows_of m ≡ Some (codes "verify", (well_read words none).0)
-  entered_rows = (matches lms_app_is_simple).1 ∙ (well_read words none).1
+  read_as : IsWellRead words
+  read_as = well_read words none
 
-  -- the subcommand is `verify`
-  pub is_verify : subcommand_name_of m ≡ Some (codes "verify")
-  is_verify = name_in_rows (out-ArgMatches m).subcommand ∙ ap (option_map (λ p. p.0)) entered_rows
+  entered_rows : subcommand_rows_of m ≡ Some (read_as.0.name, read_as.1)
+  entered_rows = (matches lms_app_is_simple).1 ∙ read_as.3
 
-  module _ (found : Found) (is : option_map (λ p. p.1) (subcommand_rows_of m) ≡ Some (rows_of found)) where
-    same_rows : (well_read words none).0 ≡ rows_of found
-    same_rows = ap (λ o. unwrap_or o []) (sym (ap (option_map (λ p. p.1)) entered_rows) ∙ is)
+  entered_name : subcommand_name_of m ≡ Some read_as.0.name
+  entered_name = name_in_rows (out-ArgMatches m).subcommand ∙ ap (option_map (λ p. p.0)) entered_rows
+
+  -- there is a subcommand
+  pub some_entered : None ≡ subcommand_name_of m → ⊥
+  some_entered missing =
+      let other : None ≡ Some read_as.0.name = missing ∙ entered_name in
+      cc
+
+  module _ (name : Text) (found : Found) (named : Some name ≡ subcommand_name_of m) (is : Some (rows_of found) ≡ option_map (λ p. p.1) (subcommand_rows_of m)) where
+    same_name : read_as.0.name ≡ name
+    same_name = ap (λ o. unwrap_or o []) (sym (named ∙ entered_name))
+
+    same_rows : read_as.1 ≡ rows_of found
+    same_rows = ap (λ o. unwrap_or o []) (sym (is ∙ ap (option_map (λ p. p.1)) entered_rows))
 
     -- its options are those that clap's definition gives
-    pub options_read : subcommand_of lms_app words ≡ Some (codes "verify", rows_of found)
-    options_read = (well_read words none).1 ∙ ap (λ (rows : List Row). Some (codes "verify", rows)) same_rows
+    options_read : subcommand_of lms_app words ≡ Some (name, rows_of found)
+    options_read =
+        read_as.3 ∙ ap (λ (n : Text). Some (n, read_as.1)) same_name ∙ ap (λ (rows : List Row). Some (name, rows)) same_rows
 
-    there : (id : Text) → is_some (first_of id (well_read words none).0) ≡ true → IsSome (first_value found id)
-    there id has = ap is_some (first_value-rows found id ∙ ap (first_of id) (sym same_rows)) ∙ has
+    there : (options : List Text) → HasValues options read_as.1 → AllByRecursion (λ option. IsSome (first_value found option)) options
+    there [] has = tt
+    there (option ∷ options) has = (ap is_some (first_value-rows found option ∙ ap (first_of option) (sym same_rows)) ∙ has.0, there options has.1)
 
     -- and each has a value
-    pub options_are_there : HasOptions found
+    pub options_are_there : HasOptions (called name) found
     options_are_there =
-        let all = (well_read words none).2 in
-        (there (codes "public") all.0, there (codes "message") all.1, there (codes "signature") all.2)
+        subst (λ (o : Option Subcommand). HasOptions o found) (sym read_as.2 ∙ ap called same_name) (there read_as.0.options read_as.4)
 
--- so the command made of them is the one that the words ask for
-pub reads_verify : (words : List Text) (rows : List Row) (command : Command) → subcommand_of lms_app words ≡ Some (codes "verify", rows) → VerifiesBy rows command
-    → Reads words command
-reads_verify words rows (Verify public message signature) is named = (rows, is, named)
+    -- so a command made of them is the one that the words ask for
+    pub reads_command : (command : Command) → IsMadeOf name (rows_of found) command → Reads words command
+    reads_command command made =
+        (rows_of found, options_read ∙ ap (λ (n : Text). Some (n, rows_of found)) (sym made.0), made.1)
+
+-- the text of an option stands before those of the options after it
+pub has_text : (found : Found) (option text : Text) {others texts : List (Option Text)} → first_value found option ≡ Some text → others ≡ texts
+    → (first_of option (rows_of found) ∷ others) ≡ (Some text ∷ texts)
+has_text found option text {others} is rest =
+    ap (λ (o : Option Text). o ∷ others) (sym (first_value-rows found option) ∙ is) ∙ ap (λ (t : List (Option Text)). Some text ∷ t) rest

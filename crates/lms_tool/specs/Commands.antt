@@ -1,42 +1,55 @@
 -- What the command is that clap's definition makes of the words, and which faults it may have.
-use Rattle.std.specs.Prelude.{◌≡◌, ◌≢◌, true, List, Some, IsSome, codes, string_bytes}
+use Rattle.std.specs.Prelude.{◌≡◌, ◌≢◌, true, List, [], ◌∷◌, Option, Some, None, IsSome, map, string_bytes}
+use Rattle.std.specs.List.{AllByRecursion}
 use Rattle.clap.specs.Words.{Kinds, IsAmong, Row, Text, first_of, first_value, subcommand_of, fault_of, takes}
 use Rattle.clap.specs.declared.error.kind.ErrorKind.{ErrorKind}
 use Rattle.clap.specs.declared.error.kind.ErrorKind.TheVariants as kind
 use Rattle.clap.specs.declared.parser.matches.Found.{Found}
-use Rattle.lms_tool.specs.Application.{lms_app}
+use Rattle.lms_tool.specs.Application.{Subcommand, info, keygen, lms_app, sign, verify}
 use Rattle.lms_tool.specs.declared.command.types.Command.{Command}
-use Rattle.lms_tool.specs.declared.command.types.Command.TheVariants.{Verify}
+use Rattle.lms_tool.specs.declared.command.types.Command.TheVariants.{Info, Keygen, Sign, Verify}
 use Rattle.lms_tool.specs.declared.command.types.CommandFault.{CommandFault}
 use Rattle.lms_tool.specs.declared.command.types.CommandFault.TheVariants.{Help, Usage, OutOfMemory}
 
--- `verify` with these options names these three files
-abbrev pub NamesInRows : List Row → Text → Text → Text → Type 0
-NamesInRows rows public message signature =
-    (first_of (codes "public") rows ≡ Some public)
-    × (first_of (codes "message") rows ≡ Some message)
-    × (first_of (codes "signature") rows ≡ Some signature)
+-- a subcommand's options have these texts in these rows, in turn
+abbrev pub HasTexts : Subcommand → List Row → List Text → Type 0
+HasTexts s rows texts = map (λ option. first_of option rows) s.options ≡ map (λ text. Some text) texts
 
--- clap's definition reads the words as `verify` on these three files
-abbrev pub AsksToVerify : List Text → Text → Text → Text → Type 0
-AsksToVerify words public message signature =
-    (rows : List Row) × (subcommand_of lms_app words ≡ Some (codes "verify", rows)) × NamesInRows rows public message signature
+-- clap's definition reads the words as this subcommand, with these texts of its options in turn
+abbrev pub AsksFor : Subcommand → List Text → List Text → Type 0
+AsksFor s texts words = (rows : List Row) × (subcommand_of lms_app words ≡ Some (s.name, rows)) × HasTexts s rows texts
+
+-- a command's subcommand
+abbrev pub subcommand_for : Command → Subcommand
+subcommand_for (Keygen levels seed id state public) = keygen
+subcommand_for (Info state) = info
+subcommand_for (Sign state random message out) = sign
+subcommand_for (Verify public message signature) = verify
+
+-- the texts of its options, in turn
+abbrev pub texts_of : Command → List Text
+texts_of (Keygen levels seed id state public) =
+    string_bytes levels ∷ string_bytes seed ∷ string_bytes id ∷ string_bytes state ∷ string_bytes public ∷ []
+texts_of (Info state) = string_bytes state ∷ []
+texts_of (Sign state random message out) = string_bytes state ∷ string_bytes random ∷ string_bytes message ∷ string_bytes out ∷ []
+texts_of (Verify public message signature) = string_bytes public ∷ string_bytes message ∷ string_bytes signature ∷ []
 
 -- clap's definition reads the words as this command
 abbrev pub Reads : List Text → Command → Type 0
-Reads words (Verify public message signature) =
-    AsksToVerify words (string_bytes public) (string_bytes message) (string_bytes signature)
+Reads words command = AsksFor (subcommand_for command) (texts_of command) words
 
--- `verify` with these options is the command
-abbrev pub VerifiesBy : List Row → Command → Type 0
-VerifiesBy rows (Verify public message signature) =
-    NamesInRows rows (string_bytes public) (string_bytes message) (string_bytes signature)
+-- clap's definition takes the words, and reads them as this command
+abbrev pub IsRead : List Text → Command → Type 0
+IsRead words command = Reads words command × (fault_of lms_app words ≡ [])
 
--- each option of `verify` has a value
-abbrev pub HasOptions : Found → Type 0
-HasOptions found =
-    IsSome (first_value found (codes "public")) × IsSome (first_value found (codes "message"))
-    × IsSome (first_value found (codes "signature"))
+-- the command is the subcommand of this name with these options
+abbrev pub IsMadeOf : Text → List Row → Command → Type 0
+IsMadeOf name rows command = ((subcommand_for command).name ≡ name) × HasTexts (subcommand_for command) rows (texts_of command)
+
+-- each option of the subcommand has a value
+abbrev pub HasOptions : Option Subcommand → Found → Type 0
+HasOptions None found = ⊥
+HasOptions (Some s) found = AllByRecursion (λ option. IsSome (first_value found option)) s.options
 
 -- one of the kinds asks for something else than help
 abbrev pub HasMistake : Kinds → Type 0

@@ -1,7 +1,9 @@
--- Files in memory.
+-- Files and a state in memory.
 use Rattle.std.specs.Prelude.{ℕ, ◌≡◌, ◌⊎◌, List, Option, Some, None, Result, Ok, Err, String, find, string_bytes}
 use Rattle.std.specs.Global.{Global, Vec}
 use Rattle.std.specs.Str.{bytes_eq}
+use Rattle.lms_book.specs.Memory.{MemoryState}
+use Rattle.lms_tool.specs.Known.{Known}
 use Rattle.lms_tool.specs.declared.world.WorldFault.{WorldFault}
 use Rattle.lms_tool.specs.declared.world.WorldFault.TheVariants.{Device, OutOfMemory}
 use Rattle.lms_tool.specs.declared.world.memory.MemoryWorld.{MemoryWorld}
@@ -29,3 +31,17 @@ answer_of world name = entry_answer (entry_of world name)
 -- a read of the name may be refused by this fault: by its answer, or since memory ran out
 abbrev pub MayRefuse : MemoryWorld → List ℕ → WorldFault → Type 0
 MayRefuse world name fault = (answer_of world name ≡ Err fault) ⊎ (fault ≡ OutOfMemory)
+
+-- the text of a state: with no store there is none
+abbrev pub state_text : Option MemoryState → Option (List ℕ)
+state_text None = None
+state_text (Some store) = store.text
+
+-- what is known in such a world: there is one state, whatever its name
+abbrev pub known_in_memory : MemoryWorld → Known
+known_in_memory world = record {
+  gives = λ name bytes. answer_of world name ≡ Ok bytes;
+  refuses = MayRefuse world;
+  keeps = λ _ text. state_text world.state ≡ Some text;
+  lacks = λ _. state_text world.state ≡ None;
+}

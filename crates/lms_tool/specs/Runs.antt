@@ -1,69 +1,91 @@
--- What a run of the program comes to, from the words and the files to the bytes printed.
-use Rattle.std.specs.Prelude.{ℕ, ◌≡◌, ◌⊎◌, List, Option}
+-- What a run of the program comes to, from the words, the files and the states to the bytes printed.
+use Rattle.std.specs.Prelude.{ℕ, ◌≡◌, ◌⊎◌, List, Option, string_bytes}
 use Rattle.std.specs.Io.KnownBytes.{Appends}
 use Rattle.clap.specs.Words.{Text}
-use Rattle.lms_tool.specs.Commands.{AsksForHelp, AsksToVerify, IsMistaken}
-use Rattle.lms_tool.specs.Verdicts.{IsRightFor, line_of}
+use Rattle.lms_hss.specs.declared.key.HssKey.{HssKey as KeyOfCode}
+use Rattle.lms_tool.specs.Commands.{AsksForHelp, IsMistaken, IsRead}
+use Rattle.lms_tool.specs.Faults.{status_of}
+use Rattle.lms_tool.specs.Keygen.{FailsToMakeKey, IsKeyOf, IsNoKey, MakesKey}
+use Rattle.lms_tool.specs.Known.{Known, Stays}
+use Rattle.lms_tool.specs.Signing.{Describes, FailsToDescribe, FailsToSign, SignsFile}
+use Rattle.lms_tool.specs.Verdicts.{line_of}
+use Rattle.lms_tool.specs.Verifying.{FailsToJudge, Judges}
+use Rattle.lms_tool.specs.declared.command.types.Command.{Command}
+use Rattle.lms_tool.specs.declared.command.types.Command.TheVariants.{Info, Keygen, Sign, Verify}
 use Rattle.lms_tool.specs.declared.fault.Fault.{Fault}
-use Rattle.lms_tool.specs.declared.fault.Fault.TheVariants.{Input, OutOfMemory, Output}
+use Rattle.lms_tool.specs.declared.fault.Fault.TheVariants.{OutOfMemory, Output}
 use Rattle.lms_tool.specs.declared.status.Status.{Status}
 use Rattle.lms_tool.specs.declared.status.Status.TheVariants as status
-use Rattle.lms_tool.specs.declared.status.Status.TheVariants.{Done, Usage, Memory, Stream}
-use Rattle.lms_tool.specs.declared.verdict.Verdict.{Verdict}
+use Rattle.lms_tool.specs.declared.status.Status.TheVariants.{Done, Usage}
 use Rattle.lms_tool.specs.declared.verdict.Verdict.TheVariants.{Valid, Invalid}
-use Rattle.lms_tool.specs.declared.world.WorldFault.{WorldFault}
-use Rattle.lms_tool.specs.declared.world.WorldFault.TheVariants as world
 
--- the three names gave bytes for which the verdict is right
-pub record Judges (gives : Text → List ℕ → Type 0) (public_name message_name signature_name : Text) (verdict : Verdict) : Type 0 where
-  pub public : List ℕ
-  pub message : List ℕ
-  pub signature : List ℕ
-  pub public_given : gives public_name public
-  pub message_given : gives message_name message
-  pub signature_given : gives signature_name signature
-  pub right : IsRightFor verdict public message signature
+-- the command is done, with these bytes printed before and after
+abbrev pub IsDone : Known → Known → Command → Option (List ℕ) → Option (List ℕ) → Type 0
+IsDone old new (Keygen levels seed id state public) before after =
+    (key : KeyOfCode) × IsKeyOf (string_bytes levels) (string_bytes seed) (string_bytes id) key
+    × MakesKey old new key (string_bytes state) (string_bytes public) before after
+IsDone old new (Info state) before after = Describes old (string_bytes state) before after × Stays old new (string_bytes state)
+IsDone old new (Sign state random message out) before after =
+    SignsFile old new (string_bytes state) (string_bytes random) (string_bytes message) (string_bytes out) before after
+IsDone old new (Verify public message signature) before after =
+    Judges old (string_bytes public) (string_bytes message) (string_bytes signature) Valid × Appends before after (line_of Valid)
 
--- the fault that a read of a name comes to
-abbrev pub RefusedAt : (Text → WorldFault → Type 0) → Text → Fault → Type 0
-RefusedAt refuses name Input = refuses name world.Device
-RefusedAt refuses name OutOfMemory = refuses name world.OutOfMemory
-RefusedAt refuses name Output = ⊥
+-- the command is to verify a signature, which is not valid
+abbrev pub FindsInvalid : Known → Command → Option (List ℕ) → Option (List ℕ) → Type 0
+FindsInvalid old (Verify public message signature) before after =
+    Judges old (string_bytes public) (string_bytes message) (string_bytes signature) Invalid × Appends before after (line_of Invalid)
+FindsInvalid old _ before after = ⊥
 
--- the name gave some bytes
-abbrev pub Given : (Text → List ℕ → Type 0) → Text → Type 0
-Given gives name = (bytes : List ℕ) × gives name bytes
+-- what it takes for the program to end so with this command
+abbrev pub Obeys : Known → Known → Command → Option (List ℕ) → Option (List ℕ) → Status → Type 0
+Obeys old new command before after Done = IsDone old new command before after
+Obeys old new command before after status.Invalid = FindsInvalid old command before after
+Obeys old new command before after _ = ⊥
 
--- of three names read in this order, the fault is that of the first that gave no bytes, or that of the output after all three
-abbrev pub FailsInTurn : (Text → List ℕ → Type 0) → (Text → WorldFault → Type 0) → Text → Text → Text → Fault → Type 0
-FailsInTurn gives refuses public message signature fault =
-    RefusedAt refuses public fault
-    ⊎ ((Given gives public × RefusedAt refuses message fault)
-    ⊎ ((Given gives public × Given gives message × RefusedAt refuses signature fault)
-    ⊎ (Given gives public × Given gives message × Given gives signature × (fault ≡ Output))))
+-- why the command was not done
+abbrev pub FailsToObey : Known → Known → Command → Fault → Type 0
+FailsToObey old new (Keygen levels seed id state public) fault =
+    (IsNoKey (string_bytes levels) (string_bytes seed) (string_bytes id) fault × Stays old new (string_bytes state))
+    ⊎ ((key : KeyOfCode) × IsKeyOf (string_bytes levels) (string_bytes seed) (string_bytes id) key
+    × FailsToMakeKey old new key (string_bytes state) fault)
+FailsToObey old new (Info state) fault = FailsToDescribe old (string_bytes state) fault × Stays old new (string_bytes state)
+FailsToObey old new (Sign state random message out) fault =
+    FailsToSign old new (string_bytes state) (string_bytes random) (string_bytes message) fault
+FailsToObey old new (Verify public message signature) fault =
+    FailsToJudge old (string_bytes public) (string_bytes message) (string_bytes signature) fault
 
--- the words ask to verify three files, for which the verdict is right, and its line was printed
-abbrev pub Verifies : (Text → List ℕ → Type 0) → List Text → Option (List ℕ) → Option (List ℕ) → Verdict → Type 0
-Verifies gives words before after verdict =
-    (public : Text) × (message : Text) × (signature : Text) × AsksToVerify words public message signature
-    × Judges gives public message signature verdict × Appends before after (line_of verdict)
+-- the words ask for a command, and this is why it failed
+abbrev pub CommandFails : Known → Known → List Text → Fault → Type 0
+CommandFails old new words fault = (command : Command) × IsRead words command × FailsToObey old new command fault
 
--- the words ask to verify three files, and the fault is that of the first that gave no bytes, or that of the output
-abbrev pub FailsToVerify : (Text → List ℕ → Type 0) → (Text → WorldFault → Type 0) → List Text → Fault → Type 0
-FailsToVerify gives refuses words fault =
-    (public : Text) × (message : Text) × (signature : Text) × AsksToVerify words public message signature
-    × FailsInTurn gives refuses public message signature fault
+-- what it takes for the program to end with this fault, with these bytes printed before and after; memory may run out at any words,
+-- which leaves each state as it was, unless a command was under way
+abbrev pub Fails : Known → Known → List Text → Option (List ℕ) → Option (List ℕ) → Fault → Type 0
+Fails old new words before after OutOfMemory =
+    (after ≡ before) × (((state : Text) → Stays old new state) ⊎ CommandFails old new words OutOfMemory)
+Fails old new words before after Output = AsksForHelp words ⊎ CommandFails old new words Output
+Fails old new words before after fault = (after ≡ before) × CommandFails old new words fault
 
--- what it takes for the program to end with this fault, with these bytes printed before and after
-abbrev pub Fails : (Text → List ℕ → Type 0) → (Text → WorldFault → Type 0) → List Text → Option (List ℕ) → Option (List ℕ) → Fault → Type 0
-Fails gives refuses words before after Input = FailsToVerify gives refuses words Input × (after ≡ before)
-Fails gives refuses words before after OutOfMemory = after ≡ before
-Fails gives refuses words before after Output = AsksForHelp words ⊎ FailsToVerify gives refuses words Output
+-- the program ends so at a fault
+abbrev pub FailsWith : Known → Known → List Text → Option (List ℕ) → Option (List ℕ) → Status → Type 0
+FailsWith old new words before after end = (fault : Fault) × (status_of fault ≡ end) × Fails old new words before after fault
+
+-- the words ask for a command, and the program ends so with it
+abbrev pub CommandEnds : Known → Known → List Text → Option (List ℕ) → Option (List ℕ) → Status → Type 0
+CommandEnds old new words before after end = (command : Command) × IsRead words command × Obeys old new command before after end
 
 -- what it takes for the program to end so
-abbrev pub Ends : (Text → List ℕ → Type 0) → (Text → WorldFault → Type 0) → List Text → Option (List ℕ) → Option (List ℕ) → Status → Type 0
-Ends gives refuses words before after Done = AsksForHelp words ⊎ Verifies gives words before after Valid
-Ends gives refuses words before after status.Invalid = Verifies gives words before after Invalid
-Ends gives refuses words before after Usage = IsMistaken words × (after ≡ before)
-Ends gives refuses words before after Memory = Fails gives refuses words before after OutOfMemory
-Ends gives refuses words before after Stream = Fails gives refuses words before after Input ⊎ Fails gives refuses words before after Output
+abbrev pub Ends : Known → Known → List Text → Option (List ℕ) → Option (List ℕ) → Status → Type 0
+Ends old new words before after Done = AsksForHelp words ⊎ CommandEnds old new words before after Done
+Ends old new words before after status.Invalid = CommandEnds old new words before after status.Invalid
+Ends old new words before after Usage = (IsMistaken words × (after ≡ before)) ⊎ FailsWith old new words before after Usage
+Ends old new words before after end = FailsWith old new words before after end
+
+-- the command may change files or a state
+abbrev pub Touches : Command → Type 0
+Touches (Verify public message signature) = ⊥
+Touches _ = Unit {0}
+
+-- the words ask for a command that may change files or a state
+abbrev pub AsksToTouch : List Text → Type 0
+AsksToTouch words = (command : Command) × IsRead words command × Touches command

@@ -1,9 +1,9 @@
 //! The program's command line.
-ghost use Rattle.std.specs.Prelude.{◌≡◌, [], IfOk, IfErr, IsSome, Some, MatchResult, map, true, false, string_bytes};
+ghost use Rattle.std.specs.Prelude.{◌≡◌, [], codes, IfOk, IfErr, IsSome, Some, MatchResult, map, true, false, string_bytes};
 ghost use Rattle.clap.specs.Words.{app_of, fault_of, first_value, found_of, kind_of, rows_of, rule_of, takes};
 ghost use Rattle.clap.specs.declared.builder.command.Command.TheViews.{out-Command as fields_of};
-ghost use Rattle.lms_tool.specs.Application.{file_option, lms_app, verify_app};
-ghost use Rattle.lms_tool.specs.Commands.{FaultAt, FaultOf, HasOptions, Reads, VerifiesBy};
+ghost use Rattle.lms_tool.specs.Application.{app_for, called, info, keygen, lms_app, required_option, sign, verify};
+ghost use Rattle.lms_tool.specs.Commands.{FaultAt, FaultOf, HasOptions, IsMadeOf, Reads};
 
 mod laws;
 mod types;
@@ -29,8 +29,8 @@ pub fn command<S: AsStr>(alloc: Global, words: &[S]) -> Result<Command, CommandF
         Ok(matches) => matches,
         Err(error) => return Err(fault_from(alloc, &error)),
     };
-    match matches.subcommand_matches("verify") {
-        Some(options) => Ok(read_verify(alloc, options)?),
+    match matches.subcommand() {
+        Some((name, options)) => Ok(read(alloc, name, options)?),
         None => unreachable!(),
     }
 }
@@ -40,38 +40,122 @@ fn application<'a>(alloc: Global) -> Result<clap::Command<'a>, AllocError>
     ensures { IfOk result (λ c. app_of c ≡ lms_app) }
 {
     clap::Command::new(alloc, "lms_tool")
-        .about("Verifies HSS/LMS signatures (RFC 8554)")
+        .about("Makes keys, signs and verifies with HSS/LMS (RFC 8554)")
         .subcommand_required(true)
+        .subcommand(keygen_application(alloc)?)?
+        .subcommand(info_application(alloc)?)?
+        .subcommand(sign_application(alloc)?)?
         .subcommand(verify_application(alloc)?)
 }
 
+fn keygen_application<'a>(alloc: Global) -> Result<clap::Command<'a>, AllocError>
+    ensures app { IfOk result (λ c. app_of c ≡ app_for keygen) }
+    ensures local { IfOk result (λ c. (fields_of c).has_globals ≡ false) }
+{
+    clap::Command::new(alloc, "keygen")
+        .about("Makes a key from a seed")
+        .arg(option(alloc, "levels", "LEVELS", "The levels of trees"))?
+        .arg(option(alloc, "seed", "HEX", "The seed"))?
+        .arg(option(alloc, "id", "HEX", "The identifier"))?
+        .arg(option(alloc, "state", "FILE", "The key's state"))?
+        .arg(option(alloc, "public", "FILE", "The public key"))
+}
+
+fn info_application<'a>(alloc: Global) -> Result<clap::Command<'a>, AllocError>
+    ensures app { IfOk result (λ c. app_of c ≡ app_for info) }
+    ensures local { IfOk result (λ c. (fields_of c).has_globals ≡ false) }
+{
+    clap::Command::new(alloc, "info")
+        .about("Describes a key")
+        .arg(option(alloc, "state", "FILE", "The key's state"))
+}
+
+fn sign_application<'a>(alloc: Global) -> Result<clap::Command<'a>, AllocError>
+    ensures app { IfOk result (λ c. app_of c ≡ app_for sign) }
+    ensures local { IfOk result (λ c. (fields_of c).has_globals ≡ false) }
+{
+    clap::Command::new(alloc, "sign")
+        .about("Signs a message")
+        .arg(option(alloc, "state", "FILE", "The key's state"))?
+        .arg(option(alloc, "random", "HEX", "The randomizer"))?
+        .arg(option(alloc, "message", "FILE", "The message"))?
+        .arg(option(alloc, "out", "FILE", "The signature"))
+}
+
 fn verify_application<'a>(alloc: Global) -> Result<clap::Command<'a>, AllocError>
-    ensures app { IfOk result (λ c. app_of c ≡ verify_app) }
+    ensures app { IfOk result (λ c. app_of c ≡ app_for verify) }
     ensures local { IfOk result (λ c. (fields_of c).has_globals ≡ false) }
 {
     clap::Command::new(alloc, "verify")
         .about("Prints whether a signature is valid")
-        .arg(file_option(alloc, "public", "The public key"))?
-        .arg(file_option(alloc, "message", "The message"))?
-        .arg(file_option(alloc, "signature", "The signature"))
+        .arg(option(alloc, "public", "FILE", "The public key"))?
+        .arg(option(alloc, "message", "FILE", "The message"))?
+        .arg(option(alloc, "signature", "FILE", "The signature"))
 }
 
-/// A required option `--NAME FILE`.
-fn file_option<'a>(alloc: Global, name: &'a str, help: &'a str) -> Arg<'a>
-    ensures rule { rule_of result ≡ file_option name.entry.now }
+/// A required option `--NAME VALUE`.
+fn option<'a>(alloc: Global, name: &'a str, value: &'a str, help: &'a str) -> Arg<'a>
+    ensures rule { rule_of result ≡ required_option name.entry.now }
     ensures local { result.global ≡ false }
 {
     Arg::new(alloc, name)
         .long(name)
-        .value_name("FILE")
+        .value_name(value)
         .help(help)
         .required(true)
 }
 
-/// The command of the subcommand `verify` with these options.
+/// The command of the subcommand `name` with these options.
+fn read(alloc: Global, name: &str, options: &ArgMatches<'_>) -> Result<Command, AllocError>
+    requires { HasOptions (called name.now) (found_of options.now) }
+    ensures { IfOk result (IsMadeOf name.now (rows_of (found_of options.now))) }
+{
+    match name {
+        "keygen" => read_keygen(alloc, options),
+        "info" => read_info(alloc, options),
+        "sign" => read_sign(alloc, options),
+        "verify" => read_verify(alloc, options),
+        _ => unreachable!(),
+    }
+}
+
+fn read_keygen(alloc: Global, options: &ArgMatches<'_>) -> Result<Command, AllocError>
+    requires { HasOptions (Some keygen) (found_of options.now) }
+    ensures { IfOk result (IsMadeOf (codes "keygen") (rows_of (found_of options.now))) }
+{
+    Ok(Command::Keygen {
+        levels: option_text(alloc, options, "levels")?,
+        seed: option_text(alloc, options, "seed")?,
+        id: option_text(alloc, options, "id")?,
+        state: option_text(alloc, options, "state")?,
+        public: option_text(alloc, options, "public")?,
+    })
+}
+
+fn read_info(alloc: Global, options: &ArgMatches<'_>) -> Result<Command, AllocError>
+    requires { HasOptions (Some info) (found_of options.now) }
+    ensures { IfOk result (IsMadeOf (codes "info") (rows_of (found_of options.now))) }
+{
+    Ok(Command::Info {
+        state: option_text(alloc, options, "state")?,
+    })
+}
+
+fn read_sign(alloc: Global, options: &ArgMatches<'_>) -> Result<Command, AllocError>
+    requires { HasOptions (Some sign) (found_of options.now) }
+    ensures { IfOk result (IsMadeOf (codes "sign") (rows_of (found_of options.now))) }
+{
+    Ok(Command::Sign {
+        state: option_text(alloc, options, "state")?,
+        random: option_text(alloc, options, "random")?,
+        message: option_text(alloc, options, "message")?,
+        out: option_text(alloc, options, "out")?,
+    })
+}
+
 fn read_verify(alloc: Global, options: &ArgMatches<'_>) -> Result<Command, AllocError>
-    requires { HasOptions (found_of options.now) }
-    ensures { IfOk result (VerifiesBy (rows_of (found_of options.now))) }
+    requires { HasOptions (Some verify) (found_of options.now) }
+    ensures { IfOk result (IsMadeOf (codes "verify") (rows_of (found_of options.now))) }
 {
     Ok(Command::Verify {
         public: option_text(alloc, options, "public")?,
@@ -99,3 +183,6 @@ fn fault_from(alloc: Global, error: &Error) -> CommandFault
         (_, Ok(text)) => CommandFault::Usage { text },
     }
 }
+
+#[cfg(test)]
+mod tests;

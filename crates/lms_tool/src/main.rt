@@ -1,11 +1,18 @@
-//! An exact verifier of HSS/LMS signatures (RFC 8554).
+//! A signer and an exact verifier of HSS/LMS signatures (RFC 8554).
 #![tactic(auto)]
 
 mod command;
+mod description;
 mod fault;
+mod files;
+mod info;
+mod keygen;
+mod options;
 mod run;
+mod signing;
 mod status;
 mod verdict;
+mod verifying;
 mod world;
 
 use crate::fault::Fault;
@@ -20,6 +27,7 @@ fn main(rt: HostRuntime) -> ExitCode {
     let mut errors = rt.stderr();
     let status = match words(&rt) {
         Ok(words) => run(
+            &rt,
             rt.alloc(),
             words.as_slice(),
             &mut DiskWorld::new(&rt),

@@ -9,8 +9,12 @@ pub enum Status {
     Done = 0,
     /// The signature is invalid.
     Invalid = 1,
-    /// The words are no command.
+    /// The words are no command, or an option's text is bad.
     Usage = 2,
+    /// The state's store failed, or what it holds is no state.
+    State = 3,
+    /// The key has not enough indices left.
+    Exhausted = 4,
     /// Memory ran out.
     Memory = 5,
     /// A file or a stream failed.

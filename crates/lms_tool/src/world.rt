@@ -1,12 +1,16 @@
-//! Where the program's files are.
-ghost use Rattle.std.specs.Prelude.{ℕ, List, IfErr, IfOk, OnOk};
-ghost use Rattle.lms_tool.specs.declared.world.WorldFault.{WorldFault};
+//! Where the program's files and states are.
+ghost use Rattle.std.specs.Prelude.{◌≡◌, ◌↔◌, ℕ, List, true, false, IfErr, IfOk, OnOk};
+ghost use Rattle.lms_tool.specs.Known.{Exists, Known, Stays};
 
 mod disk;
+pub(crate) mod file_store;
 mod memory;
 
 pub use disk::DiskWorld;
-pub use memory::MemoryWorld;
+pub use file_store::{FileStore, TryLock};
+use lms_book::StateStore;
+use lms_params::OutOfMemory;
+pub use memory::{MemoryLock, MemoryWorld};
 use std::alloc::Global;
 use thiserror::Error;
 
@@ -21,25 +25,49 @@ pub enum WorldFault {
     OutOfMemory,
 }
 
-/// Files by their names.
+/// Files and keys' states, by their names.
 pub trait World {
-    // A read of the name may give these bytes.
-    ghost gives: { Self → List ℕ → List ℕ → Type 0 };
+    /// Keeps other programs from a state for as long as it is held.
+    type Lock: Drop;
 
-    // A read of the name may be refused by this fault.
-    ghost refuses: { Self → List ℕ → WorldFault → Type 0 };
+    /// What keeps a state.
+    type Store: StateStore + Drop;
+
+    // What is known of the files and the states.
+    ghost known: { Self → Known };
 
     /// The bytes of a file.
     ///
     /// `Device` where there is no such file or it can't be read, `OutOfMemory` where memory for its
     /// bytes was refused.
     fn read(&self, alloc: Global, name: &str) -> Result<Vec<u8>, WorldFault>
-        ensures given { IfOk result (λ bytes. gives self.now name.now bytes.items) }
-        ensures refused { IfErr result (refuses self.now name.now) };
+        ensures given { IfOk result (λ bytes. (known self.now).gives name.now bytes.items) }
+        ensures refused { IfErr result ((known self.now).refuses name.now) };
 
-    /// Makes these the bytes of a file, which need not be there yet.
+    /// Makes these the bytes of a file, which need not be there yet. No state is changed.
     ///
     /// `Device` where it can't be written, `OutOfMemory` where memory for that was refused.
     fn write(&mut self, name: &str, bytes: &[u8]) -> Result<(), WorldFault>
-        ensures { OnOk result (gives self.new name.now bytes.now) };
+        ensures given { OnOk result ((known self.new).gives name.now bytes.now) }
+        ensures states { (state : List ℕ) → Stays (known self.old) (known self.new) state };
+
+    /// Whether there is a state of this name, also where that can't be told.
+    fn exists(&self, name: &str) -> bool
+        ensures missing { result ≡ false → (known self.now).lacks name.now }
+        ensures there { result ≡ true → Exists (known self.now) name.now };
+
+    /// The lock of the state of this name, without waiting for it; `None` where it is not got.
+    fn lock(&self, alloc: Global, name: &str) -> Result<Option<Self::Lock>, OutOfMemory>;
+
+    /// Takes out what keeps the state of this name. Where there is no such state, its reads fail.
+    ///
+    /// `OutOfMemory` where memory for it was refused.
+    fn take_store(&mut self, alloc: Global, name: &str) -> Result<Self::Store, OutOfMemory>
+        ensures taken { IfOk result (λ store. (text : List ℕ)
+            → Self.Store.may_leave store text ↔ (known self.old).keeps name.now text) }
+        ensures stays { IfErr result (λ _. Stays (known self.old) (known self.new) name.now) };
+
+    /// Puts it back.
+    fn put_back(&mut self, name: &str, store: Self::Store)
+        ensures { (text : List ℕ) → Self.Store.may_leave store text → (known self.new).keeps name.now text };
 }

@@ -152,122 +152,124 @@ fn refuses_each_changed_byte(rt: HostRuntime) -> Result<(), Fail> {
     Ok(())
 }
 
+/// Texts with their digest, where two faults hold for the first.
+const WITH_THEIR_DIGEST: [(Fields, Option<ImageFault>); 16] = [
+    (
+        Fields {
+            start: *b"HSSL",
+            version: 3,
+            ..SOUND
+        },
+        Some(ImageFault::NotAnImage),
+    ),
+    (
+        Fields {
+            version: 3,
+            count: 9,
+            ..SOUND
+        },
+        Some(ImageFault::UnknownVersion),
+    ),
+    (Fields { count: 9, ..SOUND }, Some(ImageFault::BadLevels)),
+    (
+        Fields {
+            count: 0,
+            codes: &[],
+            ..SOUND
+        },
+        Some(ImageFault::BadLevels),
+    ),
+    (Fields { count: 3, ..SOUND }, Some(ImageFault::WrongLength)),
+    (
+        Fields {
+            codes: &[(0, 4)],
+            ..SOUND
+        },
+        Some(ImageFault::BadType),
+    ),
+    (
+        Fields {
+            codes: &[(8, 4)],
+            ..SOUND
+        },
+        Some(ImageFault::BadType),
+    ),
+    (
+        Fields {
+            codes: &[(10, 4)],
+            ..SOUND
+        },
+        Some(ImageFault::BadType),
+    ),
+    (
+        Fields {
+            codes: &[(5, 0)],
+            ..SOUND
+        },
+        Some(ImageFault::BadType),
+    ),
+    (
+        Fields {
+            codes: &[(5, 5)],
+            counter: 33,
+            ..SOUND
+        },
+        Some(ImageFault::BadType),
+    ),
+    (
+        Fields {
+            count: 5,
+            codes: &[(7, 4), (7, 4), (7, 4), (7, 4), (8, 4)],
+            ..SOUND
+        },
+        Some(ImageFault::BadType),
+    ),
+    (
+        Fields {
+            count: 5,
+            codes: &[(7, 4); 5],
+            counter: u64::MAX,
+            ..SOUND
+        },
+        Some(ImageFault::TooTall),
+    ),
+    (
+        Fields {
+            count: 4,
+            codes: &[(7, 4); 4],
+            counter: (1 << 60) + 1,
+            ..SOUND
+        },
+        Some(ImageFault::CounterTooHigh),
+    ),
+    (
+        Fields {
+            count: 4,
+            codes: &[(7, 4); 4],
+            counter: (1 << 60) - 1,
+            ..SOUND
+        },
+        None,
+    ),
+    (
+        Fields {
+            counter: 33,
+            ..SOUND
+        },
+        Some(ImageFault::CounterTooHigh),
+    ),
+    (
+        Fields {
+            counter: 32,
+            ..SOUND
+        },
+        None,
+    ),
+];
+
 #[test]
 fn names_the_fault_of_a_text_with_its_digest(rt: HostRuntime) -> Result<(), Fail> {
-    let rows = [
-        (
-            Fields {
-                start: *b"HSSL",
-                version: 3,
-                ..SOUND
-            },
-            Some(ImageFault::NotAnImage),
-        ),
-        (
-            Fields {
-                version: 3,
-                count: 9,
-                ..SOUND
-            },
-            Some(ImageFault::UnknownVersion),
-        ),
-        (Fields { count: 9, ..SOUND }, Some(ImageFault::BadLevels)),
-        (
-            Fields {
-                count: 0,
-                codes: &[],
-                ..SOUND
-            },
-            Some(ImageFault::BadLevels),
-        ),
-        (Fields { count: 3, ..SOUND }, Some(ImageFault::WrongLength)),
-        (
-            Fields {
-                codes: &[(0, 4)],
-                ..SOUND
-            },
-            Some(ImageFault::BadType),
-        ),
-        (
-            Fields {
-                codes: &[(8, 4)],
-                ..SOUND
-            },
-            Some(ImageFault::BadType),
-        ),
-        (
-            Fields {
-                codes: &[(10, 4)],
-                ..SOUND
-            },
-            Some(ImageFault::BadType),
-        ),
-        (
-            Fields {
-                codes: &[(5, 0)],
-                ..SOUND
-            },
-            Some(ImageFault::BadType),
-        ),
-        (
-            Fields {
-                codes: &[(5, 5)],
-                counter: 33,
-                ..SOUND
-            },
-            Some(ImageFault::BadType),
-        ),
-        (
-            Fields {
-                count: 5,
-                codes: &[(7, 4), (7, 4), (7, 4), (7, 4), (8, 4)],
-                ..SOUND
-            },
-            Some(ImageFault::BadType),
-        ),
-        (
-            Fields {
-                count: 5,
-                codes: &[(7, 4); 5],
-                counter: u64::MAX,
-                ..SOUND
-            },
-            Some(ImageFault::TooTall),
-        ),
-        (
-            Fields {
-                count: 4,
-                codes: &[(7, 4); 4],
-                counter: (1 << 60) + 1,
-                ..SOUND
-            },
-            Some(ImageFault::CounterTooHigh),
-        ),
-        (
-            Fields {
-                count: 4,
-                codes: &[(7, 4); 4],
-                counter: (1 << 60) - 1,
-                ..SOUND
-            },
-            None,
-        ),
-        (
-            Fields {
-                counter: 33,
-                ..SOUND
-            },
-            Some(ImageFault::CounterTooHigh),
-        ),
-        (
-            Fields {
-                counter: 32,
-                ..SOUND
-            },
-            None,
-        ),
-    ];
-    for (fields, expected) in rows {
+    for (fields, expected) in WITH_THEIR_DIGEST {
         let text = fields.text(rt.alloc())?;
         assert_eq!(rt; fault(&text), expected);
     }

@@ -1,5 +1,5 @@
 use crate::tests::{LEVEL, THREE_LEVELS, key_of, slow_key};
-use crate::{KeyFault, Levels};
+use crate::{HssKey, KeyFault, Levels, same_key};
 use lms_params::{LmsType, OtsType};
 use lms_slow::slow_public;
 use std::test::Fail;
@@ -91,5 +91,22 @@ fn makes_the_public_key(rt: HostRuntime) -> Result<(), Fail> {
     let public = key_of(&THREE_LEVELS)?.public_key(&rt, rt.alloc())?;
     let slow = slow_public(rt.alloc(), &slow_key(&THREE_LEVELS))?;
     assert_eq!(rt; public.as_slice(), slow.as_slice());
+    Ok(())
+}
+
+#[test]
+fn tells_keys_apart(rt: HostRuntime) -> Result<(), Fail> {
+    let key = key_of(&[LEVEL])?;
+    assert!(rt; same_key(&key, &key_of(&[LEVEL])?));
+    let others = [
+        key_of(&[LEVEL; 2])?,
+        key_of(&[(LmsType::H5, OtsType::W1)])?,
+        key_of(&[(LmsType::H10, OtsType::W8)])?,
+        HssKey::new(Levels::new(&[LEVEL])?, [0x12; 32], [0x22; 16]),
+        HssKey::new(Levels::new(&[LEVEL])?, [0x11; 32], [0x23; 16]),
+    ];
+    for other in others {
+        assert!(rt; !same_key(&key, &other) && same_key(&other, &other));
+    }
     Ok(())
 }

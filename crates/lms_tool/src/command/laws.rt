@@ -1,9 +1,25 @@
 //! What the program's usage promises, over clap's definition of it.
 
-ghost use Rattle.lms_tool.specs.UsageWords.{UsageIsTaken};
+ghost use Rattle.lms_tool.specs.UsageWords.{InfoIsTaken, KeygenIsTaken, SignIsTaken, VerifyIsTaken};
+
+/// `keygen --levels=L --seed=S --id=I --state=K --public=P` is taken for any five texts, as `keygen`
+/// with these.
+pub fn keygen_is_taken()
+    ensures { KeygenIsTaken }
+{}
+
+/// `info --state=K` is taken for any text, as `info` on K.
+pub fn info_is_taken()
+    ensures { InfoIsTaken }
+{}
+
+/// `sign --state=K --random=R --message=M --out=S` is taken for any four texts, as `sign` with these.
+pub fn sign_is_taken()
+    ensures { SignIsTaken }
+{}
 
 /// `verify --public=P --message=M --signature=S` is taken for any three names, as `verify` on P, M
 /// and S.
-pub fn usage_is_taken()
-    ensures { UsageIsTaken }
+pub fn verify_is_taken()
+    ensures { VerifyIsTaken }
 {}

@@ -5,6 +5,27 @@ use std::alloc::AllocError;
 /// What the program is asked to do.
 #[derive(Debug, Drop)]
 pub enum Command {
+    /// Make a key of these levels from a seed and an identifier, both in hexadecimal, and write its
+    /// state and its public key to two files.
+    Keygen {
+        levels: String,
+        seed: String,
+        id: String,
+        state: String,
+        public: String,
+    },
+    /// Describe the key whose state is in this file.
+    Info {
+        state: String,
+    },
+    /// Sign a message by the key whose state is in a file, with a randomizer in hexadecimal, and
+    /// write the signature to the file `out`. All but the randomizer name files.
+    Sign {
+        state: String,
+        random: String,
+        message: String,
+        out: String,
+    },
     /// Verify a signature. Each text names a file.
     Verify {
         public: String,

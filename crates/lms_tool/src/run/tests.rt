@@ -1,3 +1,9 @@
+mod disk;
+mod faults;
+mod memory;
+mod state;
+mod words;
+
 use super::run;
 use crate::world::{MemoryWorld, World, WorldFault};
 use lms_slow::vectors::ONE_5_8;
@@ -6,6 +12,7 @@ use std::io;
 use std::io::Write;
 use std::string::FromUtf8Error;
 use std::test::Fail;
+use std::thread::Threads;
 
 const NAMES: [&str; 3] = ["key.pub", "text", "text.sig"];
 
@@ -28,11 +35,23 @@ struct Ended {
     errors: String,
 }
 
-fn end_of(alloc: Global, words: &[&str], world: &mut MemoryWorld) -> Result<Ended, FromUtf8Error> {
+fn end_of<W: World>(
+    rt: &(impl Threads + AllocGlobal + Sync),
+    words: &[&str],
+    world: &mut W,
+) -> Result<Ended, FromUtf8Error> {
     let mut input: &[u8] = &[];
-    let mut output = Vec::new(alloc);
-    let mut errors = Vec::new(alloc);
-    let status = run(alloc, words, world, &mut input, &mut output, &mut errors);
+    let mut output = Vec::new(rt.alloc());
+    let mut errors = Vec::new(rt.alloc());
+    let status = run(
+        rt,
+        rt.alloc(),
+        words,
+        world,
+        &mut input,
+        &mut output,
+        &mut errors,
+    );
     Ok(Ended {
         status,
         output: String::from_utf8(output)?,
@@ -61,7 +80,7 @@ fn prints_a_verdict(rt: HostRuntime) -> Result<(), Fail> {
     for (name, bytes, status, line) in rows {
         let mut world = signed(rt.alloc())?;
         world.write(name, bytes)?;
-        let end = end_of(rt.alloc(), &VERIFY, &mut world)?;
+        let end = end_of(&rt, &VERIFY, &mut world)?;
         assert_eq!(rt; end.status, status, "{name} of {bytes:?}");
         assert_eq!(rt; end.output.as_str(), line, "{name} of {bytes:?}");
         assert_eq!(rt; end.errors.as_str(), "");
@@ -93,7 +112,7 @@ fn reads_the_files_in_order(rt: HostRuntime) -> Result<(), Fail> {
             for later in NAMES.iter().skip(place + 1) {
                 world.fail(later, later_fault)?;
             }
-            let end = end_of(rt.alloc(), &VERIFY, &mut world)?;
+            let end = end_of(&rt, &VERIFY, &mut world)?;
             assert_eq!(rt; end.status, status, "{name} fails");
             assert_eq!(rt; end.errors.as_str(), line, "{name} fails");
             assert_eq!(rt; end.output.as_str(), "");
@@ -105,7 +124,7 @@ fn reads_the_files_in_order(rt: HostRuntime) -> Result<(), Fail> {
 /// A file that isn't there can't be read.
 #[test]
 fn misses_a_file(rt: HostRuntime) -> Result<(), Fail> {
-    let end = end_of(rt.alloc(), &VERIFY, &mut MemoryWorld::new(rt.alloc()))?;
+    let end = end_of(&rt, &VERIFY, &mut MemoryWorld::new(rt.alloc()))?;
     assert_eq!(rt; end.status, 6);
     assert_eq!(rt; end.errors.as_str(), "error: cannot read input\n");
     assert_eq!(rt; end.output.as_str(), "");
@@ -145,6 +164,7 @@ fn cannot_pass_on(rt: HostRuntime) -> Result<(), Fail> {
     let mut input: &[u8] = &[];
     let mut errors = Vec::new(rt.alloc());
     let status = run(
+        &rt,
         rt.alloc(),
         &VERIFY,
         &mut signed(rt.alloc())?,
@@ -167,6 +187,7 @@ fn cannot_complain(rt: HostRuntime) {
     let mut output = Vec::new(rt.alloc());
     let mut world = MemoryWorld::new(rt.alloc());
     let status = run(
+        &rt,
         rt.alloc(),
         &VERIFY,
         &mut world,
@@ -187,6 +208,7 @@ fn cannot_write(rt: HostRuntime) -> Result<(), Fail> {
         let mut errors = Vec::new(rt.alloc());
         let mut world = signed(rt.alloc())?;
         let status = run(
+            &rt,
             rt.alloc(),
             words,
             &mut world,
@@ -199,142 +221,6 @@ fn cannot_write(rt: HostRuntime) -> Result<(), Fail> {
             String::from_utf8(errors)?.as_str(),
             "error: cannot write output\n"
         );
-    }
-    Ok(())
-}
-
-const HELP: &str = "Verifies HSS/LMS signatures (RFC 8554)
-
-Usage: lms_tool <COMMAND>
-
-Commands:
-  verify  Prints whether a signature is valid
-  help    Print this message or the help of the given subcommand(s)
-
-Options:
-  -h, --help  Print help
-";
-
-const VERIFY_HELP: &str = "Prints whether a signature is valid
-
-Usage: lms_tool verify --public <FILE> --message <FILE> --signature <FILE>
-
-Options:
-      --public <FILE>     The public key
-      --message <FILE>    The message
-      --signature <FILE>  The signature
-  -h, --help              Print help
-";
-
-const HELP_HELP: &str = "Print this message or the help of the given subcommand(s)
-
-Usage: lms_tool help [COMMAND]...
-
-Arguments:
-  [COMMAND]...  Print help for the subcommand(s)
-";
-
-#[test]
-fn shows_help(rt: HostRuntime) -> Result<(), Fail> {
-    let rows: [(&[&str], &str); 7] = [
-        (&["lms_tool", "--help"], HELP),
-        (&["lms_tool", "-h"], HELP),
-        (&["lms_tool", "help"], HELP),
-        (&["lms_tool", "verify", "--help"], VERIFY_HELP),
-        (&["lms_tool", "verify", "-h"], VERIFY_HELP),
-        (&["lms_tool", "help", "verify"], VERIFY_HELP),
-        (&["lms_tool", "help", "help"], HELP_HELP),
-    ];
-    for (words, text) in rows {
-        let end = end_of(rt.alloc(), words, &mut MemoryWorld::new(rt.alloc()))?;
-        assert_eq!(rt; end.status, 0, "{words:?}");
-        assert_eq!(rt; end.output.as_str(), text, "{words:?}");
-        assert_eq!(rt; end.errors.as_str(), "");
-    }
-    Ok(())
-}
-
-const HINT: &str = "
-
-Usage: lms_tool <COMMAND>
-
-For more information, try '--help'.
-";
-
-const VERIFY_HINT: &str = "
-
-Usage: lms_tool verify --public <FILE> --message <FILE> --signature <FILE>
-
-For more information, try '--help'.
-";
-
-const BARE_HINT: &str = "
-
-For more information, try '--help'.
-";
-
-/// Words that are no command, what clap says of them first and how it goes on.
-const MISTAKES: [(&[&str], &str, &str); 10] = [
-    (
-        &["lms_tool"],
-        "error: 'lms_tool' requires a subcommand but one was not provided\n  [subcommands: verify, help]",
-        HINT,
-    ),
-    (
-        &["lms_tool", "stray"],
-        "error: unrecognized subcommand 'stray'",
-        HINT,
-    ),
-    (
-        &["lms_tool", "help", "stray"],
-        "error: unrecognized subcommand 'stray'",
-        HINT,
-    ),
-    (
-        &["lms_tool", "--stray"],
-        "error: unexpected argument '--stray' found",
-        HINT,
-    ),
-    (
-        &["lms_tool", "verify", "stray"],
-        "error: unexpected argument 'stray' found",
-        VERIFY_HINT,
-    ),
-    (
-        &["lms_tool", "verify", "--public", "k", "--signature", "s"],
-        "error: the following required arguments were not provided:\n  --message <FILE>",
-        VERIFY_HINT,
-    ),
-    (
-        &["lms_tool", "verify", "--public", "k", "--public", "k"],
-        "error: the argument '--public <FILE>' cannot be used multiple times",
-        VERIFY_HINT,
-    ),
-    (
-        &["lms_tool", "verify", "--public"],
-        "error: a value is required for '--public <FILE>' but none was supplied",
-        BARE_HINT,
-    ),
-    (
-        &["lms_tool", "--", "verify"],
-        "error: unexpected argument 'verify' found\n\n  tip: subcommand 'verify' exists; to use it, remove the '--' before it",
-        HINT,
-    ),
-    (
-        &["lms_tool", "help", "--help"],
-        "error: unrecognized subcommand '--help'",
-        HINT,
-    ),
-];
-
-#[test]
-fn reports_a_mistake(rt: HostRuntime) -> Result<(), Fail> {
-    for (words, text, hint) in MISTAKES {
-        let end = end_of(rt.alloc(), words, &mut MemoryWorld::new(rt.alloc()))?;
-        assert_eq!(rt; end.status, 2, "{words:?}");
-        let expected = format!(in rt.alloc(); "{text}{hint}")?;
-        assert_eq!(rt; end.errors, expected, "{words:?}");
-        assert_eq!(rt; end.output.as_str(), "");
     }
     Ok(())
 }

@@ -2,14 +2,16 @@
 ghost use Rattle.std.specs.Prelude.{◌≡◌, ◌≢◌, IfOk, IfSome};
 ghost use Rattle.std.specs.IoError.{error_kind};
 
+use super::file_store::{FileStore, TryLock, exists, lock};
 use super::{World, WorldFault};
+use lms_params::OutOfMemory;
 use std::alloc::Global;
 use std::fs::OpenFile;
 use std::io::{ErrorKind, Read};
 use std::rt::Files;
 use std::{fs, io};
 
-/// The files of the disk, named by their paths. Nothing is claimed of what they hold.
+/// The files and the states of the disk, named by their paths. Nothing is claimed of what they hold.
 #[derive(Drop)]
 pub struct DiskWorld<'a, R: Files> {
     files: &'a R,
@@ -24,10 +26,17 @@ impl<'a, R: Files> DiskWorld<'a, R> {
     }
 }
 
-impl<R: Files> World for DiskWorld<'_, R> {
-    ghost gives = { λ _ _ _. Unit {0} };
+impl<'a, R: Files + Sync> World for DiskWorld<'a, R>
+where
+    R::File: TryLock,
+{
+    type Lock = R::File;
 
-    ghost refuses = { λ _ _ _. Unit {0} };
+    type Store = FileStore<'a, R>;
+
+    ghost use Rattle.lms_tool.specs.Known.{nothing_known};
+
+    ghost known = { λ _. nothing_known };
 
     fn read(&self, alloc: Global, name: &str) -> Result<Vec<u8>, WorldFault> {
         read_whole(self.files, alloc, name).map_err(|error| fault_of(&error))
@@ -36,9 +45,25 @@ impl<R: Files> World for DiskWorld<'_, R> {
     fn write(&mut self, name: &str, bytes: &[u8]) -> Result<(), WorldFault> {
         fs::write(self.files, name, bytes).map_err(|error| fault_of(&error))
     }
+
+    fn exists(&self, name: &str) -> bool {
+        exists(self.files, name)
+    }
+
+    fn lock(&self, alloc: Global, name: &str) -> Result<Option<R::File>, OutOfMemory> {
+        lock(self.files, alloc, name)
+    }
+
+    fn take_store(&mut self, alloc: Global, name: &str) -> Result<FileStore<'a, R>, OutOfMemory> {
+        FileStore::new(alloc, self.files, name)
+    }
+
+    /// The state is in its file already.
+    fn put_back(&mut self, _name: &str, _store: FileStore<'a, R>) {}
 }
 
-fn read_whole<R: Files>(files: &R, alloc: Global, path: &str) -> io::Result<Vec<u8>> {
+/// The bytes of a file, whole.
+pub(super) fn read_whole<R: Files>(files: &R, alloc: Global, path: &str) -> io::Result<Vec<u8>> {
     let mut file = fs::open(files, path)?;
     let size = file.metadata()?.len() as usize;
     read_sized(alloc, &mut file, size)
@@ -54,7 +79,8 @@ fn read_sized<F: Read>(alloc: Global, file: &mut F, size: usize) -> io::Result<V
     Ok(bytes)
 }
 
-fn fault_of(error: &io::Error) -> WorldFault
+/// The fault of the world that an error of the disk is.
+pub(super) fn fault_of(error: &io::Error) -> WorldFault
     ensures memory { error_kind error.now ≡ ErrorKind.OutOfMemory → result ≡ WorldFault.OutOfMemory }
     ensures device { error_kind error.now ≢ ErrorKind.OutOfMemory → result ≡ WorldFault.Device }
 {

@@ -13,4 +13,4 @@ returns c =
     = c.append-3.ensures
     ∙ ap₂ (λ x y. x ++ y) (c.append-2.ensures ∙ ap (λ x. x ++ key.i) (c.append.ensures ∙ ap (λ x. x ++ key.seed) c.encode_head-text.ensures.text))
     c.write_u64.ensures in
-    c.append-4.ensures ∙ ap₂ (λ x y. x ++ y) before (c.digest-digest.ensures ∙ ap sha256 (c.as_slice.ensures.bytes ∙ before))
+    c.append-4.ensures ∙ ap₂ (λ x y. x ++ y) before (c.digest-digest.ensures ∙ ap sha256 (c.as_slice.ensures ∙ before))

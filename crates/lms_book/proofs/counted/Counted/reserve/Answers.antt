@@ -1,0 +1,56 @@
+use Rattle.std.proofs.Common.{sym, ◌∙◌, ap, arith}
+use Rattle.lms_hss.proofs.Keys.{capacity-limit}
+use Rattle.lms_book.specs.Desks.{Sums, sums, plus, sums_of}
+use Rattle.lms_book.proofs.DeskSums.{given_le, burnt_le, given_more, burnt_more}
+use Rattle.lms_book.proofs.InOrder.{order_stays}
+use Rattle.lms_book.proofs.counted.Counted.reserve.Goals as goal
+
+pub count-requires-clause-given : goal.count-requires-clause-given
+count-requires-clause-given g c =
+    let all = ap (λ (s : Sums). s.received) c.self.invariant.1 in
+    omega (arith, all, given_le c.self.inside.book.history, c.in-Ok.ensures.reserves.0, capacity-limit c.self.inside.book.key c.counter-counter.ensures.counted.admitted)
+
+pub count-requires-clause-burnt : goal.count-requires-clause-burnt
+count-requires-clause-burnt g c =
+    let all = ap (λ (s : Sums). s.burnt) c.self.invariant.1 in
+    omega (arith, all, burnt_le c.self.inside.book.history, c.in-Ok.ensures.reserves.0, capacity-limit c.self.inside.book.key c.counter-counter.ensures.counted.admitted)
+
+pub count-requires-in-Err-Store-clause-given : goal.count-requires-in-Err-Store-clause-given
+count-requires-in-Err-Store-clause-given g c =
+    let all = ap (λ (s : Sums). s.received) c.self.invariant.1 in
+    omega (arith, all, given_le c.self.inside.book.history, c.self.invariant.0.within, capacity-limit c.self.inside.book.key c.counter-counter.ensures.counted.admitted)
+
+pub count-requires-in-Err-Store-clause-burnt : goal.count-requires-in-Err-Store-clause-burnt
+count-requires-in-Err-Store-clause-burnt g c =
+    let all = ap (λ (s : Sums). s.burnt) c.self.invariant.1 in
+    let reserves = rw c.in-Err-Store.field-0-is at c.in-Err-Store.ensures.reserves in
+    omega (arith, all, burnt_le c.self.inside.book.history, reserves.0, capacity-limit c.self.inside.book.key c.counter-counter.ensures.counted.admitted)
+
+pub returns-in-Ok-clause-left : goal.returns-in-Ok-clause-left
+returns-in-Ok-clause-left g c =
+    order_stays g.S.StateStore.may_leave g.S.StateStore.failures c.args.n c.self.inside.book c.reserve.result c.reserve.new.self
+    c.counter-counter.result c.counter-counter.ensures.counter c.counter-counter.ensures.counted c.reserve.ensures.key c.reserve.ensures.base c.self.invariant.0 c.reserve.ensures.reserves
+
+pub returns-in-Err-Store-clause-left : goal.returns-in-Err-Store-clause-left
+returns-in-Err-Store-clause-left g c =
+    order_stays g.S.StateStore.may_leave g.S.StateStore.failures c.args.n c.self.inside.book c.reserve.result c.reserve.new.self
+    c.counter-counter.result c.counter-counter.ensures.counter c.counter-counter.ensures.counted c.reserve.ensures.key c.reserve.ensures.base c.self.invariant.0 c.reserve.ensures.reserves
+
+pub invariant_of-self : goal.invariant_of-self
+invariant_of-self g c = (
+  order_stays g.S.StateStore.may_leave g.S.StateStore.failures c.args.n c.self.inside.book c.reserve.result c.reserve.new.self
+      c.counter-counter.result c.counter-counter.ensures.counter c.counter-counter.ensures.counted c.reserve.ensures.key c.reserve.ensures.base c.self.invariant.0 c.reserve.ensures.reserves,
+  c.count.ensures.totals ∙ ap (λ (s : Sums). plus s (sums 1 c.args.n 0)) c.self.invariant.1 ∙ given_more c.self.inside.book.history c.args.n ∙ ap sums_of (sym c.in-Ok.ensures.reserves.2),
+  c.self.invariant.2,
+  c.self.invariant.3,
+)
+
+pub invariant_of-self-in-Err-Store : goal.invariant_of-self-in-Err-Store
+invariant_of-self-in-Err-Store g c =
+    let reserves = rw c.in-Err-Store.field-0-is at c.in-Err-Store.ensures.reserves in (
+      order_stays g.S.StateStore.may_leave g.S.StateStore.failures c.args.n c.self.inside.book c.reserve.result c.reserve.new.self
+          c.counter-counter.result c.counter-counter.ensures.counter c.counter-counter.ensures.counted c.reserve.ensures.key c.reserve.ensures.base c.self.invariant.0 c.reserve.ensures.reserves,
+      c.count-in-Err-Store.ensures.totals ∙ ap (λ (s : Sums). plus s (sums 1 0 c.args.n)) c.self.invariant.1 ∙ burnt_more c.self.inside.book.history c.args.n ∙ ap sums_of (sym reserves.3),
+      c.self.invariant.2,
+      c.self.invariant.3,
+    )

@@ -1,0 +1,67 @@
+-- What desks count of a shared book.
+use Rattle.std.specs.Prelude.{◌≡◌, ℕ, ◌+◌, ◌≤◌, List, [], ◌∷◌, length, sum_by, Result, Ok, Err}
+use Rattle.lms_hss.specs.declared.key.HssKey.{HssKey as KeyOfCode}
+use Rattle.lms_book.specs.declared.history.Entry.{Entry}
+use Rattle.lms_book.specs.declared.history.Entry.TheVariants.{Given, Burnt}
+use Rattle.lms_book.specs.declared.refusals.BookFault.{BookFault}
+use Rattle.lms_book.specs.declared.refusals.BookFault.TheVariants.{Exhausted, OutOfMemory, Store}
+use Rattle.lms_book.specs.States.{LeaseState}
+
+-- numbers of entries, of indices received and of indices burnt
+pub record Sums : Type 0 where
+  pub entries : ℕ
+  pub received : ℕ
+  pub burnt : ℕ
+
+abbrev pub sums : ℕ → ℕ → ℕ → Sums
+sums entries received burnt = record { entries = entries; received = received; burnt = burnt }
+
+abbrev pub plus : Sums → Sums → Sums
+plus a b = sums (a.entries + b.entries) (a.received + b.received) (a.burnt + b.burnt)
+
+abbrev pub total : List Sums → Sums
+total [] = sums 0 0 0
+total (s ∷ more) = plus s (total more)
+
+-- the indices that a history gave
+abbrev pub given_len : Entry → ℕ
+given_len (Given len) = len
+given_len (Burnt len) = 0
+
+abbrev pub given_of : List Entry → ℕ
+given_of history = sum_by given_len history
+
+-- the indices that it burnt
+abbrev pub burnt_len : Entry → ℕ
+burnt_len (Given len) = 0
+burnt_len (Burnt len) = len
+
+abbrev pub burnt_of : List Entry → ℕ
+burnt_of history = sum_by burnt_len history
+
+-- all three of a history
+abbrev pub sums_of : List Entry → Sums
+sums_of history = sums (length history) (given_of history) (burnt_of history)
+
+-- none of the three is more
+pub record IsWithin (a b : Sums) : Type 0 where
+  pub entries : a.entries ≤ b.entries
+  pub received : a.received ≤ b.received
+  pub burnt : a.burnt ≤ b.burnt
+
+-- some parts of the three ledgers, as many of each, with what they count
+pub record SharesState : Type 0 where
+  pub parts : ℕ
+  pub counted : Sums
+
+-- a shared book: its key, and how many desks it has
+pub record SharedState : Type 0 where
+  pub key : KeyOfCode
+  pub desks : ℕ
+
+-- what a desk counts of a reservation of n indices
+abbrev pub Counts : ℕ → Sums → Result LeaseState BookFault → Sums → Type 0
+Counts n old (Ok lease) new = (lease.len ≡ n) × (new ≡ plus old (sums 1 n 0))
+Counts n old (Err (Store start len)) new = (len ≡ n) × (new ≡ plus old (sums 1 0 n))
+Counts n old (Err (Exhausted left)) new = new ≡ old
+Counts n old (Err OutOfMemory) new = new ≡ old

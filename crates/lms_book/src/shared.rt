@@ -1,0 +1,171 @@
+//! A book that threads share.
+ghost use Rattle.std.specs.Prelude.{◌≡◌, ◌+◌, ◌<◌, ◌≤◌, length, replicate, IfOk, IfErr, OnOk};
+ghost use Rattle.std.specs.Fn.{FnOnceReturnsAt};
+ghost use Rattle.lms_book.specs.Desks.{sums, plus, total, sums_of, Counts};
+
+use crate::book::{Book, Lease};
+use crate::counted::{Counted, burnt_in, given_in};
+use crate::desk::{Desk, opened};
+use crate::refusals::BookFault;
+use crate::reservations::Reservations;
+use crate::store::StateStore;
+use crate::tally::{Blanks, Tally, Totals};
+use lms_hss::HssKey;
+use lms_params::OutOfMemory;
+use std::alloc::Global;
+use std::marker::Model;
+use std::sync::{Mutex, Wait};
+use thiserror::Error;
+
+#[cfg(test)]
+mod tests;
+
+/// Not all desks of a book came to be settled.
+#[derive(Clone, Copy, Debug, PartialEq, Eq, Error)]
+#[error("{present} desks are not all")]
+pub struct MissingDesks {
+    /// How many came.
+    pub present: usize,
+}
+
+/// A book behind a lock. Whoever gets the lock finds the counter within the key, and the leases disjoint and below each
+/// counter that a stop could leave stored. The three ledgers are those of the entries, of the indices given and of the
+/// indices burnt. Contracts see the key and the number of desks.
+#[derive(Drop)]
+pub struct SharedBook<S: StateStore, E: Tally, G: Tally, B: Tally> {
+    counted: Mutex<Counted<S, E, G, B>>,
+    key: HssKey,
+    desks: usize,
+}
+
+impl<S: StateStore, E: Tally, G: Tally, B: Tally> Model for SharedBook<S, E, G, B> {
+    ghost use Rattle.std.specs.Prelude.{◌≡◌, ◌+◌};
+    ghost use Rattle.lms_book.specs.Desks.{SharedState};
+
+    ghost Value = { SharedState };
+
+    ghost view = { λ s. record { key = s.key; desks = s.desks } };
+
+    ghost invariant = { λ s.
+        (E.parts ≡ s.desks + 1) × (G.parts ≡ s.desks + 1) × (B.parts ≡ s.desks + 1) };
+}
+
+impl<S: StateStore, E: Tally, G: Tally, B: Tally> SharedBook<S, E, G, B> {
+    ghost use Rattle.lms_book.specs.States.{BookState};
+    ghost use Rattle.lms_book.specs.Books.{Reserves};
+    ghost use Rattle.lms_book.specs.Reservations.{reservations_of, IsInOrder};
+
+    /// Puts a book behind a lock, with 1 to 64 desks that have counted nothing. The blanks have one part for each desk,
+    /// and one for what the history counted before.
+    ///
+    /// `OutOfMemory` where memory for the desks is refused, with the book and the blanks handed back as they were.
+    pub fn share(
+        alloc: Global,
+        book: Book<S>,
+        blanks: Blanks,
+        desks: usize,
+    ) -> Result<(Self, Vec<Desk<E, G, B>>), (OutOfMemory, Book<S>, Blanks)>
+        requires some { 1 ≤ desks }
+        requires at_most { desks ≤ 64 }
+        requires entries { (blanks.entries.name ≡ E.name) × (blanks.entries.parts ≡ E.parts) × (E.parts ≡ desks + 1) }
+        requires given { (blanks.given.name ≡ G.name) × (blanks.given.parts ≡ G.parts) × (G.parts ≡ desks + 1) }
+        requires burnt { (blanks.burnt.name ≡ B.name) × (blanks.burnt.parts ≡ B.parts) × (B.parts ≡ desks + 1) }
+        requires before { sums_of book.history ≡ sums E.before G.before B.before }
+        ensures shared { IfOk result (λ r. r.0 ≡ record { key = book.key; desks = desks }) }
+        ensures desks { IfOk result (λ r. r.1.items ≡ replicate desks (sums 0 0 0)) }
+        ensures err { IfErr result (λ e. (e.1 ≡ book) × (e.2 ≡ blanks)) }
+    {
+        let places = match Vec::with_capacity(alloc, desks) {
+            Ok(places) => places,
+            Err(_) => return Err((OutOfMemory, book, blanks)),
+        };
+        let key = book.key();
+        let _counter = book.counter();
+        let _in_order = book.reservations();
+        let entries = book.history().len() as u64;
+        let given = given_in(book.history());
+        let burnt = burnt_in(book.history());
+        let (mut totals, mut shares) = Totals::<E, G, B>::open(blanks);
+        totals.add(&mut shares, entries, given, burnt);
+        let places = opened(places, &mut shares, desks);
+        let counted = Mutex::new(Counted {
+            book,
+            totals,
+            shares,
+        });
+        let shared = SharedBook {
+            counted,
+            key,
+            desks,
+        };
+        Ok((shared, places))
+    }
+
+    /// The key of the book that is shared.
+    pub fn key(&self) -> HssKey
+        ensures { result ≡ self.now.key }
+    {
+        self.key
+    }
+
+    /// `Book::reserve` under the lock, once, with its answers and what they leave, counted at the desk: a lease as an
+    /// entry and n indices received, `Store` as an entry and n indices burnt, and else nothing. Waits for the lock.
+    pub fn reserve<R: Wait>(
+        &self,
+        rt: &R,
+        desk: &mut Desk<E, G, B>,
+        n: u64,
+    ) -> Result<Lease, BookFault>
+        requires some { 1 ≤ n }
+        requires at_most { n ≤ 1024 }
+        ensures desk { Counts n desk.old result desk.new }
+        ensures reserves { (old new : BookState S) × IsInOrder S.may_leave old
+            × Reserves S.may_leave S.failures n old result new × IsInOrder S.may_leave new }
+    {
+        self.counted.lock(rt).reserve(desk, n)
+    }
+
+    /// Spends a lease that is not needed. Its indices stay used.
+    pub fn give_back(&self, lease: Lease) {
+        lease.end()
+    }
+
+    /// Lends what the book has reserved to a closure, under the lock, and gives its answer. Waits for the lock; the
+    /// closure must not ask for it again.
+    pub fn with<T, F: FnOnce(&Reservations<'_>) -> T, R: Wait>(&self, rt: &R, f: F) -> T
+        requires { F.IsAlwaysCallable f }
+        ensures { (book : BookState S) × IsInOrder S.may_leave book
+            × FnOnceReturnsAt F.FnOnce f (reservations_of book) result }
+    {
+        let guard = self.counted.lock(rt);
+        let counted: &Counted<S, E, G, B> = &guard;
+        let reservations = counted.book.reservations();
+        f(&reservations)
+    }
+
+    /// Takes the book back, once all desks have come. The entries, the indices given and the indices burnt that its
+    /// history gained since `share` are the sums over the desks.
+    ///
+    /// `MissingDesks` exactly where fewer desks came than were shared, with their number. All is handed back as it was.
+    pub fn settle(
+        self,
+        desks: Vec<Desk<E, G, B>>,
+    ) -> Result<Book<S>, (MissingDesks, Self, Vec<Desk<E, G, B>>)>
+        ensures settled { IfOk result (λ book.
+            sums_of book.history ≡ plus (sums E.before G.before B.before) (total desks.items)) }
+        ensures all { OnOk result (length desks.items ≡ self.desks) }
+        ensures missing { IfErr result (λ e. (e.0.present ≡ length desks.items) × (length desks.items < self.desks)) }
+        ensures back { IfErr result (λ e. (e.1 ≡ self) × (e.2.items ≡ desks.items)) }
+    {
+        if desks.len() < self.desks {
+            let present = desks.len();
+            return Err((MissingDesks { present }, self, desks));
+        }
+        let SharedBook {
+            counted,
+            key: _,
+            desks: _,
+        } = self;
+        Ok(counted.into_inner().into_book(desks))
+    }
+}

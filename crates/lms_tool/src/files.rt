@@ -1,0 +1,42 @@
+//! What every command does with files and states.
+ghost use Rattle.std.specs.Prelude.{◌≡◌, ◌⊎◌, ℕ, List, IfErr, IfOk, OnOk};
+ghost use Rattle.lms_tool.specs.Known.{Stays};
+ghost use Rattle.lms_tool.specs.Verifying.{RefusedAt};
+
+use crate::fault::Fault;
+use crate::world::{World, WorldFault};
+use lms_params::OutOfMemory;
+use std::alloc::Global;
+
+/// The bytes of a file. `Input` where it can't be read, `OutOfMemory` where memory for it was refused.
+pub fn read_file<W: World>(alloc: Global, world: &W, name: &str) -> Result<Vec<u8>, Fault>
+    ensures given { IfOk result (λ bytes. (W.known world.now).gives name.now bytes.items) }
+    ensures refused { IfErr result
+        (RefusedAt (W.known world.now) name.now) }
+{
+    match world.read(alloc, name) {
+        Ok(bytes) => Ok(bytes),
+        Err(WorldFault::Device) => Err(Fault::Input),
+        Err(WorldFault::OutOfMemory) => Err(Fault::OutOfMemory),
+    }
+}
+
+/// Makes these the bytes of a file. `Output` where it can't be written, or memory for that was refused.
+pub fn write_file<W: World>(world: &mut W, name: &str, bytes: &[u8]) -> Result<(), Fault>
+    ensures given { OnOk result ((W.known world.new).gives name.now bytes.now) }
+    ensures failed { IfErr result (λ fault. fault ≡ Fault.Output) }
+    ensures states { (state : List ℕ) → Stays (W.known world.old) (W.known world.new) state }
+{
+    world.write(name, bytes).map_err(|_| Fault::Output)
+}
+
+/// The lock of a state. `StateInUse` where it is not got, `OutOfMemory` where memory for its name was refused.
+pub fn lock_state<W: World>(alloc: Global, world: &W, state: &str) -> Result<W::Lock, Fault>
+    ensures { IfErr result (λ fault. (fault ≡ Fault.StateInUse) ⊎ (fault ≡ Fault.OutOfMemory)) }
+{
+    match world.lock(alloc, state) {
+        Ok(Some(lock)) => Ok(lock),
+        Ok(None) => Err(Fault::StateInUse),
+        Err(OutOfMemory) => Err(Fault::OutOfMemory),
+    }
+}

@@ -1,0 +1,59 @@
+//! `info`: what a key's state says.
+ghost use Rattle.std.specs.Prelude.{◌≡◌, ◌≢◌, ◌≤◌, IfErr, IfOk, OnOk};
+ghost use Rattle.lms_spec.specs.Hss.{capacity_of};
+ghost use Rattle.lms_hss.specs.Keys.{hss_key_of};
+ghost use Rattle.lms_book.specs.Image.{image_of};
+ghost use Rattle.lms_tool.specs.Known.{Stays};
+ghost use Rattle.lms_tool.specs.Signing.{Describes, FailsToDescribe, FailsToOpen};
+
+use crate::description::print_info;
+use crate::fault::Fault;
+use crate::files::lock_state;
+use crate::world::World;
+use lms_book::{Book, Image};
+use std::alloc::Global;
+use std::io::Write;
+
+/// Prints four lines on a key: its levels, how many indices are used, how many there are and how many are left.
+///
+/// In this order: `StateInUse` where the state's lock is not got, `ReadState`, `BadState`, `OutOfMemory`, `Output`.
+pub fn describe<W: World, O: Write>(
+    alloc: Global,
+    world: &mut W,
+    state: &str,
+    output: &mut O,
+) -> Result<(), Fault>
+    ensures described { OnOk result (Describes (W.known world.old) state.now
+        (O.contents output.old) (O.contents output.new)) }
+    ensures failed { IfErr result (FailsToDescribe (W.known world.old) state.now) }
+    ensures stays { Stays (W.known world.old) (W.known world.new) state.now }
+    ensures silent { IfErr result (λ fault. fault ≢ Fault.Output → output.new ≡ output.old) }
+{
+    let _lock = lock_state(alloc, world, state)?;
+    let image = read_state(alloc, world, state)?;
+    print_info(output, image.key, image.counter).map_err(|_| Fault::Output)
+}
+
+/// The key of a state, and how many of its indices are used.
+fn read_state<W: World>(alloc: Global, world: &mut W, state: &str) -> Result<Image, Fault>
+    ensures opened { IfOk result (λ image. (W.known world.old).keeps state.now (image_of image.key image.counter)) }
+    ensures stays { Stays (W.known world.old) (W.known world.new) state.now }
+    ensures within { IfOk result (λ image. image.counter ≤ capacity_of (hss_key_of image.key)) }
+    ensures failed { IfErr result (FailsToOpen (W.known world.old) state.now) }
+{
+    let store = world.take_store(alloc, state)?;
+    match Book::open(alloc, store) {
+        Ok(book) => {
+            let image = Image {
+                key: book.key(),
+                counter: book.counter(),
+            };
+            world.put_back(state, book.close());
+            Ok(image)
+        }
+        Err((fault, store)) => {
+            world.put_back(state, store);
+            Err(Fault::from(fault))
+        }
+    }
+}

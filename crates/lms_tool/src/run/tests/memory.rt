@@ -1,0 +1,94 @@
+//! Commands to which memory is refused once, where it is.
+use super::state::{INFO, ONE, is_at, keygen_one, sign_text};
+use super::{Ended, VERIFY, end_of};
+use crate::world::{MemoryWorld, World};
+use std::alloc::Global;
+use std::test::Fail;
+use std::thread::Threads;
+
+/// How many indices of the key are used.
+fn used(world: &MemoryWorld) -> Result<u64, Fail> {
+    for counter in 0..4 {
+        if is_at(world, &ONE, counter)? {
+            return Ok(counter);
+        }
+    }
+    Err(Fail::from("the state is the key's"))
+}
+
+/// How many indices a `sign` that ended so may have used.
+fn uses(end: &Ended) -> Option<u64> {
+    match (end.status, end.errors.as_str()) {
+        (0, "") => Some(1),
+        (5, "error: out of memory\n") => Some(0),
+        (5, "error: out of memory: 1 burnt\n") => Some(1),
+        (6, "error: cannot write output\n") => Some(1),
+        _ => None,
+    }
+}
+
+/// Signs twice, and says whether each used what it said, and one of them was done.
+fn signs(rt: &(impl Threads + AllocGlobal + Sync), world: &mut MemoryWorld) -> Result<bool, Fail> {
+    let before = used(world)?;
+    let first = end_of(rt, &sign_text(), world)?;
+    let between = used(world)?;
+    let second = end_of(rt, &sign_text(), world)?;
+    let after = used(world)?;
+    Ok(
+        uses(&first) == between.checked_sub(before)
+            && uses(&second) == after.checked_sub(between)
+            && (first.status == 0 || second.status == 0),
+    )
+}
+
+/// Makes a key, at the second try where memory was refused at the first.
+fn makes_a_key(
+    rt: &(impl Threads + AllocGlobal + Sync),
+    world: &mut MemoryWorld,
+) -> Result<bool, Fail> {
+    let first = end_of(rt, &keygen_one(), world)?;
+    Ok(match (first.status, first.errors.as_str()) {
+        (0, "") | (6, "error: cannot write output\n") => true,
+        (5, "error: out of memory\n") => end_of(rt, &keygen_one(), world)?.status == 0,
+        _ => false,
+    })
+}
+
+/// Asks twice for what changes nothing, and says whether it ended so at least once.
+fn ends_once(
+    rt: &(impl Threads + AllocGlobal + Sync),
+    words: &[&str],
+    world: &mut MemoryWorld,
+    status: u8,
+) -> Result<bool, Fail> {
+    let first = end_of(rt, words, world)?;
+    let second = end_of(rt, words, world)?;
+    Ok(first.status == status || second.status == status)
+}
+
+/// Whether the public key was written.
+fn is_published(alloc: Global, world: &MemoryWorld) -> bool {
+    world.read(alloc, "key.pub").is_ok() || world.read(alloc, "key.pub").is_ok()
+}
+
+/// `rt test` refuses no memory. At the top of the workspace,
+/// `tests/refused lms_tool run::tests::memory::refused_memory_is_said` refuses each request in turn.
+#[test]
+fn refused_memory_is_said(rt: HostRuntime) -> Result<(), Fail> {
+    let mut world = MemoryWorld::new(rt.alloc());
+    if world.write("text", b"abc").is_err() {
+        world.write("text", b"abc")?;
+    }
+    assert!(rt; makes_a_key(&rt, &mut world)?);
+    assert!(rt; signs(&rt, &mut world)?);
+    let before = used(&world)?;
+    assert!(rt; ends_once(&rt, &INFO, &mut world, 0)?);
+    let verified = if is_published(rt.alloc(), &world) {
+        0
+    } else {
+        6
+    };
+    assert!(rt; ends_once(&rt, &VERIFY, &mut world, verified)?);
+    assert_eq!(rt; used(&world)?, before);
+    Ok(())
+}

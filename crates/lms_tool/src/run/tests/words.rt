@@ -1,0 +1,179 @@
+use super::end_of;
+use crate::world::MemoryWorld;
+use std::test::Fail;
+
+const HELP: &str = "Makes keys, signs and verifies with HSS/LMS (RFC 8554)
+
+Usage: lms_tool <COMMAND>
+
+Commands:
+  keygen  Makes a key from a seed
+  info    Describes a key
+  sign    Signs a message
+  verify  Prints whether a signature is valid
+  help    Print this message or the help of the given subcommand(s)
+
+Options:
+  -h, --help  Print help
+";
+
+const KEYGEN_HELP: &str = "Makes a key from a seed
+
+Usage: lms_tool keygen --levels <LEVELS> --seed <HEX> --id <HEX> --state <FILE> --public <FILE>
+
+Options:
+      --levels <LEVELS>  The levels of trees
+      --seed <HEX>       The seed
+      --id <HEX>         The identifier
+      --state <FILE>     The key's state
+      --public <FILE>    The public key
+  -h, --help             Print help
+";
+
+const INFO_HELP: &str = "Describes a key
+
+Usage: lms_tool info --state <FILE>
+
+Options:
+      --state <FILE>  The key's state
+  -h, --help          Print help
+";
+
+const SIGN_HELP: &str = "Signs a message
+
+Usage: lms_tool sign --state <FILE> --random <HEX> --message <FILE> --out <FILE>
+
+Options:
+      --state <FILE>    The key's state
+      --random <HEX>    The randomizer
+      --message <FILE>  The message
+      --out <FILE>      The signature
+  -h, --help            Print help
+";
+
+const VERIFY_HELP: &str = "Prints whether a signature is valid
+
+Usage: lms_tool verify --public <FILE> --message <FILE> --signature <FILE>
+
+Options:
+      --public <FILE>     The public key
+      --message <FILE>    The message
+      --signature <FILE>  The signature
+  -h, --help              Print help
+";
+
+const HELP_HELP: &str = "Print this message or the help of the given subcommand(s)
+
+Usage: lms_tool help [COMMAND]...
+
+Arguments:
+  [COMMAND]...  Print help for the subcommand(s)
+";
+
+#[test]
+fn shows_help(rt: HostRuntime) -> Result<(), Fail> {
+    let rows: [(&[&str], &str); 10] = [
+        (&["lms_tool", "--help"], HELP),
+        (&["lms_tool", "-h"], HELP),
+        (&["lms_tool", "help"], HELP),
+        (&["lms_tool", "keygen", "--help"], KEYGEN_HELP),
+        (&["lms_tool", "info", "--help"], INFO_HELP),
+        (&["lms_tool", "sign", "--help"], SIGN_HELP),
+        (&["lms_tool", "verify", "--help"], VERIFY_HELP),
+        (&["lms_tool", "verify", "-h"], VERIFY_HELP),
+        (&["lms_tool", "help", "verify"], VERIFY_HELP),
+        (&["lms_tool", "help", "help"], HELP_HELP),
+    ];
+    for (words, text) in rows {
+        let end = end_of(&rt, words, &mut MemoryWorld::new(rt.alloc()))?;
+        assert_eq!(rt; end.status, 0, "{words:?}");
+        assert_eq!(rt; end.output.as_str(), text, "{words:?}");
+        assert_eq!(rt; end.errors.as_str(), "");
+    }
+    Ok(())
+}
+
+const HINT: &str = "
+
+Usage: lms_tool <COMMAND>
+
+For more information, try '--help'.
+";
+
+const VERIFY_HINT: &str = "
+
+Usage: lms_tool verify --public <FILE> --message <FILE> --signature <FILE>
+
+For more information, try '--help'.
+";
+
+const BARE_HINT: &str = "
+
+For more information, try '--help'.
+";
+
+/// Words that are no command, what clap says of them first and how it goes on.
+const MISTAKES: [(&[&str], &str, &str); 10] = [
+    (
+        &["lms_tool"],
+        "error: 'lms_tool' requires a subcommand but one was not provided\n  [subcommands: keygen, info, sign, verify, help]",
+        HINT,
+    ),
+    (
+        &["lms_tool", "stray"],
+        "error: unrecognized subcommand 'stray'",
+        HINT,
+    ),
+    (
+        &["lms_tool", "help", "stray"],
+        "error: unrecognized subcommand 'stray'",
+        HINT,
+    ),
+    (
+        &["lms_tool", "--stray"],
+        "error: unexpected argument '--stray' found",
+        HINT,
+    ),
+    (
+        &["lms_tool", "verify", "stray"],
+        "error: unexpected argument 'stray' found",
+        VERIFY_HINT,
+    ),
+    (
+        &["lms_tool", "verify", "--public", "k", "--signature", "s"],
+        "error: the following required arguments were not provided:\n  --message <FILE>",
+        VERIFY_HINT,
+    ),
+    (
+        &["lms_tool", "verify", "--public", "k", "--public", "k"],
+        "error: the argument '--public <FILE>' cannot be used multiple times",
+        VERIFY_HINT,
+    ),
+    (
+        &["lms_tool", "verify", "--public"],
+        "error: a value is required for '--public <FILE>' but none was supplied",
+        BARE_HINT,
+    ),
+    (
+        &["lms_tool", "--", "verify"],
+        "error: unexpected argument 'verify' found\n\n  tip: subcommand 'verify' exists; to use it, remove the '--' before it",
+        HINT,
+    ),
+    (
+        &["lms_tool", "help", "--help"],
+        "error: unrecognized subcommand '--help'",
+        HINT,
+    ),
+];
+
+#[test]
+fn reports_a_mistake(rt: HostRuntime) -> Result<(), Fail> {
+    for (words, text, hint) in MISTAKES {
+        let end = end_of(&rt, words, &mut MemoryWorld::new(rt.alloc()))?;
+        assert_eq!(rt; end.status, 2, "{words:?}");
+        let expected = format!(in rt.alloc(); "{text}{hint}")?;
+        assert_eq!(rt; end.errors, expected, "{words:?}");
+        assert_eq!(rt; end.output.as_str(), "");
+    }
+    Ok(())
+}

@@ -1,0 +1,219 @@
+//! A store in a file of the disk.
+//!
+//! No contract knows a disk. What is proved speaks of the texts that were written through a store, and stands on two
+//! premises: a rename takes the place of the file whole, so that a stop within it leaves the old file or the new one; and
+//! what `sync_all` answered `Ok` for outlives a stop, of a file its bytes and of a folder its names.
+ghost use Rattle.std.specs.Prelude.{◌≡◌, ◌⊎◌, ◌<◌, length, true, false, IfOk, IfSome, IfNone, OnOk, OnErr};
+ghost use Rattle.lms_tool.specs.FileStores.{Takes, fresh, written, failed};
+
+mod lock;
+mod paths;
+mod record;
+#[cfg(test)]
+pub(crate) mod tests;
+
+pub use self::lock::{TryLock, lock};
+pub use self::paths::exists;
+use self::paths::{folder_of, resolve, sibling};
+use self::record::{Attempt, Text, leaves};
+use super::WorldFault;
+use super::disk::{fault_of, read_whole};
+use arrayvec::ArrayVec;
+use lms_book::{ReadFault, StateStore, StoreFault};
+use lms_params::OutOfMemory;
+use std::alloc::Global;
+use std::fs::{OpenFile, OpenOptions};
+use std::io::{ErrorKind, Write};
+use std::marker::Model;
+use std::os::unix::fs::OpenOptionsExt;
+use std::rt::Files;
+use std::{fs, io};
+
+/// Reading and writing for the owner alone, since the state holds the secret seed.
+const OWNER_ONLY: u32 = 0o600;
+
+/// A store in a file, with a record of up to 8 writes. Contracts see the record and the count of failures.
+#[derive(Drop)]
+pub struct FileStore<'a, R: Files> {
+    files: &'a R,
+    state: String,
+    draft: String,
+    folder: String,
+    // Where false, nobody knows which file the name leads to.
+    resolved: bool,
+    writes: ArrayVec<Attempt, 8>,
+    failures: u64,
+}
+
+impl<'a, R: Files> Model for FileStore<'a, R> {
+    ghost use Rattle.lms_tool.specs.FileStores.{FileState};
+
+    ghost Value = { FileState };
+
+    ghost view = { λ store. record { writes = store.writes.items; failures = store.failures } };
+
+    ghost use Rattle.std.specs.Prelude.{string_bytes};
+    ghost use Rattle.lms_tool.specs.FileStores.{AreBeside};
+
+    ghost invariant = { λ store.
+        AreBeside (string_bytes store.state) (string_bytes store.draft) (string_bytes store.folder) };
+}
+
+impl<'a, R: Files> FileStore<'a, R> {
+    /// The store in the file of this name, which need not be there yet. A symbolic link is followed once, here; where it
+    /// can't be told where it leads, every read and every write fails. `OutOfMemory` where memory for the paths is refused.
+    pub fn new(alloc: Global, files: &'a R, name: &str) -> Result<Self, OutOfMemory>
+        ensures { IfOk result (λ store. store ≡ fresh) }
+    {
+        let (state, resolved) = match resolve(files, alloc, name) {
+            Ok(path) => (path, true),
+            Err(error) if error.kind() == ErrorKind::OutOfMemory => return Err(OutOfMemory),
+            Err(_) => (String::from_str(alloc, name)?, false),
+        };
+        let draft = sibling(alloc, state.as_str(), ".new")?;
+        let folder = String::from_str(alloc, folder_of(state.as_str()))?;
+        Ok(FileStore {
+            files,
+            state,
+            draft,
+            folder,
+            resolved,
+            writes: ArrayVec::new(),
+            failures: 0,
+        })
+    }
+
+    /// The text for the record, where a write of it can be taken.
+    fn admit(&self, text: &[u8]) -> Option<Text>
+        ensures some { IfSome result (λ copy. (copy.items ≡ text.now) × Takes self.now text.now) }
+        ensures none { IfNone result (¬ Takes self.now text.now) }
+    {
+        if self.writes.is_full() {
+            return None;
+        }
+        ArrayVec::try_from(text).ok()
+    }
+
+    /// An error where the name could not be resolved.
+    fn reach(&self) -> io::Result<()> {
+        if self.resolved {
+            Ok(())
+        } else {
+            Err(io::Error::from(ErrorKind::InvalidFilename))
+        }
+    }
+
+    /// The file whole.
+    fn fetch(&self, alloc: Global) -> io::Result<Vec<u8>> {
+        self.reach()?;
+        read_whole(self.files, alloc, self.state.as_str())
+    }
+
+    /// Writes the text beside the state, flushes it, and puts it in the state's place. A stop before the rename leaves
+    /// the old state; one after it, until the folder is flushed, the old or the new one. The folder is opened first, so
+    /// that one that can't be flushed changes nothing.
+    fn put(&self, text: &[u8]) -> io::Result<()> {
+        self.reach()?;
+        let folder = fs::open(self.files, self.folder.as_str())?;
+        self.write_draft(text)?;
+        fs::rename(self.files, self.draft.as_str(), self.state.as_str())?;
+        folder.sync_all()
+    }
+
+    /// Writes the text beside the state and flushes it. The file is a new one, which nobody else may read, also where an
+    /// earlier stop left one there.
+    fn write_draft(&self, text: &[u8]) -> io::Result<()> {
+        match fs::remove_file(self.files, self.draft.as_str()) {
+            Err(error) if error.kind() != ErrorKind::NotFound => return Err(error),
+            _ => {}
+        }
+        let mut draft = OpenOptions::new()
+            .write(true)
+            .create_new(true)
+            .mode(OWNER_ONLY)
+            .open(self.files, self.draft.as_str())?;
+        draft.write_all(text)?;
+        draft.sync_all()
+    }
+
+    /// Records a write.
+    fn record(&mut self, text: Text, stored: bool)
+        requires { length self.old.writes < 8 }
+        ensures { self.new ≡ written self.old text.items stored }
+    {
+        self.writes.insert(0, Attempt::new(text, stored));
+    }
+
+    /// Counts a failure.
+    fn fail(&mut self)
+        ensures { self.new ≡ failed self.old }
+    {
+        self.failures = self.failures.saturating_add(1);
+    }
+}
+
+impl<R: Files + Sync> StateStore for FileStore<'_, R> {
+    ghost use Rattle.std.specs.Prelude.{◌⊎◌, List, ℕ};
+    ghost use Rattle.lms_tool.specs.FileStores.{MayLeave, writes_made, HasLeftSince, Reads, Replaces, counts_now, only_now};
+    ghost use Rattle.lms_book.specs.Stops.{HasSameStops, IsOnlyStop, AtEachMoment, raised, CountsRead};
+
+    ghost may_leave = { MayLeave };
+
+    ghost moment = { writes_made };
+
+    ghost left_since = { HasLeftSince };
+
+    ghost failures = { λ store. store.failures };
+
+    ghost counts_now = { λ store. counts_now store.writes };
+
+    ghost only_now = { λ store. only_now store.writes };
+
+    /// The file whole. `Device` where that fails, and where the file holds a text that no stop could leave after the
+    /// writes of the record, so that somebody else wrote it; `OutOfMemory` where memory for the text is refused.
+    fn read(&mut self, alloc: Global) -> Result<Vec<u8>, ReadFault>
+        ensures text { IfOk result (λ text. MayLeave self.old text.items) }
+        ensures stops { HasSameStops (MayLeave self.old) (MayLeave self.new) }
+        ensures moments { AtEachMoment writes_made HasLeftSince self.old self.new (MayLeave self.old) }
+        ensures failures { CountsRead self.old.failures self.new.failures result }
+        ensures reads { Reads self.old result self.new }
+    {
+        match self.fetch(alloc).map_err(|error| fault_of(&error)) {
+            Ok(text) if leaves(self.writes.as_slice(), &text) => Ok(text),
+            Err(WorldFault::OutOfMemory) => Err(ReadFault::OutOfMemory),
+            _ => {
+                self.fail();
+                Err(ReadFault::Device)
+            }
+        }
+    }
+
+    /// Takes no memory. A text of over 256 bytes and a ninth write are refused, and touch no file. Else the write is
+    /// recorded: the text goes to `NAME.new`, which only the owner may read, is flushed, takes the place of the file, and
+    /// the folder is flushed. A stop at any point leaves the file with the old text or with this one.
+    fn replace(&mut self, text: &[u8]) -> Result<(), StoreFault>
+        ensures ok { OnOk result (IsOnlyStop text.now (MayLeave self.new)) }
+        ensures err { OnErr result ((left : List ℕ) → MayLeave self.new left → MayLeave self.old left ⊎ (left ≡ text.now)) }
+        ensures moments { AtEachMoment writes_made HasLeftSince self.old self.new
+            (λ left. MayLeave self.old left ⊎ (left ≡ text.now)) }
+        ensures ok_failures { OnOk result (self.new.failures ≡ self.old.failures) }
+        ensures err_failures { OnErr result (self.new.failures ≡ raised self.old.failures) }
+        ensures replaces { Replaces self.old text.now result self.new }
+    {
+        let Some(copy) = self.admit(text) else {
+            self.fail();
+            return Err(StoreFault);
+        };
+        match self.put(text) {
+            Ok(()) => {
+                self.record(copy, true);
+                Ok(())
+            }
+            Err(_) => {
+                self.record(copy, false);
+                self.fail();
+                Err(StoreFault)
+            }
+        }
+    }
+}

@@ -1,0 +1,39 @@
+/* Loaded before a program, refuses its request for memory of the number REFUSE, counted from 1, and says in the file
+   REQUESTS how many it made. */
+#define _GNU_SOURCE
+#include <dlfcn.h>
+#include <stdio.h>
+#include <stdlib.h>
+#include <sys/syscall.h>
+#include <unistd.h>
+
+static long requests;
+
+static int is_refused(void) {
+    const char *refused = getenv("REFUSE");
+    long number = __sync_add_and_fetch(&requests, 1);
+    return refused && number == atol(refused);
+}
+
+void *malloc(size_t size) {
+    void *(*next)(size_t) = dlsym(RTLD_NEXT, "malloc");
+    return is_refused() ? NULL : next(size);
+}
+
+void *realloc(void *block, size_t size) {
+    void *(*next)(void *, size_t) = dlsym(RTLD_NEXT, "realloc");
+    return is_refused() ? NULL : next(block, size);
+}
+
+/* The compiled tests end here. */
+void _exit(int status) {
+    const char *name = getenv("REQUESTS");
+    long made = requests;
+    FILE *file = name ? fopen(name, "w") : NULL;
+    if (file) {
+        fprintf(file, "%ld\n", made);
+        fclose(file);
+    }
+    syscall(SYS_exit_group, status);
+    __builtin_unreachable();
+}
