@@ -1,5 +1,5 @@
 -- A book's leases are disjoint and below what a stop could leave, and a reservation keeps them so.
-use Rattle.std.proofs.Common.{◌≡◌, ℕ, ◌+◌, ◌≤◌, List, [], ◌∷◌, sym, refl, subst, arith}
+use Rattle.std.proofs.Common.{◌≡◌, ◌⊎◌, ℕ, ◌+◌, ◌≤◌, List, [], ◌∷◌, sym, refl, subst, arith}
 use Rattle.std.specs.Prelude.{AllPairs, Result, Ok, Err}
 use Rattle.std.specs.List.{AllByRecursion}
 use Rattle.lms_spec.specs.Hss.{capacity_of}
@@ -9,11 +9,12 @@ use Rattle.lms_book.specs.declared.history.Entry.{Entry}
 use Rattle.lms_book.specs.declared.history.Entry.TheVariants.{Given, Burnt}
 use Rattle.lms_book.specs.declared.refusals.BookFault.{BookFault}
 use Rattle.lms_book.specs.declared.refusals.BookFault.TheVariants.{Exhausted, OutOfMemory, Store}
-use Rattle.lms_book.specs.Image.{HasImage}
+use Rattle.lms_book.specs.Image.{image_of, HasImage}
 use Rattle.lms_book.specs.History.{Range, range_of, end, counter_of, leases, stored_of}
+use Rattle.lms_book.specs.Stops.{AtEachMoment}
 use Rattle.lms_book.specs.States.{BookState, LeaseState, IsSafe, IsKept}
 use Rattle.lms_book.specs.Books.{counter, capacity, Reserves}
-use Rattle.lms_book.specs.Reservations.{Follows, IsInOrder}
+use Rattle.lms_book.specs.Reservations.{Follows, IsInOrder, ReservesInOrder}
 use Rattle.lms_book.proofs.Histories.{kept_given, kept_burnt}
 use Rattle.lms_book.proofs.Overlap.{pairs_cons}
 
@@ -54,3 +55,16 @@ order_stays {S} may_leave failures n old answer new top at counted k b order is 
     by_answer (Err OutOfMemory) (room, same) = subst (λ (book : BookState S). IsInOrder may_leave book) (sym same) order
     by_answer (Err (Store start len)) (room, s, l, history, only, raised) =
         kept_in_order may_leave new old.key old.base _ _ (sym k) (sym b) (kept_burnt old.key old.base (counter old) (stored_of old.base old.history) n old.history new.history (may_leave old.store) (may_leave new.store) kept room history only)
+
+pub reserved_in_order : {S : Type 0} (may_leave : S → List ℕ → Type 0) (failures moment : S → ℕ) (left_since : S → ℕ → List ℕ → Type 0) (n : ℕ) (old : BookState S) (answer : Result LeaseState BookFault) (new : BookState S) (top : ℕ)
+    → top ≡ counter old → HasImage old.key top → IsInOrder may_leave old → new.key ≡ old.key → new.base ≡ old.base → Reserves may_leave failures n old answer new
+    → AtEachMoment moment left_since old.store new.store (λ text. may_leave old.store text ⊎ (text ≡ image_of old.key (counter old + n)))
+    → ReservesInOrder may_leave failures moment left_since n old answer new
+reserved_in_order may_leave failures moment left_since n old answer new top at counted order k b is moments = record {
+  found = order;
+  key = k;
+  base = b;
+  reserves = is;
+  moments = moments;
+  left = order_stays may_leave failures n old answer new top at counted k b order is;
+}

@@ -1,5 +1,6 @@
 -- What desks count of a shared book.
 use Rattle.std.specs.Prelude.{◌≡◌, ℕ, ◌+◌, ◌≤◌, List, [], ◌∷◌, length, sum_by, Result, Ok, Err}
+use Rattle.std.specs.declared.sync.ledger.Blank.{Blank as BlankOfCode}
 use Rattle.lms_hss.specs.declared.key.HssKey.{HssKey as KeyOfCode}
 use Rattle.lms_book.specs.declared.history.Entry.{Entry}
 use Rattle.lms_book.specs.declared.history.Entry.TheVariants.{Given, Burnt}
@@ -13,29 +14,34 @@ pub record Sums : Type 0 where
   pub received : ℕ
   pub burnt : ℕ
 
+-- the three as one
 abbrev pub sums : ℕ → ℕ → ℕ → Sums
 sums entries received burnt = record { entries = entries; received = received; burnt = burnt }
 
+-- each of the three added
 abbrev pub plus : Sums → Sums → Sums
 plus a b = sums (a.entries + b.entries) (a.received + b.received) (a.burnt + b.burnt)
 
+-- the sums of all in a list
 abbrev pub total : List Sums → Sums
 total [] = sums 0 0 0
 total (s ∷ more) = plus s (total more)
 
--- the indices that a history gave
+-- how many indices an entry gave
 abbrev pub given_len : Entry → ℕ
 given_len (Given len) = len
 given_len (Burnt len) = 0
 
+-- how many a history gave
 abbrev pub given_of : List Entry → ℕ
 given_of history = sum_by given_len history
 
--- the indices that it burnt
+-- how many indices an entry burnt
 abbrev pub burnt_len : Entry → ℕ
 burnt_len (Given len) = 0
 burnt_len (Burnt len) = len
 
+-- how many a history burnt
 abbrev pub burnt_of : List Entry → ℕ
 burnt_of history = sum_by burnt_len history
 
@@ -48,6 +54,10 @@ pub record IsWithin (a b : Sums) : Type 0 where
   pub entries : a.entries ≤ b.entries
   pub received : a.received ≤ b.received
   pub burnt : a.burnt ≤ b.burnt
+
+-- a blank is of the ledger with this name and these parts, and they are so many
+abbrev pub BlankFits : BlankOfCode → ℕ → ℕ → ℕ → Type 0
+BlankFits blank name parts wanted = (blank.name ≡ name) × (blank.parts ≡ parts) × (parts ≡ wanted)
 
 -- some parts of the three ledgers, as many of each, with what they count
 pub record SharesState : Type 0 where

@@ -1,10 +1,9 @@
 //! What lies behind the lock of a shared book.
-ghost use Rattle.std.specs.Prelude.{◌≡◌, ◌+◌, ◌<◌, ◌≤◌, ◌^◌, length};
-ghost use Rattle.lms_book.specs.Desks.{sums, plus, total, sums_of, given_of, burnt_of, Counts};
+ghost use Rattle.std.specs.Prelude.{◌≡◌, ◌+◌, ◌≤◌, length, IfOk};
+ghost use Rattle.lms_book.specs.Desks.{sums, plus, total, sums_of, Counts};
 
 use crate::book::{Book, Lease};
-use crate::desk::{Desk, gathered};
-use crate::history::Entry;
+use crate::desk::{Desk, all_shares};
 use crate::refusals::BookFault;
 use crate::store::StateStore;
 use crate::tally::{Shares, Tally, Totals};
@@ -12,13 +11,13 @@ use std::marker::Model;
 
 /// A book, with the sums of its history. What the history counted before it was shared is one share of them.
 #[derive(Drop)]
-pub(crate) struct Counted<S: StateStore, E: Tally, G: Tally, B: Tally> {
+pub(crate) struct CountedBook<S: StateStore, E: Tally, G: Tally, B: Tally> {
     pub(crate) book: Book<S>,
     pub(crate) totals: Totals<E, G, B>,
     pub(crate) shares: Shares<E, G, B>,
 }
 
-impl<S: StateStore, E: Tally, G: Tally, B: Tally> Model for Counted<S, E, G, B> {
+impl<S: StateStore, E: Tally, G: Tally, B: Tally> Model for CountedBook<S, E, G, B> {
     ghost use Rattle.std.specs.Prelude.{◌≡◌};
     ghost use Rattle.lms_book.specs.Desks.{sums, sums_of};
     ghost use Rattle.lms_book.specs.Reservations.{IsInOrder};
@@ -29,22 +28,23 @@ impl<S: StateStore, E: Tally, G: Tally, B: Tally> Model for Counted<S, E, G, B> 
     ghost view = { λ c. c.book };
 
     ghost invariant = { λ c. IsInOrder S.may_leave c.book × (c.totals ≡ sums_of c.book.history)
-        × (c.shares.parts ≡ 1) × (c.shares.counted ≡ sums E.before G.before B.before) };
+        × (c.shares.parts ≡ 1) × (c.shares.counted ≡ sums E.before G.before B.before)
+        × (c.book.key ≡ E.key) };
 }
 
-impl<S: StateStore, E: Tally, G: Tally, B: Tally> Counted<S, E, G, B> {
-    ghost use Rattle.lms_book.specs.Books.{Reserves};
-    ghost use Rattle.lms_book.specs.Reservations.{IsInOrder};
+impl<S: StateStore, E: Tally, G: Tally, B: Tally> CountedBook<S, E, G, B> {
+    ghost use Rattle.lms_book.specs.Reservations.{ReservesInOrder};
 
     /// `Book::reserve`, counted at the desk and in the totals.
     pub(crate) fn reserve(&mut self, desk: &mut Desk<E, G, B>, n: u64) -> Result<Lease, BookFault>
         requires some { 1 ≤ n }
         requires at_most { n ≤ 1024 }
-        ensures found { IsInOrder S.may_leave self.old }
-        ensures reserves { Reserves S.may_leave S.failures n self.old result self.new }
-        ensures left { IsInOrder S.may_leave self.new }
+        ensures key { self.old.key ≡ E.key }
+        ensures lease { IfOk result (λ lease. lease.key ≡ E.key) }
+        ensures reserves { ReservesInOrder S.may_leave S.failures S.moment S.left_since n self.old result self.new }
         ensures desk { Counts n desk.old result desk.new }
     {
+        // Their clauses bound the sums.
         let _entries = self.book.history().len();
         let _counter = self.book.counter();
         match self.book.reserve(n) {
@@ -67,44 +67,17 @@ impl<S: StateStore, E: Tally, G: Tally, B: Tally> Counted<S, E, G, B> {
         requires all { E.parts ≤ length desks.items + 1 }
         requires same { (G.parts ≡ E.parts) × (B.parts ≡ E.parts) }
         ensures settled { sums_of result.history ≡ plus (sums E.before G.before B.before) (total desks.items) }
+        ensures key { result.key ≡ E.key }
         ensures present { E.parts ≡ length desks.items + 1 }
     {
-        let Counted {
+        let CountedBook {
             book,
             totals,
             shares,
         } = self;
         let mut totals = totals;
-        let mut all = gathered(shares, desks);
+        let mut all = all_shares(shares, desks);
         totals.audit(&mut all);
         book
     }
-}
-
-/// The indices that a history gave.
-pub(crate) fn given_in(history: &[Entry]) -> u64
-    requires { given_of history.now < 2 ^ 64 }
-    ensures { result ≡ given_of history.now }
-{
-    let mut given = 0;
-    for entry in history {
-        if let Entry::Given { len } = *entry {
-            given += len;
-        }
-    }
-    given
-}
-
-/// The indices that a history burnt.
-pub(crate) fn burnt_in(history: &[Entry]) -> u64
-    requires { burnt_of history.now < 2 ^ 64 }
-    ensures { result ≡ burnt_of history.now }
-{
-    let mut burnt = 0;
-    for entry in history {
-        if let Entry::Burnt { len } = *entry {
-            burnt += len;
-        }
-    }
-    burnt
 }

@@ -67,32 +67,32 @@ impl<E: Tally, G: Tally, B: Tally> Desk<E, G, B> {
 }
 
 /// Desks that have counted nothing, each with one part of the shares.
-pub(crate) fn opened<E: Tally, G: Tally, B: Tally>(
-    places: Vec<Desk<E, G, B>>,
+pub(crate) fn new_desks<E: Tally, G: Tally, B: Tally>(
+    room: Vec<Desk<E, G, B>>,
     shares: &mut Shares<E, G, B>,
-    desks: usize,
+    count: usize,
 ) -> Vec<Desk<E, G, B>>
-    requires empty { vec_len places ≡ 0 }
-    requires room { desks ≤ vec_capacity places }
-    requires parts { shares.old.parts ≡ desks + 1 }
-    ensures desks { result.items ≡ replicate desks (sums 0 0 0) }
+    requires empty { vec_len room ≡ 0 }
+    requires capacity { count ≤ vec_capacity room }
+    requires parts { shares.old.parts ≡ count + 1 }
+    ensures desks { result.items ≡ replicate count (sums 0 0 0) }
     ensures shares { shares.new ≡ record { parts = 1; counted = shares.old.counted } }
 {
-    let mut places = places;
-    for _ in 0..desks {
+    let mut desks = room;
+    for _ in 0..count {
         let desk = Desk {
             entries: 0,
             received: 0,
             burnt: 0,
             shares: shares.split_off(),
         };
-        places.push_reserved(desk);
+        desks.push_reserved(desk);
     }
-    places
+    desks
 }
 
 /// These shares with those of all desks.
-pub(crate) fn gathered<E: Tally, G: Tally, B: Tally>(
+pub(crate) fn all_shares<E: Tally, G: Tally, B: Tally>(
     shares: Shares<E, G, B>,
     desks: Vec<Desk<E, G, B>>,
 ) -> Shares<E, G, B>

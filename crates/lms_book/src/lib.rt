@@ -1,4 +1,4 @@
-//! The signer's book: which indices of a key were given out, stored before they are given.
+//! The signer's book: which indices of a key were given out, stored before they are given. Threads may share one.
 //!
 //! An index that is given twice signs twice, and that gives a forger what he needs. An older image must never be put back
 //! into a store, and one image never be used in two places: nothing here can see either.
@@ -27,8 +27,8 @@ pub use crate::history::Entry;
 pub use crate::image::{Image, ImageBytes, ImageFault, decode_image, encode_image};
 pub use crate::memory::MemoryStore;
 pub use crate::plans::Left;
-pub use crate::refusals::{BookFault, OpenFault};
+pub use crate::refusals::{BookFault, MissingDesks, OpenFault};
 pub use crate::reservations::Reservations;
-pub use crate::shared::{MissingDesks, SharedBook};
+pub use crate::shared::SharedBook;
 pub use crate::store::{ReadFault, StateStore, StoreFault};
 pub use crate::tally::{Blanks, Tally};

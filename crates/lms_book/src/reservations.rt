@@ -2,7 +2,8 @@
 ghost use Rattle.std.specs.Prelude.{◌≡◌, ◌≤◌, ◌↔◌, IsTrue, Contains};
 ghost use Rattle.lms_spec.specs.Hss.{capacity_of};
 ghost use Rattle.lms_hss.specs.Keys.{hss_key_of};
-ghost use Rattle.lms_book.specs.History.{counter_of, leases, range_of};
+ghost use Rattle.lms_book.specs.History.{counter_of, leases, range_of, stored_of};
+ghost use Rattle.lms_book.specs.Image.{HasImage};
 
 use crate::book::{Book, Lease};
 use crate::history::{Entry, is_given};
@@ -10,12 +11,14 @@ use crate::store::StateStore;
 use lms_hss::{HssKey, same_key};
 use std::marker::Model;
 
-/// A book's key, the counter that it read and its reservations since. It has no store, so that a closure can take it.
+/// A book's key, the counter that it read and its reservations since, without its store, so that `SharedBook::with` can
+/// lend it.
 #[derive(Drop)]
 pub struct Reservations<'b> {
     key: HssKey,
     base: u64,
     counter: u64,
+    stored: u64,
     history: &'b [Entry],
 }
 
@@ -26,7 +29,7 @@ impl<'b> Model for Reservations<'b> {
 
     ghost view = { λ r. record { key = r.key; base = r.base; history = r.history.now } };
 
-    ghost invariant = { λ r. IsReserved r.key r.base r.counter r.history.now };
+    ghost invariant = { λ r. IsReserved r.key r.base r.counter r.stored r.history.now };
 }
 
 impl<'b> Reservations<'b> {
@@ -55,8 +58,16 @@ impl<'b> Reservations<'b> {
     pub fn counter(&self) -> u64
         ensures counter { result ≡ counter_of self.now.base self.now.history }
         ensures within { result ≤ capacity_of (hss_key_of self.now.key) }
+        ensures counted { HasImage self.now.key result }
     {
         self.counter
+    }
+
+    /// The counter of the last image that the store took for certain, the base before any.
+    pub fn stored(&self) -> u64
+        ensures { result ≡ stored_of self.now.base self.now.history }
+    {
+        self.stored
     }
 
     /// Whether the lease is of this key and its range was given since the opening.
@@ -72,16 +83,16 @@ impl<'b> Reservations<'b> {
 impl<S: StateStore> Book<S> {
     ghost use Rattle.lms_book.specs.Reservations.{reservations_of, IsInOrder};
 
-    /// What it has reserved, for a closure that cannot name its store.
+    /// What it has reserved, without its store.
     pub fn reservations(&self) -> Reservations<'_>
         ensures all { result ≡ reservations_of self.now }
         ensures in_order { IsInOrder S.may_leave self.now }
     {
-        let _stored = self.stored();
         Reservations {
             key: self.key(),
             base: self.base(),
             counter: self.counter(),
+            stored: self.stored(),
             history: self.history(),
         }
     }

@@ -1,12 +1,13 @@
 //! A book that threads share.
 ghost use Rattle.std.specs.Prelude.{◌≡◌, ◌+◌, ◌<◌, ◌≤◌, length, replicate, IfOk, IfErr, OnOk};
 ghost use Rattle.std.specs.Fn.{FnOnceReturnsAt};
-ghost use Rattle.lms_book.specs.Desks.{sums, plus, total, sums_of, Counts};
+ghost use Rattle.lms_book.specs.Desks.{sums, plus, total, sums_of, BlankFits, Counts};
 
 use crate::book::{Book, Lease};
-use crate::counted::{Counted, burnt_in, given_in};
-use crate::desk::{Desk, opened};
-use crate::refusals::BookFault;
+use crate::counted::CountedBook;
+use crate::desk::{Desk, new_desks};
+use crate::history::sums_in;
+use crate::refusals::{BookFault, MissingDesks};
 use crate::reservations::Reservations;
 use crate::store::StateStore;
 use crate::tally::{Blanks, Tally, Totals};
@@ -15,25 +16,16 @@ use lms_params::OutOfMemory;
 use std::alloc::Global;
 use std::marker::Model;
 use std::sync::{Mutex, Wait};
-use thiserror::Error;
 
 #[cfg(test)]
 mod tests;
 
-/// Not all desks of a book came to be settled.
-#[derive(Clone, Copy, Debug, PartialEq, Eq, Error)]
-#[error("{present} desks are not all")]
-pub struct MissingDesks {
-    /// How many came.
-    pub present: usize,
-}
-
-/// A book behind a lock. Whoever gets the lock finds the counter within the key, and the leases disjoint and below each
-/// counter that a stop could leave stored. The three ledgers are those of the entries, of the indices given and of the
-/// indices burnt. Contracts see the key and the number of desks.
+/// A book behind a lock. Whoever gets the lock finds the counter within the key's capacity, and the leases disjoint and
+/// below each counter that a stop could leave stored. The three ledgers are those of the entries, of the indices given
+/// and of the indices burnt. Contracts see the key and the number of desks.
 #[derive(Drop)]
 pub struct SharedBook<S: StateStore, E: Tally, G: Tally, B: Tally> {
-    counted: Mutex<Counted<S, E, G, B>>,
+    counted: Mutex<CountedBook<S, E, G, B>>,
     key: HssKey,
     desks: usize,
 }
@@ -47,16 +39,17 @@ impl<S: StateStore, E: Tally, G: Tally, B: Tally> Model for SharedBook<S, E, G, 
     ghost view = { λ s. record { key = s.key; desks = s.desks } };
 
     ghost invariant = { λ s.
-        (E.parts ≡ s.desks + 1) × (G.parts ≡ s.desks + 1) × (B.parts ≡ s.desks + 1) };
+        (E.parts ≡ s.desks + 1) × (G.parts ≡ s.desks + 1) × (B.parts ≡ s.desks + 1) × (s.key ≡ E.key) };
 }
 
 impl<S: StateStore, E: Tally, G: Tally, B: Tally> SharedBook<S, E, G, B> {
     ghost use Rattle.lms_book.specs.States.{BookState};
-    ghost use Rattle.lms_book.specs.Books.{Reserves};
-    ghost use Rattle.lms_book.specs.Reservations.{reservations_of, IsInOrder};
+    ghost use Rattle.lms_book.specs.Reservations.{reservations_of, IsInOrder, ReservesInOrder};
 
-    /// Puts a book behind a lock, with 1 to 64 desks that have counted nothing. The blanks have one part for each desk,
-    /// and one for what the history counted before.
+    /// Puts a book behind a lock, with 1 to 64 desks that have counted nothing. Each blank is made by
+    /// `Blank::new(desks + 1)`: one part for each desk, and one for what the history counted before. The caller is a
+    /// function generic over three `Tally`s, called with `Brand` three times; the proof of that call picks name and parts
+    /// of each, what the history counted before, and the key.
     ///
     /// `OutOfMemory` where memory for the desks is refused, with the book and the blanks handed back as they were.
     pub fn share(
@@ -67,28 +60,30 @@ impl<S: StateStore, E: Tally, G: Tally, B: Tally> SharedBook<S, E, G, B> {
     ) -> Result<(Self, Vec<Desk<E, G, B>>), (OutOfMemory, Book<S>, Blanks)>
         requires some { 1 ≤ desks }
         requires at_most { desks ≤ 64 }
-        requires entries { (blanks.entries.name ≡ E.name) × (blanks.entries.parts ≡ E.parts) × (E.parts ≡ desks + 1) }
-        requires given { (blanks.given.name ≡ G.name) × (blanks.given.parts ≡ G.parts) × (G.parts ≡ desks + 1) }
-        requires burnt { (blanks.burnt.name ≡ B.name) × (blanks.burnt.parts ≡ B.parts) × (B.parts ≡ desks + 1) }
+        requires entries { BlankFits blanks.entries E.name E.parts (desks + 1) }
+        requires given { BlankFits blanks.given G.name G.parts (desks + 1) }
+        requires burnt { BlankFits blanks.burnt B.name B.parts (desks + 1) }
+        requires key { book.key ≡ E.key }
         requires before { sums_of book.history ≡ sums E.before G.before B.before }
         ensures shared { IfOk result (λ r. r.0 ≡ record { key = book.key; desks = desks }) }
         ensures desks { IfOk result (λ r. r.1.items ≡ replicate desks (sums 0 0 0)) }
         ensures err { IfErr result (λ e. (e.1 ≡ book) × (e.2 ≡ blanks)) }
     {
-        let places = match Vec::with_capacity(alloc, desks) {
-            Ok(places) => places,
+        let room = match Vec::with_capacity(alloc, desks) {
+            Ok(room) => room,
             Err(_) => return Err((OutOfMemory, book, blanks)),
         };
         let key = book.key();
+        // Its clauses bound the sums.
         let _counter = book.counter();
-        let _in_order = book.reservations();
+        // Its clause says that the book is in order.
+        let _reservations = book.reservations();
         let entries = book.history().len() as u64;
-        let given = given_in(book.history());
-        let burnt = burnt_in(book.history());
+        let (given, burnt) = sums_in(book.history());
         let (mut totals, mut shares) = Totals::<E, G, B>::open(blanks);
         totals.add(&mut shares, entries, given, burnt);
-        let places = opened(places, &mut shares, desks);
-        let counted = Mutex::new(Counted {
+        let all_desks = new_desks(room, &mut shares, desks);
+        let counted = Mutex::new(CountedBook {
             book,
             totals,
             shares,
@@ -98,7 +93,7 @@ impl<S: StateStore, E: Tally, G: Tally, B: Tally> SharedBook<S, E, G, B> {
             key,
             desks,
         };
-        Ok((shared, places))
+        Ok((shared, all_desks))
     }
 
     /// The key of the book that is shared.
@@ -108,8 +103,9 @@ impl<S: StateStore, E: Tally, G: Tally, B: Tally> SharedBook<S, E, G, B> {
         self.key
     }
 
-    /// `Book::reserve` under the lock, once, with its answers and what they leave, counted at the desk: a lease as an
-    /// entry and n indices received, `Store` as an entry and n indices burnt, and else nothing. Waits for the lock.
+    /// Reserves the next n indices, 1 to 1024, under the lock. `Exhausted` and `OutOfMemory` as `Book::reserve`'s, and
+    /// the desk stays; `Store` burns them, and the desk counts an entry and n burnt; else an entry and n received. Waits
+    /// for the lock.
     pub fn reserve<R: Wait>(
         &self,
         rt: &R,
@@ -119,8 +115,9 @@ impl<S: StateStore, E: Tally, G: Tally, B: Tally> SharedBook<S, E, G, B> {
         requires some { 1 ≤ n }
         requires at_most { n ≤ 1024 }
         ensures desk { Counts n desk.old result desk.new }
-        ensures reserves { (old new : BookState S) × IsInOrder S.may_leave old
-            × Reserves S.may_leave S.failures n old result new × IsInOrder S.may_leave new }
+        ensures key { IfOk result (λ lease. lease.key ≡ self.now.key) }
+        ensures reserves { (old new : BookState S) × (old.key ≡ self.now.key)
+            × ReservesInOrder S.may_leave S.failures S.moment S.left_since n old result new }
     {
         self.counted.lock(rt).reserve(desk, n)
     }
@@ -134,11 +131,11 @@ impl<S: StateStore, E: Tally, G: Tally, B: Tally> SharedBook<S, E, G, B> {
     /// closure must not ask for it again.
     pub fn with<T, F: FnOnce(&Reservations<'_>) -> T, R: Wait>(&self, rt: &R, f: F) -> T
         requires { F.IsAlwaysCallable f }
-        ensures { (book : BookState S) × IsInOrder S.may_leave book
+        ensures { (book : BookState S) × (book.key ≡ self.now.key) × IsInOrder S.may_leave book
             × FnOnceReturnsAt F.FnOnce f (reservations_of book) result }
     {
         let guard = self.counted.lock(rt);
-        let counted: &Counted<S, E, G, B> = &guard;
+        let counted: &CountedBook<S, E, G, B> = &guard;
         let reservations = counted.book.reservations();
         f(&reservations)
     }
@@ -151,6 +148,7 @@ impl<S: StateStore, E: Tally, G: Tally, B: Tally> SharedBook<S, E, G, B> {
         self,
         desks: Vec<Desk<E, G, B>>,
     ) -> Result<Book<S>, (MissingDesks, Self, Vec<Desk<E, G, B>>)>
+        ensures key { IfOk result (λ book. book.key ≡ self.key) }
         ensures settled { IfOk result (λ book.
             sums_of book.history ≡ plus (sums E.before G.before B.before) (total desks.items)) }
         ensures all { OnOk result (length desks.items ≡ self.desks) }

@@ -1,22 +1,33 @@
 //! Three ledgers side by side: of entries, of indices given, and of indices burnt.
-ghost use Rattle.std.specs.Prelude.{◌≡◌, ℕ, ◌+◌, ◌<◌, ◌≤◌};
-ghost use Rattle.lms_book.specs.Desks.{SharesState, IsWithin, plus, sums};
+ghost use Rattle.std.specs.Prelude.{◌≡◌, ℕ, ◌+◌, ◌<◌, ◌≤◌, []};
+ghost use Rattle.lms_hss.specs.declared.key.HssKey.{HssKey as KeyOfCode};
+ghost use Rattle.lms_book.specs.Desks.{SharesState, BlankFits, IsWithin, plus, sums};
 
 use std::marker::{Brand, Model};
 use std::sync::ledger::{Blank, Book, Ledger, Share};
 
-/// A ledger of `std::sync::ledger`, with the number that was counted before it was opened. The number is for contracts
-/// alone: the proof of a call that passes `Brand` picks it.
+/// A ledger of `std::sync::ledger`, for one of the three numbers that a shared book's desks count. Its members are for
+/// contracts alone.
+///
+/// Whoever shares a book writes a function over three types with this bound, which takes the book and its `Blanks`, and
+/// calls it with `Brand` three times. The proof of that call picks the members: name and parts of the blank, what the
+/// history counted before, and the book's key.
 pub trait Tally: Ledger {
+    /// What the history counted before the book was shared.
     ghost before: { ℕ };
+
+    /// The key of the book that is shared.
+    ghost key: { KeyOfCode };
 }
 
 impl Tally for Brand {
     ghost before = { 0 };
+
+    ghost key = { record { levels = []; seed = []; i = [] } };
 }
 
 /// The three ledgers of a book that is to be shared, which no type stands for yet: of the entries, of the indices given
-/// and of the indices burnt.
+/// and of the indices burnt. Each is made by `Blank::new(desks + 1)`.
 #[derive(Drop)]
 pub struct Blanks {
     pub entries: Blank,
@@ -94,10 +105,9 @@ impl<E: Ledger, G: Ledger, B: Ledger> Shares<E, G, B> {
 impl<E: Ledger, G: Ledger, B: Ledger> Totals<E, G, B> {
     /// Opens the ledgers with one share of all.
     pub(crate) fn open(blanks: Blanks) -> (Totals<E, G, B>, Shares<E, G, B>)
-        requires entries { (blanks.entries.name ≡ E.name) × (blanks.entries.parts ≡ E.parts) }
-        requires given { (blanks.given.name ≡ G.name) × (blanks.given.parts ≡ G.parts) }
-        requires burnt { (blanks.burnt.name ≡ B.name) × (blanks.burnt.parts ≡ B.parts) }
-        requires same { (G.parts ≡ E.parts) × (B.parts ≡ E.parts) }
+        requires entries { BlankFits blanks.entries E.name E.parts E.parts }
+        requires given { BlankFits blanks.given G.name G.parts E.parts }
+        requires burnt { BlankFits blanks.burnt B.name B.parts E.parts }
         ensures totals { result.0 ≡ sums 0 0 0 }
         ensures shares { result.1 ≡ record { parts = E.parts; counted = sums 0 0 0 } }
     {

@@ -1,0 +1,112 @@
+ghost use Rattle.std.specs.Prelude.{◌≤◌};
+
+use super::{numbers, opened, reopened, reserved, small_store};
+use crate::{BookFault, Left};
+use std::alloc::Global;
+use std::test::Fail;
+
+#[test]
+fn a_life_of_failed_writes(rt: HostRuntime) -> Result<(), Fail> {
+    let mut store = small_store(rt.alloc(), 0)?;
+    store.fail_replace(3, Left::Old);
+    store.fail_replace(2, Left::New);
+    let mut book = opened(rt.alloc(), store)?;
+    assert_eq!(rt; reserved(&mut book, 4), Ok((0, 4)));
+    let burnt = BookFault::Store { start: 4, len: 4 };
+    assert_eq!(rt; reserved(&mut book, 4), Err(burnt));
+    let burnt = BookFault::Store { start: 8, len: 4 };
+    assert_eq!(rt; reserved(&mut book, 4), Err(burnt));
+    assert_eq!(rt; numbers(&book), (0, 12, 4));
+    let mut book = reopened(rt.alloc(), book)?;
+    assert_eq!(rt; numbers(&book), (8, 8, 8));
+    assert_eq!(rt; reserved(&mut book, 24), Ok((8, 24)));
+    assert_eq!(rt;
+        reserved(&mut book, 1),
+        Err(BookFault::Exhausted { left: 0 })
+    );
+    Ok(())
+}
+
+#[test]
+fn lives_with_a_stop_in_a_write(rt: HostRuntime) -> Result<(), Fail> {
+    for (left, base) in [(Left::Old, 10), (Left::New, 15)] {
+        let mut store = small_store(rt.alloc(), 0)?;
+        store.stop_replace(2, left);
+        let mut book = opened(rt.alloc(), store)?;
+        assert_eq!(rt; reserved(&mut book, 10), Ok((0, 10)));
+        let burnt = BookFault::Store { start: 10, len: 5 };
+        assert_eq!(rt; reserved(&mut book, 5), Err(burnt));
+        let burnt = BookFault::Store { start: 15, len: 2 };
+        assert_eq!(rt; reserved(&mut book, 2), Err(burnt));
+        let mut book = reopened(rt.alloc(), book)?;
+        assert_eq!(rt; numbers(&book), (base, base, base));
+        assert_eq!(rt; reserved(&mut book, 1), Ok((base, 1)));
+    }
+    Ok(())
+}
+
+/// Marks the indices of a range as given. It fails where one was given before, or is past the capacity.
+fn mark(given: &mut [bool; 32], range: (u64, u64)) -> Result<(), Fail> {
+    for (index, place) in (0..).zip(given.iter_mut()) {
+        if range.0 <= index && index - range.0 < range.1 {
+            if *place {
+                return Err(Fail::from("two leases share an index"));
+            }
+            *place = true;
+        }
+    }
+    if range.0.saturating_add(range.1) > 32 {
+        return Err(Fail::from("a lease goes past the capacity"));
+    }
+    Ok(())
+}
+
+/// Reserves 1 to 6 with a failure at the k-th write, starts again, and reserves 1 until the key is exhausted. Answers
+/// how many indices were given, each of them once.
+fn given_with_failure(alloc: Global, k: usize, left: Left, stops: bool) -> Result<usize, Fail>
+    requires first { 1 ≤ k }
+    requires at_most { k ≤ 8 }
+{
+    let mut store = small_store(alloc, 0)?;
+    if stops {
+        store.stop_replace(k, left);
+    } else {
+        store.fail_replace(k, left);
+    }
+    let mut book = opened(alloc, store)?;
+    let mut given = [false; 32];
+    for n in 1..7 {
+        if let Ok(range) = reserved(&mut book, n) {
+            mark(&mut given, range)?;
+        }
+    }
+    let mut book = reopened(alloc, book)?;
+    for _ in 0..33 {
+        match reserved(&mut book, 1) {
+            Ok(range) => mark(&mut given, range)?,
+            Err(fault) if fault == (BookFault::Exhausted { left: 0 }) => {
+                return Ok(given.iter().filter(|given| **given).count());
+            }
+            Err(_) => return Err(Fail::from("only exhaustion is left")),
+        }
+    }
+    Err(Fail::from("the key is exhausted"))
+}
+
+#[test]
+fn no_failure_gives_an_index_twice(rt: HostRuntime) -> Result<(), Fail> {
+    for k in 1..7 {
+        for left in [Left::Old, Left::New] {
+            for stops in [false, true] {
+                let given = given_with_failure(rt.alloc(), k, left, stops)?;
+                let burnt = match (stops, left) {
+                    (false, _) if k < 6 => k,
+                    (_, Left::New) => k,
+                    (_, Left::Old) => 0,
+                };
+                assert_eq!(rt; given, 32 - burnt, "{k} {left:?} {stops}");
+            }
+        }
+    }
+    Ok(())
+}
