@@ -11,7 +11,7 @@
 static int stops_here(void) {
     static long operations;
     const char *stop = getenv("STOP");
-    return stop && ++operations == atol(stop);
+    return stop && __sync_add_and_fetch(&operations, 1) == atol(stop);
 }
 
 static void stop(void) {
@@ -22,10 +22,13 @@ static void stop(void) {
 
 int open(const char *path, int flags, ...) {
     int (*next)(const char *, int, ...) = dlsym(RTLD_NEXT, "open");
-    va_list rest;
-    va_start(rest, flags);
-    int mode = va_arg(rest, int);
-    va_end(rest);
+    int mode = 0;
+    if ((flags & O_CREAT) || (flags & O_TMPFILE) == O_TMPFILE) {
+        va_list rest;
+        va_start(rest, flags);
+        mode = va_arg(rest, int);
+        va_end(rest);
+    }
     stop();
     return next(path, flags, mode);
 }

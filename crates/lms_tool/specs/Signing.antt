@@ -7,7 +7,7 @@ use Rattle.lms_spec.specs.Hss.{capacity_of, hss_public_key, hss_signature, HssAc
 use Rattle.lms_hss.specs.Keys.{hss_key_of}
 use Rattle.lms_hss.specs.declared.key.HssKey.{HssKey as KeyOfCode}
 use Rattle.lms_book.specs.Books.{Reserves, capacity, counter}
-use Rattle.lms_book.specs.Image.{fault_of, image_of}
+use Rattle.lms_book.specs.Image.{fault_of, image_of, HasImage}
 use Rattle.lms_book.specs.States.{BookState}
 use Rattle.lms_book.specs.Stops.{IsOnlyStop}
 use Rattle.lms_book.specs.declared.history.Entry.TheVariants.{Given as Gave}
@@ -37,6 +37,7 @@ IsAt at state key used = at.keeps state (image_of key used)
 
 -- an index of the state's key is used
 pub record UsesIndex (old new : Known) (state : Text) (key : KeyOfCode) (index : ℕ) : Type 0 where
+  pub counted : HasImage key index
   pub within : index < capacity_of (hss_key_of key)
   pub opened : IsAt old state key index
   pub stored : IsAt new state key (index + 1)
@@ -68,7 +69,7 @@ FailsToSignNext old new state OutOfMemory = Stays old new state
 FailsToSignNext old new state (Exhausted left) =
     (key : KeyOfCode) × (index : ℕ) × (capacity_of (hss_key_of key) < index + 1) × (left ≡ capacity_of (hss_key_of key) - index)
     × IsAt old state key index × Stays old new state
-FailsToSignNext old new state (WriteStateBurnt start len) = (key : KeyOfCode) × IsAt old state key start × (len ≡ 1)
+FailsToSignNext old new state (WriteStateBurnt start len) = (key : KeyOfCode) × (start < capacity_of (hss_key_of key)) × IsAt old state key start × (len ≡ 1)
 FailsToSignNext old new state (OutOfMemoryBurnt count) =
     (key : KeyOfCode) × (index : ℕ) × UsesIndex old new state key index × (count ≡ 1)
 FailsToSignNext old new state _ = ⊥
@@ -77,6 +78,7 @@ FailsToSignNext old new state _ = ⊥
 pub record Describes (at : Known) (state : Text) (before after : Option (List ℕ)) : Type 0 where
   pub key : KeyOfCode
   pub used : ℕ
+  pub counted : HasImage key used
   pub opened : IsAt at state key used
   pub printed : Appends before after (info_text key used)
 

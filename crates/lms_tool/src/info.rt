@@ -1,8 +1,6 @@
 //! `info`: what a key's state says.
-ghost use Rattle.std.specs.Prelude.{◌≡◌, ◌≢◌, ◌≤◌, IfErr, IfOk, OnOk};
-ghost use Rattle.lms_spec.specs.Hss.{capacity_of};
-ghost use Rattle.lms_hss.specs.Keys.{hss_key_of};
-ghost use Rattle.lms_book.specs.Image.{image_of};
+ghost use Rattle.std.specs.Prelude.{◌≡◌, ◌≢◌, IfErr, IfOk, OnOk};
+ghost use Rattle.lms_book.specs.Image.{image_of, HasImage};
 ghost use Rattle.lms_tool.specs.Known.{Stays};
 ghost use Rattle.lms_tool.specs.Signing.{Describes, FailsToDescribe, FailsToOpen};
 
@@ -38,7 +36,7 @@ pub fn describe<W: World, O: Write>(
 fn read_state<W: World>(alloc: Global, world: &mut W, state: &str) -> Result<Image, Fault>
     ensures opened { IfOk result (λ image. (W.known world.old).keeps state.now (image_of image.key image.counter)) }
     ensures stays { Stays (W.known world.old) (W.known world.new) state.now }
-    ensures within { IfOk result (λ image. image.counter ≤ capacity_of (hss_key_of image.key)) }
+    ensures counted { IfOk result (λ image. HasImage image.key image.counter) }
     ensures failed { IfErr result (FailsToOpen (W.known world.old) state.now) }
 {
     let store = world.take_store(alloc, state)?;
