@@ -53,7 +53,7 @@ pub struct Signed {
 ///
 /// In this order: `BadRandom`; `Input` or `OutOfMemory` of the message; `StateInUse` where the state's lock is not got;
 /// `ReadState`, `BadState`, `OutOfMemory`; `Exhausted`; `WriteStateBurnt`; `OutOfMemoryBurnt`; `Output`. From
-/// `WriteStateBurnt` on the index is used.
+/// `OutOfMemoryBurnt` on the index is used; at `WriteStateBurnt` the state may be the older one, and give it again.
 pub fn sign_file<W: World, O: Write>(
     rt: &(impl Threads + Sync),
     alloc: Global,
