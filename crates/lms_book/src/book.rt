@@ -137,7 +137,7 @@ impl<S: StateStore> Book<S> {
 
     /// The key whose indices are given.
     pub fn key(&self) -> HssKey
-        ensures { result ≡ self.now.key }
+        ensures key { result ≡ self.now.key }
     {
         self.key
     }

@@ -1,9 +1,7 @@
 pub mod Building
 pub mod CommandLine
 pub mod Ending
-pub mod FileMoments
 pub mod FullRows
-pub mod LastWrites
 pub mod LevelTexts
 pub mod Parsing
 pub mod SizedTexts

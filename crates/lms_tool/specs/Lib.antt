@@ -2,7 +2,6 @@ pub mod Application
 pub mod Commands
 pub mod Descriptions
 pub mod Faults
-pub mod FileStores
 pub mod Files
 pub mod Keygen
 pub mod Known

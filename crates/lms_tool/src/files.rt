@@ -1,10 +1,13 @@
 //! What every command does with files and states.
-ghost use Rattle.std.specs.Prelude.{◌≡◌, ◌⊎◌, ℕ, List, IfErr, IfOk, OnOk};
+ghost use Rattle.std.specs.Prelude.{[], ◌≡◌, ◌⊎◌, ◌↔◌, ℕ, List, IfErr, IfOk, OnOk};
+ghost use Rattle.lms_book.specs.Image.{image_of, HasImage};
 ghost use Rattle.lms_tool.specs.Known.{Stays};
+ghost use Rattle.lms_tool.specs.Signing.{FailsToOpen};
 ghost use Rattle.lms_tool.specs.Verifying.{RefusedAt};
 
 use crate::fault::Fault;
 use crate::world::{World, WorldFault};
+use lms_book::Book;
 use lms_params::OutOfMemory;
 use std::alloc::Global;
 
@@ -38,5 +41,30 @@ pub fn lock_state<W: World>(alloc: Global, world: &W, state: &str) -> Result<W::
         Ok(Some(lock)) => Ok(lock),
         Ok(None) => Err(Fault::StateInUse),
         Err(OutOfMemory) => Err(Fault::OutOfMemory),
+    }
+}
+
+/// Takes a state out of the world, and opens its book. The caller puts it back, as `world.put_back(state, book.close())`.
+/// `ReadState`, `BadState` and `OutOfMemory` leave the state where it was.
+pub fn open_state<W: World>(
+    alloc: Global,
+    world: &mut W,
+    state: &str,
+) -> Result<Book<W::Store>, Fault>
+    ensures opened { IfOk result (λ book. (W.known world.old).keeps state.now (image_of book.key book.base)) }
+    ensures counted { IfOk result (λ book. HasImage book.key book.base) }
+    ensures fresh { IfOk result (λ book. book.history ≡ []) }
+    ensures taken { IfOk result (λ book. (text : List ℕ)
+        → W.Store.may_leave book.store text ↔ (W.known world.old).keeps state.now text) }
+    ensures failed { IfErr result (FailsToOpen (W.known world.old) state.now) }
+    ensures stays { IfErr result (λ _. Stays (W.known world.old) (W.known world.new) state.now) }
+{
+    let store = world.take_store(alloc, state)?;
+    match Book::open(alloc, store) {
+        Ok(book) => Ok(book),
+        Err((fault, store)) => {
+            world.put_back(state, store);
+            Err(Fault::from(fault))
+        }
     }
 }

@@ -6,9 +6,9 @@ ghost use Rattle.lms_tool.specs.Signing.{Describes, FailsToDescribe, FailsToOpen
 
 use crate::description::print_info;
 use crate::fault::Fault;
-use crate::files::lock_state;
+use crate::files::{lock_state, open_state};
 use crate::world::World;
-use lms_book::{Book, Image};
+use lms_book::Image;
 use std::alloc::Global;
 use std::io::Write;
 
@@ -39,19 +39,11 @@ fn read_state<W: World>(alloc: Global, world: &mut W, state: &str) -> Result<Ima
     ensures counted { IfOk result (λ image. HasImage image.key image.counter) }
     ensures failed { IfErr result (FailsToOpen (W.known world.old) state.now) }
 {
-    let store = world.take_store(alloc, state)?;
-    match Book::open(alloc, store) {
-        Ok(book) => {
-            let image = Image {
-                key: book.key(),
-                counter: book.counter(),
-            };
-            world.put_back(state, book.close());
-            Ok(image)
-        }
-        Err((fault, store)) => {
-            world.put_back(state, store);
-            Err(Fault::from(fault))
-        }
-    }
+    let book = open_state(alloc, world, state)?;
+    let image = Image {
+        key: book.key(),
+        counter: book.counter(),
+    };
+    world.put_back(state, book.close());
+    Ok(image)
 }

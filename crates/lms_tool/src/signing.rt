@@ -11,7 +11,7 @@ ghost use Rattle.lms_tool.specs.Signing.{FailsToSign, FailsToSignNext, GivesOne,
 
 use crate::description::print_index;
 use crate::fault::Fault;
-use crate::files::{lock_state, read_file, write_file};
+use crate::files::{lock_state, open_state, read_file, write_file};
 use crate::options::read_bytes;
 use crate::world::World;
 use lms_book::{Book, BookFault, Lease, StateStore};
@@ -97,18 +97,10 @@ fn sign_by_state<W: World>(
     ensures failed { IfErr result (FailsToSignNext (W.known world.old)
         (W.known world.new) state.now) }
 {
-    let store = world.take_store(alloc, state)?;
-    match Book::open(alloc, store) {
-        Ok(mut book) => {
-            let signed = sign_next(rt, alloc, &mut book, c, msg);
-            world.put_back(state, book.close());
-            signed.map_err(|fault| Fault::from(fault))
-        }
-        Err((fault, store)) => {
-            world.put_back(state, store);
-            Err(Fault::from(fault))
-        }
-    }
+    let mut book = open_state(alloc, world, state)?;
+    let signed = sign_next(rt, alloc, &mut book, c, msg);
+    world.put_back(state, book.close());
+    signed.map_err(|fault| Fault::from(fault))
 }
 
 /// Signs a message with the next index of a book, under the randomizer `c` (RFC 8554, 6.2). The use of the index is stored

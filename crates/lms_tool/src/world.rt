@@ -3,11 +3,11 @@ ghost use Rattle.std.specs.Prelude.{◌≡◌, ◌↔◌, ℕ, List, true, false
 ghost use Rattle.lms_tool.specs.Known.{Exists, Known, Stays};
 
 mod disk;
-pub(crate) mod file_store;
 mod memory;
+#[cfg(test)]
+pub(crate) mod tests;
 
 pub use disk::DiskWorld;
-pub use file_store::{FileStore, TryLock};
 use lms_book::StateStore;
 use lms_params::OutOfMemory;
 pub use memory::{MemoryLock, MemoryWorld};

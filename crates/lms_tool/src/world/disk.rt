@@ -2,9 +2,9 @@
 ghost use Rattle.std.specs.Prelude.{◌≡◌, ◌≢◌, IfOk, IfSome};
 ghost use Rattle.std.specs.IoError.{error_kind};
 
-use super::file_store::{FileStore, TryLock, exists, lock};
 use super::{World, WorldFault};
 use lms_params::OutOfMemory;
+use lms_store::{FileStore, TryLock, exists, lock};
 use std::alloc::Global;
 use std::fs::OpenFile;
 use std::io::{ErrorKind, Read};
@@ -63,7 +63,7 @@ where
 }
 
 /// The bytes of a file, whole.
-pub(super) fn read_whole<R: Files>(files: &R, alloc: Global, path: &str) -> io::Result<Vec<u8>> {
+fn read_whole<R: Files>(files: &R, alloc: Global, path: &str) -> io::Result<Vec<u8>> {
     let mut file = fs::open(files, path)?;
     let size = file.metadata()?.len() as usize;
     read_sized(alloc, &mut file, size)
@@ -80,7 +80,7 @@ fn read_sized<F: Read>(alloc: Global, file: &mut F, size: usize) -> io::Result<V
 }
 
 /// The fault of the world that an error of the disk is.
-pub(super) fn fault_of(error: &io::Error) -> WorldFault
+fn fault_of(error: &io::Error) -> WorldFault
     ensures memory { error_kind error.now ≡ ErrorKind.OutOfMemory → result ≡ WorldFault.OutOfMemory }
     ensures device { error_kind error.now ≢ ErrorKind.OutOfMemory → result ≡ WorldFault.Device }
 {

@@ -2,8 +2,8 @@
 use super::state::{ID, RANDOM, SEED};
 use super::{Ended, end_of, run};
 use crate::world::DiskWorld;
-use crate::world::file_store::lock;
-use crate::world::file_store::tests::stopping::{StoppingFiles, counter};
+use crate::world::tests::stopping::{StoppingFiles, counter};
+use lms_store::lock;
 use std::alloc::Global;
 use std::fs::Permissions;
 use std::io::Write;
@@ -247,12 +247,12 @@ fn stopped(
     Ok(end_of(rt, &SIGN, &mut DiskWorld::new(&files))?)
 }
 
-/// How many operations on files a `sign` takes: four read the message, three lock the state, five read it, seven replace
+/// How many operations on files a `sign` takes: four read the message, three lock the state, four read it, seven replace
 /// it, and two write the signature.
-const OPERATIONS: usize = 21;
+const OPERATIONS: usize = 20;
 
 /// After how many of them the state is replaced.
-const PLACED: usize = 18;
+const PLACED: usize = 17;
 
 /// Where the program stops at any operation of a `sign`, the next one signs with an index of its own.
 #[test]

@@ -1,0 +1,2 @@
+pub mod FileMoments
+pub mod LastWrites

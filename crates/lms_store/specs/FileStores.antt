@@ -1,0 +1,106 @@
+-- A store in a file of the disk: what it wrote since it was made, and what a stop leaves by that.
+use Rattle.std.specs.Prelude.{◌≡◌, ◌⊎◌, ℕ, ◌<◌, ◌≤◌, List, [], ◌∷◌, ◌++◌, codes, length, Bool, true, false, Result, Ok, Err, Option, Some, None}
+use Rattle.std.specs.Global.{Vec}
+use Rattle.std.proofs.Common.{inl, inr, arith}
+use Rattle.std.specs.Path.{dot, path_parent}
+use Rattle.lms_book.specs.declared.store.ReadFault.{ReadFault}
+use Rattle.lms_book.specs.declared.store.ReadFault.TheVariants.{Device, OutOfMemory}
+use Rattle.lms_book.specs.declared.store.StoreFault.{StoreFault}
+use Rattle.lms_book.specs.Stops.{raised}
+
+-- a write: its text, and whether it was stored for certain
+pub record FileWrite : Type 0 where
+  pub text : List ℕ
+  pub stored : Bool
+
+-- the writes since the store was made, the newest first, and how many calls failed
+pub record FileState : Type 0 where
+  pub writes : List FileWrite
+  pub failures : ℕ
+
+-- a stop after these writes could leave this text: that of the newest, or where it failed, what could be left before it;
+-- before any write any text
+abbrev pub Leaves : List FileWrite → List ℕ → Type 0
+Leaves [] left = Unit {0}
+Leaves (newest ∷ older) left = (left ≡ newest.text) ⊎ ((newest.stored ≡ false) × Leaves older left)
+
+-- a stop after these writes, or before the later ones of them, from the moment after `since` writes on
+abbrev pub LeftSince : List FileWrite → ℕ → List ℕ → Type 0
+LeftSince [] since left = Leaves [] left
+LeftSince (newest ∷ older) since left = Leaves (newest ∷ older) left ⊎ ((since ≤ length older) × LeftSince older since left)
+
+-- a stop now could leave this text
+abbrev pub MayLeave : FileState → List ℕ → Type 0
+MayLeave store left = Leaves store.writes left
+
+-- how many writes are recorded
+abbrev pub writes_made : FileState → ℕ
+writes_made store = length store.writes
+
+-- a stop could have left this text at some moment since
+abbrev pub HasLeftSince : FileState → ℕ → List ℕ → Type 0
+HasLeftSince store since left = LeftSince store.writes since left
+
+-- nothing written, no failure counted
+abbrev pub fresh : FileState
+fresh = record { writes = []; failures = 0 }
+
+-- one more write
+abbrev pub written : FileState → List ℕ → Bool → FileState
+written store text stored = record store { writes = record { text = text; stored = stored } ∷ store.writes }
+
+-- these writes, the newest of them stored for certain
+abbrev pub confirm_newest : List FileWrite → List FileWrite
+confirm_newest [] = []
+confirm_newest (newest ∷ older) = record newest { stored = true } ∷ older
+
+-- the newest write is stored for certain
+abbrev pub confirmed : FileState → FileState
+confirmed store = record store { writes = confirm_newest store.writes }
+
+-- a failure is counted
+abbrev pub failed : FileState → FileState
+failed store = record store { failures = raised store.failures }
+
+-- a write of this text is recorded for certain: it is one of the first eight, for which memory was taken at the start, and short
+pub record HasRoom (store : FileState) (text : List ℕ) : Type 0 where
+  pub room_left : length store.writes < 8
+  pub short : length text ≤ 256
+
+-- what a write of this text answers and leaves
+abbrev pub Replaces : {T : Type 0} → FileState → List ℕ → Result T StoreFault → FileState → Type 0
+Replaces old text (Ok done) new = (length text ≤ 256) × (new ≡ written old text true)
+Replaces old text (Err fault) new =
+    ((length text ≤ 256) × (new ≡ failed (written old text false))) ⊎ ((¬ HasRoom old text) × (new ≡ failed old))
+
+-- what a read answers and leaves
+abbrev pub Reads : FileState → Result (Vec ℕ) ReadFault → FileState → Type 0
+Reads old (Ok text) new = MayLeave old text.items × (new ≡ old)
+Reads old (Err Device) new = new ≡ failed old
+Reads old (Err OutOfMemory) new = new ≡ old
+
+-- the folder that holds a file, by what stands before its name
+abbrev pub folder_by : Option (List ℕ) → List ℕ
+folder_by None = dot ∷ []
+folder_by (Some []) = dot ∷ []
+folder_by (Some (first ∷ others)) = first ∷ others
+
+-- the folder that holds a file
+abbrev pub folder_of : List ℕ → List ℕ
+folder_of path = folder_by (path_parent path)
+
+-- the new text is written beside the state, and the folder is the one that holds both
+pub record AreBeside (state draft folder : List ℕ) : Type 0 where
+  pub draft_is : draft ≡ state ++ codes ".new"
+  pub folder_is : folder ≡ folder_of state
+
+-- this moment is one of those since an earlier one
+pub counts_now : (writes : List FileWrite) (since : ℕ) (left : List ℕ) → since ≤ length writes → Leaves writes left → LeftSince writes since left
+counts_now [] since left le now = now
+counts_now (newest ∷ older) since left le now = inl now
+
+-- since this moment there is no other
+pub only_now : (writes : List FileWrite) (left : List ℕ) → LeftSince writes (length writes) left → Leaves writes left
+only_now [] left was = was
+only_now (newest ∷ older) left (inl now) = now
+only_now (newest ∷ older) left (inr (le, was)) = absurd (omega (arith, le))

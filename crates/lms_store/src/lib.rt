@@ -1,0 +1,20 @@
+//! A key's state in a file of the disk, and the lock on it.
+//!
+//! Take the lock before the store, and hold it as long as the store is used: two stores in one file give one index twice,
+//! and so does an older copy of the file that is put back, or a second name of it by a hard link. Nothing here can see either.
+//!
+//! No contract knows a disk. What is proved speaks of the texts that were written through a store, and stands on two
+//! premises: a rename takes the place of the file whole, so that a stop within it leaves the old file or the new one; and
+//! what `sync_all` answered `Ok` for outlives a stop, of a file its bytes and of a folder its names.
+#![tactic(auto)]
+
+mod file_store;
+mod locking;
+mod paths;
+mod record;
+#[cfg(test)]
+mod tests;
+
+pub use crate::file_store::FileStore;
+pub use crate::locking::{TryLock, lock};
+pub use crate::paths::exists;

@@ -1,0 +1,53 @@
+//! The paths of a store's files.
+ghost use Rattle.std.specs.Prelude.{◌≡◌, ◌++◌, IfOk, string_bytes};
+ghost use Rattle.lms_store.specs.FileStores.{folder_of};
+
+use lms_params::OutOfMemory;
+use std::alloc::Global;
+use std::io::ErrorKind;
+use std::path::Path;
+use std::rt::Files;
+use std::{fs, io};
+
+/// Reading and writing for the owner alone, since the state holds the secret seed.
+pub(crate) const OWNER_ONLY: u32 = 0o600;
+
+/// The path of a file, past symbolic links. The name as it stands where there is nothing of that name; an error where it
+/// can't be told where it leads, as with a link to a file that isn't there.
+pub(crate) fn resolve<R: Files>(files: &R, alloc: Global, name: &str) -> io::Result<String> {
+    match files.canonicalize(alloc, name) {
+        Ok(path) => Ok(path.into_string()),
+        Err(error) if error.kind() == ErrorKind::NotFound && !exists(files, name) => {
+            Ok(String::from_str(alloc, name)?)
+        }
+        Err(error) => Err(error),
+    }
+}
+
+/// The path with this ending behind it, so that its file lies in the same folder.
+pub(crate) fn sibling(alloc: Global, path: &str, ending: &str) -> Result<String, OutOfMemory>
+    ensures { IfOk result (λ sibling. string_bytes sibling ≡ path.now ++ ending.now) }
+{
+    let mut sibling = String::from_str(alloc, path)?;
+    sibling.push_str(ending)?;
+    Ok(sibling)
+}
+
+/// The folder that holds a file: `.` where the path has no folder part.
+pub(crate) fn folder_of(path: &str) -> &str
+    ensures { result.now ≡ folder_of path.now }
+{
+    match Path::new(path).parent() {
+        Some(folder) if !folder.as_str().is_empty() => folder.as_str(),
+        _ => ".",
+    }
+}
+
+/// Whether there is a file, a folder or a link of this name; true also where that can't be told. So what is written
+/// only where this is false never takes the place of a state.
+pub fn exists<R: Files>(files: &R, name: &str) -> bool {
+    match fs::symlink_metadata(files, name) {
+        Ok(_) => true,
+        Err(error) => error.kind() != ErrorKind::NotFound,
+    }
+}

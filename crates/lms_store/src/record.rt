@@ -1,0 +1,74 @@
+//! What a store of files wrote since it was made.
+ghost use Rattle.std.specs.Prelude.{◌≡◌, ◌≤◌, ◌<◌, ◌↔◌, IfNone, IfSome, IsTrue, false, length, true};
+ghost use Rattle.lms_store.specs.FileStores.{Leaves};
+
+use arrayvec::ArrayVec;
+use std::collections::VecDeque;
+use std::marker::Model;
+
+/// A write: its text, of at most 256 bytes, and whether it was stored for certain.
+#[derive(Drop)]
+pub(crate) struct Attempt {
+    text: ArrayVec<u8, 256>,
+    stored: bool,
+}
+
+impl Model for Attempt {
+    ghost use Rattle.lms_store.specs.FileStores.{FileWrite};
+
+    ghost Value = { FileWrite };
+
+    ghost view = { λ attempt. record { text = attempt.text.items; stored = attempt.stored } };
+}
+
+impl Attempt {
+    /// A write of this text that is not stored for certain. `None` where the text is over 256 bytes.
+    pub(crate) fn new(text: &[u8]) -> Option<Self>
+        ensures made { IfSome result (λ attempt. attempt ≡ record { text = text.now; stored = false }) }
+        ensures short { IfSome result (λ _. length text.now ≤ 256) }
+        ensures long { IfNone result (256 < length text.now) }
+    {
+        let text = ArrayVec::try_from(text).ok()?;
+        Some(Attempt {
+            text,
+            stored: false,
+        })
+    }
+
+    /// From now on it is stored for certain.
+    pub(crate) fn confirm(&mut self)
+        ensures { self.new ≡ record self.old { stored = true } }
+    {
+        self.stored = true;
+    }
+
+    /// Its text.
+    fn text(&self) -> &[u8]
+        ensures { result.now ≡ self.now.text }
+    {
+        self.text.as_slice()
+    }
+
+    /// Whether it was stored for certain.
+    fn is_stored(&self) -> bool
+        ensures { result ≡ self.now.stored }
+    {
+        self.stored
+    }
+}
+
+/// Whether a stop after these writes, the newest first, could leave this text. The first that has it or is stored for
+/// certain decides.
+pub(crate) fn leaves(writes: &VecDeque<Attempt>, text: &[u8]) -> bool
+    ensures { IsTrue result ↔ Leaves writes.now.items text.now }
+{
+    for write in writes {
+        if write.text() == text {
+            return true;
+        }
+        if write.is_stored() {
+            return false;
+        }
+    }
+    true
+}

@@ -1,0 +1,117 @@
+//! A program that stops in a write of its state.
+use super::stopping::{StoppingFiles, counter};
+use lms_book::{Book, Image, StateStore, encode_image};
+use lms_hss::{HssKey, Levels};
+use lms_params::{LmsType, OtsType};
+use lms_store::FileStore;
+use std::alloc::Global;
+use std::fs;
+use std::sync::Arc;
+use std::sync::atomic::{AtomicUsize, Ordering};
+use std::test::Fail;
+
+const STATE: &str = "file_store_stops/state";
+
+/// How many operations a write takes: the folder is opened, an older new file removed, the new one opened, its text
+/// written, flushed and renamed, and the folder flushed.
+const OPERATIONS: usize = 7;
+
+/// How many of them are done once the new text is in its place.
+const PLACED: usize = 6;
+
+/// Makes an empty folder, in place of one that an earlier run left.
+fn empty_folder(rt: &HostRuntime, folder: &str) -> Result<(), Fail> {
+    let _ = fs::remove_dir_all(rt, folder);
+    fs::create_dir(rt, folder)?;
+    Ok(())
+}
+
+/// Makes the file the state of an unused key of 5/8.
+fn begin(rt: &HostRuntime) -> Result<(), Fail> {
+    let levels = Levels::new(&[(LmsType::H5, OtsType::W8)])
+        .ok()
+        .ok_or("the signer takes the levels")?;
+    let key = HssKey::new(levels, [0x11; 32], [0x22; 16]);
+    let image = encode_image(&Image { key, counter: 0 });
+    fs::write(rt, STATE, image.as_slice())?;
+    Ok(())
+}
+
+fn opened<S: StateStore + Drop>(alloc: Global, store: S) -> Result<Book<S>, Fail> {
+    Ok(Book::open(alloc, store).ok().ok_or("the store opens")?)
+}
+
+/// The index that a reservation of 1 gives, if it gives one.
+fn next_index<S: StateStore>(book: &mut Book<S>) -> Option<u64> {
+    let lease = book.reserve(1).ok()?;
+    let start = lease.start();
+    book.give_back(lease);
+    Some(start)
+}
+
+/// The index that the true files give after the program starts again.
+fn next_life(rt: &HostRuntime) -> Result<Option<u64>, Fail> {
+    let mut book = opened(rt.alloc(), FileStore::new(rt.alloc(), rt, STATE)?)?;
+    Ok(next_index(&mut book))
+}
+
+/// What three reservations of 1 give: one that is done, one in which the program stops after `k` operations, and one
+/// after it started again.
+fn lives(rt: &HostRuntime, k: usize) -> Result<[Option<u64>; 3], Fail> {
+    begin(rt)?;
+    let left = counter(rt.alloc(), usize::MAX)?;
+    let files = StoppingFiles::new(rt, left.clone()?);
+    let store = FileStore::new(rt.alloc(), &files, STATE)?;
+    let mut book = opened(rt.alloc(), store)?;
+    let first = next_index(&mut book);
+    left.store(k, Ordering::SeqCst);
+    let stopped = next_index(&mut book);
+    drop(book);
+    Ok([first, stopped, next_life(rt)?])
+}
+
+#[test]
+fn no_stop_gives_an_index_twice(rt: HostRuntime) -> Result<(), Fail> {
+    empty_folder(&rt, "file_store_stops")?;
+    for k in 0..=OPERATIONS {
+        let stopped = if k < OPERATIONS { None } else { Some(1) };
+        let next = if k < PLACED { 1 } else { 2 };
+        assert_eq!(rt; lives(&rt, k)?, [Some(0), stopped, Some(next)], "{k}");
+    }
+    fs::remove_dir_all(&rt, "file_store_stops")?;
+    Ok(())
+}
+
+/// What a store reads after a write of `b` over `a` that alone fails, where its files stop after `k` operations.
+fn text_after<S: StateStore + Drop>(
+    alloc: Global,
+    store: S,
+    left: &AtomicUsize,
+    k: usize,
+) -> Option<Vec<u8>> {
+    let mut store = store;
+    store.replace(b"a").ok()?;
+    left.store(k, Ordering::SeqCst);
+    store.replace(b"b").err()?;
+    left.store(usize::MAX, Ordering::SeqCst);
+    store.read(alloc).ok()
+}
+
+fn read_after(rt: &HostRuntime, k: usize) -> Result<Vec<u8>, Fail> {
+    let left = counter(rt.alloc(), usize::MAX)?;
+    let files = StoppingFiles::new(rt, left.clone()?);
+    let store = FileStore::new(rt.alloc(), &files, "file_store_fails/state")?;
+    let text = text_after(rt.alloc(), store, &left, k);
+    Ok(text.ok_or("the second write alone fails")?)
+}
+
+#[test]
+fn after_a_failed_write_both_texts_are_read(rt: HostRuntime) -> Result<(), Fail> {
+    empty_folder(&rt, "file_store_fails")?;
+    for k in 0..OPERATIONS {
+        let left = if k < PLACED { b"a" } else { b"b" };
+        assert_eq!(rt; read_after(&rt, k)?.as_slice(), left.as_slice(), "{k}");
+    }
+    fs::remove_dir_all(&rt, "file_store_fails")?;
+    Ok(())
+}
