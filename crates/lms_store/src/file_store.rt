@@ -184,9 +184,9 @@ impl<R: Files + Sync> StateStore for FileStore<'_, R> {
     }
 
     /// A text of over 256 bytes is refused, and a write past the eighth where memory for its record is refused; neither
-    /// touches a file, though a book burns the range all the same. Else the write is recorded, and the text goes to `NAME.new`, which only the owner may read, is
-    /// flushed, takes the place of the file, and the folder is flushed. A stop at any point leaves the file with the old
-    /// text or with this one.
+    /// touches a file, though a book burns the range all the same. Else the write is recorded, and the text goes to
+    /// `NAME.new`, which only the owner may read, is flushed, takes the place of the file, and the folder is flushed. A
+    /// stop at any point leaves the file with the old text or with this one.
     fn replace(&mut self, text: &[u8]) -> Result<(), StoreFault>
         ensures ok { OnOk result (IsOnlyStop text.now (MayLeave self.new)) }
         ensures err { OnErr result ((left : List ℕ) → MayLeave self.new left → MayLeave self.old left ⊎ (left ≡ text.now)) }
