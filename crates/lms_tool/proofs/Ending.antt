@@ -3,14 +3,14 @@ use Rattle.std.proofs.Common.{◌≡◌, ℕ, List, Option, Result, Ok, Err, ref
 use Rattle.std.specs.Prelude.{◌≢◌, IfErr}
 use Rattle.clap.specs.Words.{Text}
 use Rattle.lms_tool.specs.Commands.{IsRead}
-use Rattle.lms_tool.specs.Faults.{status_of}
-use Rattle.lms_tool.specs.Known.{Known}
+use Rattle.lms_commands.specs.Faults.{status_of}
+use Rattle.lms_commands.specs.Known.{Known}
 use Rattle.lms_tool.specs.Runs.{Ends, Fails, FailsToObey, Obeys}
 use Rattle.lms_tool.specs.declared.command.types.Command.{Command}
-use Rattle.lms_tool.specs.declared.fault.Fault.{Fault}
-use Rattle.lms_tool.specs.declared.fault.Fault.TheVariants.{BadLevels, TooManyLevels, HeightNotSigned, TooTall, BadSeed, BadId, BadRandom, StateExists, StateInUse, ReadState, BadState, WriteState, WriteStateBurnt, Exhausted, OutOfMemory, OutOfMemoryBurnt, Input, Output}
-use Rattle.lms_tool.specs.declared.status.Status.{Status}
-use Rattle.lms_tool.specs.declared.status.Status.TheVariants as status
+use Rattle.lms_commands.specs.declared.fault.Fault.{Fault}
+use Rattle.lms_commands.specs.declared.fault.Fault.TheVariants.{BadLevels, TooManyLevels, HeightNotSigned, TooTall, BadSeed, BadId, BadRandom, StateExists, StateInUse, ReadState, BadState, WriteState, WriteStateBurnt, Exhausted, OutOfMemory, OutOfMemoryBurnt, Input, Output}
+use Rattle.lms_commands.specs.declared.status.Status.{Status}
+use Rattle.lms_commands.specs.declared.status.Status.TheVariants as status
 
 -- a run ends as its command does
 pub command_ends : (old new : Known) (words : List Text) (before after : Option (List ℕ)) (command : Command) → IsRead words command

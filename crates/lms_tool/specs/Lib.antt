@@ -1,13 +1,4 @@
 pub mod Application
 pub mod Commands
-pub mod Descriptions
-pub mod Faults
-pub mod Files
-pub mod Keygen
-pub mod Known
-pub mod Options
 pub mod Runs
-pub mod Signing
 pub mod UsageWords
-pub mod Verdicts
-pub mod Verifying

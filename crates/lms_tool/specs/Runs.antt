@@ -4,20 +4,20 @@ use Rattle.std.specs.Io.KnownBytes.{Appends}
 use Rattle.clap.specs.Words.{Text}
 use Rattle.lms_hss.specs.declared.key.HssKey.{HssKey as KeyOfCode}
 use Rattle.lms_tool.specs.Commands.{AsksForHelp, IsMistaken, IsRead}
-use Rattle.lms_tool.specs.Faults.{status_of}
-use Rattle.lms_tool.specs.Keygen.{FailsToMakeKey, IsKeyOf, IsNoKey, MakesKey}
-use Rattle.lms_tool.specs.Known.{Known, Stays}
-use Rattle.lms_tool.specs.Signing.{Describes, FailsToDescribe, FailsToSign, SignsFile}
-use Rattle.lms_tool.specs.Verdicts.{line_of}
-use Rattle.lms_tool.specs.Verifying.{FailsToJudge, Judges}
+use Rattle.lms_commands.specs.Faults.{status_of}
+use Rattle.lms_commands.specs.Keygen.{FailsToMakeKey, IsKeyOf, IsNoKey, MakesKey}
+use Rattle.lms_commands.specs.Known.{Known, Stays}
+use Rattle.lms_commands.specs.Signing.{Describes, FailsToDescribe, FailsToSign, SignsFile}
+use Rattle.lms_commands.specs.Verdicts.{line_of}
+use Rattle.lms_commands.specs.Verifying.{FailsToJudge, Judges}
 use Rattle.lms_tool.specs.declared.command.types.Command.{Command}
 use Rattle.lms_tool.specs.declared.command.types.Command.TheVariants.{Info, Keygen, Sign, Verify}
-use Rattle.lms_tool.specs.declared.fault.Fault.{Fault}
-use Rattle.lms_tool.specs.declared.fault.Fault.TheVariants.{OutOfMemory, Output}
-use Rattle.lms_tool.specs.declared.status.Status.{Status}
-use Rattle.lms_tool.specs.declared.status.Status.TheVariants as status
-use Rattle.lms_tool.specs.declared.status.Status.TheVariants.{Done, Usage}
-use Rattle.lms_tool.specs.declared.verdict.Verdict.TheVariants.{Valid, Invalid}
+use Rattle.lms_commands.specs.declared.fault.Fault.{Fault}
+use Rattle.lms_commands.specs.declared.fault.Fault.TheVariants.{OutOfMemory, Output}
+use Rattle.lms_commands.specs.declared.status.Status.{Status}
+use Rattle.lms_commands.specs.declared.status.Status.TheVariants as status
+use Rattle.lms_commands.specs.declared.status.Status.TheVariants.{Done, Usage}
+use Rattle.lms_commands.specs.declared.verdict.Verdict.TheVariants.{Valid, Invalid}
 
 -- the command is done, with these bytes printed before and after
 abbrev pub IsDone : Known → Known → Command → Option (List ℕ) → Option (List ℕ) → Type 0

@@ -2,22 +2,10 @@
 #![tactic(auto)]
 
 mod command;
-mod description;
-mod fault;
-mod files;
-mod info;
-mod keygen;
-mod options;
 mod run;
-mod signing;
-mod status;
-mod verdict;
-mod verifying;
-mod world;
 
-use crate::fault::Fault;
 use crate::run::{report, run};
-use crate::world::DiskWorld;
+use lms_commands::{DiskWorld, Fault};
 use std::env;
 use std::io::ErrorKind;
 use std::process::ExitCode;

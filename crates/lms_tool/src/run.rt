@@ -1,18 +1,14 @@
 //! The whole program, over its words, its files and its streams.
 ghost use Rattle.std.specs.Prelude.{◌≡◌, ◌≢◌, ◌⊎◌, ◌<◌, ◌≤◌, IfErr, IfOk, MatchResult, OnOk, map};
 ghost use Rattle.std.specs.Io.KnownBytes.{Appends};
-ghost use Rattle.lms_tool.specs.Faults.{code_of, status_of};
+ghost use Rattle.lms_commands.specs.Faults.{code_of, status_of};
 ghost use Rattle.lms_tool.specs.Runs.{AsksToTouch, Ends, Fails, FailsToObey, Obeys, Touches};
-ghost use Rattle.lms_tool.specs.declared.status.Status.{Status};
+ghost use Rattle.lms_commands.specs.declared.status.Status.{Status};
 
 use crate::command::{Command, CommandFault, command};
-use crate::fault::{Fault, print_fault};
-use crate::info::describe;
-use crate::keygen::{key_from, make_key};
-use crate::signing::sign_file;
-use crate::status::Status;
-use crate::verifying::verify_files;
-use crate::world::World;
+use lms_commands::{
+    Fault, Status, World, describe, key_from, make_key, print_fault, sign_file, verify_files,
+};
 use std::alloc::Global;
 use std::convert::AsStr;
 use std::io;

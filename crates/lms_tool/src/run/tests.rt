@@ -2,10 +2,12 @@ mod disk;
 mod faults;
 mod memory;
 mod state;
+mod stopping;
+mod stops;
 mod words;
 
 use super::run;
-use crate::world::{MemoryWorld, World, WorldFault};
+use lms_commands::{MemoryWorld, World, WorldFault};
 use lms_slow::vectors::ONE_5_8;
 use std::alloc::Global;
 use std::io;

@@ -1,8 +1,8 @@
 //! The program over the files of the disk.
 use super::state::{ID, RANDOM, SEED};
+use super::stopping::{StoppingFiles, counter};
 use super::{Ended, end_of, run};
-use crate::world::DiskWorld;
-use crate::world::tests::stopping::{StoppingFiles, counter};
+use lms_commands::DiskWorld;
 use lms_store::lock;
 use std::alloc::Global;
 use std::fs::Permissions;

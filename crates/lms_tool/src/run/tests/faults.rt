@@ -4,8 +4,8 @@ use super::state::{
 };
 use super::{Closed, VERIFY, end_of};
 use crate::run::run;
-use crate::world::{MemoryWorld, World, WorldFault};
 use lms_book::Left;
+use lms_commands::{MemoryWorld, World, WorldFault};
 use std::test::Fail;
 use std::thread::Threads;
 

@@ -1,7 +1,7 @@
 //! Commands to which memory is refused once, where it is.
 use super::state::{INFO, ONE, is_at, keygen_one, sign_text};
 use super::{Ended, VERIFY, end_of};
-use crate::world::{MemoryWorld, World};
+use lms_commands::{MemoryWorld, World};
 use std::alloc::Global;
 use std::test::Fail;
 use std::thread::Threads;

@@ -1,8 +1,8 @@
 ghost use Rattle.std.specs.Prelude.{◌≡◌, ◌<◌};
 
 use super::{Ended, VERIFY, end_of};
-use crate::world::{MemoryWorld, World};
 use lms_book::{Image, MemoryStore, encode_image};
+use lms_commands::{MemoryWorld, World};
 use lms_hss::{HssKey, Levels};
 use lms_params::{LmsType, OtsType};
 use lms_slow::{SlowKey, slow_public, slow_sign};

@@ -1,5 +1,5 @@
 use super::end_of;
-use crate::world::MemoryWorld;
+use lms_commands::MemoryWorld;
 use std::test::Fail;
 
 const HELP: &str = "Makes keys, signs and verifies with HSS/LMS (RFC 8554)

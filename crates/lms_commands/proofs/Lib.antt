@@ -1,0 +1,2 @@
+pub mod LevelTexts
+pub mod SizedTexts

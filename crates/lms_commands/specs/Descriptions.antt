@@ -1,0 +1,20 @@
+-- The lines that describe a key.
+use Rattle.std.specs.Prelude.{ℕ, ◌-◌, ◌++◌, List, codes}
+use Rattle.std.specs.Fmt.{decimal}
+use Rattle.lms_spec.specs.Hss.{capacity_of}
+use Rattle.lms_hss.specs.Keys.{hss_key_of}
+use Rattle.lms_hss.specs.declared.key.HssKey.{HssKey}
+use Rattle.lms_commands.specs.Options.{levels_text}
+
+-- a word and a number
+abbrev pub number_line : List ℕ → ℕ → List ℕ
+number_line word number = word ++ codes " " ++ decimal number ++ codes "\n"
+
+abbrev pub levels_line : HssKey → List ℕ
+levels_line key = codes "levels " ++ levels_text key.levels ++ codes "\n"
+
+-- a key's levels, the indices used so far, those that there are, and those that are left
+abbrev pub info_text : HssKey → ℕ → List ℕ
+info_text key counter = let capacity = capacity_of (hss_key_of key) in
+    levels_line key ++ number_line (codes "counter") counter ++ number_line (codes "capacity") capacity
+    ++ number_line (codes "left") (capacity - counter)

@@ -1,0 +1,100 @@
+-- The texts of the program's faults and its exit statuses.
+use Rattle.std.specs.Prelude.{ℕ, List, ◌++◌, codes, decimal}
+use Rattle.lms_hss.specs.declared.levels.KeyFault.{KeyFault}
+use Rattle.lms_hss.specs.declared.levels.KeyFault.TheVariants as key
+use Rattle.lms_book.specs.Image.{name_of}
+use Rattle.lms_book.specs.Refusals.{text_of as book_text}
+use Rattle.lms_book.specs.declared.refusals.BookFault.{BookFault}
+use Rattle.lms_book.specs.declared.refusals.BookFault.TheVariants as book
+use Rattle.lms_book.specs.declared.refusals.OpenFault.{OpenFault}
+use Rattle.lms_book.specs.declared.refusals.OpenFault.TheVariants as opening
+use Rattle.lms_commands.specs.declared.fault.Fault.{Fault}
+use Rattle.lms_commands.specs.declared.fault.Fault.TheVariants.{BadLevels, TooManyLevels, HeightNotSigned, TooTall, BadSeed, BadId, BadRandom, StateExists, StateInUse, ReadState, BadState, WriteState, WriteStateBurnt, Exhausted, OutOfMemory, OutOfMemoryBurnt, Input, Output}
+use Rattle.lms_commands.specs.declared.options.LevelsTextFault.{LevelsTextFault}
+use Rattle.lms_commands.specs.declared.options.LevelsTextFault.TheVariants as unread
+use Rattle.lms_commands.specs.declared.signing.SignFault.{SignFault}
+use Rattle.lms_commands.specs.declared.signing.SignFault.TheVariants as signing
+use Rattle.lms_commands.specs.declared.status.Status.{Status}
+use Rattle.lms_commands.specs.declared.status.Status.TheVariants as status
+
+abbrev pub text_of : Fault → List ℕ
+text_of BadLevels = codes "bad levels"
+text_of TooManyLevels = codes "too many levels"
+text_of HeightNotSigned = codes "height not signed"
+text_of TooTall = codes "too tall"
+text_of BadSeed = codes "bad seed"
+text_of BadId = codes "bad id"
+text_of BadRandom = codes "bad random"
+text_of StateExists = codes "state exists"
+text_of StateInUse = codes "state in use"
+text_of ReadState = codes "cannot read state"
+text_of (BadState fault) = codes "bad state: " ++ name_of fault
+text_of WriteState = codes "cannot write state"
+text_of (WriteStateBurnt start len) = book_text (book.Store start len)
+text_of (Exhausted left) = book_text (book.Exhausted left)
+text_of OutOfMemory = codes "out of memory"
+text_of (OutOfMemoryBurnt count) = codes "out of memory: " ++ decimal count ++ codes " burnt"
+text_of Input = codes "cannot read input"
+text_of Output = codes "cannot write output"
+
+-- the line on standard error
+abbrev pub fault_line : Fault → List ℕ
+fault_line fault = codes "error: " ++ text_of fault ++ codes "\n"
+
+abbrev pub status_of : Fault → Status
+status_of BadLevels = status.Usage
+status_of TooManyLevels = status.Usage
+status_of HeightNotSigned = status.Usage
+status_of TooTall = status.Usage
+status_of BadSeed = status.Usage
+status_of BadId = status.Usage
+status_of BadRandom = status.Usage
+status_of StateExists = status.State
+status_of StateInUse = status.State
+status_of ReadState = status.State
+status_of (BadState fault) = status.State
+status_of WriteState = status.State
+status_of (WriteStateBurnt start len) = status.State
+status_of (Exhausted left) = status.Exhausted
+status_of OutOfMemory = status.Memory
+status_of (OutOfMemoryBurnt count) = status.Memory
+status_of Input = status.Stream
+status_of Output = status.Stream
+
+abbrev pub code_of : Status → ℕ
+code_of status.Done = 0
+code_of status.Invalid = 1
+code_of status.Usage = 2
+code_of status.State = 3
+code_of status.Exhausted = 4
+code_of status.Memory = 5
+code_of status.Stream = 6
+
+-- the fault that a refused list of levels is; a list has one level at least
+abbrev pub of_key : KeyFault → Fault
+of_key key.NoLevels = BadLevels
+of_key key.TooManyLevels = TooManyLevels
+of_key key.HeightNotSigned = HeightNotSigned
+of_key key.TooTall = TooTall
+
+-- the fault that an unread list of levels is
+abbrev pub of_text : LevelsTextFault → Fault
+of_text unread.Bad = BadLevels
+of_text unread.OutOfMemory = OutOfMemory
+
+-- the fault that a refused opening is
+abbrev pub of_opening : OpenFault → Fault
+of_opening opening.Store = ReadState
+of_opening (opening.Image fault) = BadState fault
+of_opening opening.OutOfMemory = OutOfMemory
+
+-- the fault that a refused reservation is
+abbrev pub of_book : BookFault → Fault
+of_book (book.Exhausted left) = Exhausted left
+of_book book.OutOfMemory = OutOfMemory
+of_book (book.Store start len) = WriteStateBurnt start len
+
+-- the fault that a message not signed is
+abbrev pub of_signing : SignFault → Fault
+of_signing (signing.Book fault) = of_book fault
+of_signing signing.OutOfMemory = OutOfMemoryBurnt 1

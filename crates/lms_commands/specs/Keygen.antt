@@ -1,0 +1,69 @@
+-- What `keygen` does, and where it fails.
+use Rattle.std.specs.Prelude.{ℕ, ◌≡◌, List, length, Ok, Err, Option, codes}
+use Rattle.std.specs.Io.KnownBytes.{Appends}
+use Rattle.hex.specs.Hex.{decode_of}
+use Rattle.lms_params.specs.declared.lms_type.LmsType.{LmsType}
+use Rattle.lms_params.specs.declared.ots_type.OtsType.{OtsType}
+use Rattle.lms_spec.specs.Hss.{capacity_of, hss_public_key}
+use Rattle.lms_hss.specs.Keys.{hss_key_of}
+use Rattle.lms_hss.specs.Levels.{Judges}
+use Rattle.lms_hss.specs.declared.key.HssKey.{HssKey as KeyOfCode}
+use Rattle.lms_hss.specs.declared.levels.KeyFault.{KeyFault}
+use Rattle.lms_hss.specs.declared.levels.KeyFault.TheVariants as refused
+use Rattle.lms_book.specs.Image.{image_of}
+use Rattle.lms_commands.specs.Descriptions.{number_line}
+use Rattle.lms_commands.specs.Known.{Exists, Known, Stays, Text}
+use Rattle.lms_commands.specs.Options.{IsLevelsText}
+use Rattle.lms_commands.specs.declared.fault.Fault.{Fault}
+use Rattle.lms_commands.specs.declared.fault.Fault.TheVariants.{BadLevels, TooManyLevels, HeightNotSigned, TooTall, BadSeed, BadId, StateExists, StateInUse, WriteState, OutOfMemory, Output}
+
+-- the text is n bytes in hexadecimal
+abbrev pub IsHexOf : ℕ → Text → Type 0
+IsHexOf n text = (bytes : List ℕ) × (length bytes ≡ n) × (decode_of text ≡ Ok bytes)
+
+-- the texts are those of a key's levels, seed and identifier
+pub record IsKeyOf (levels seed id : Text) (key : KeyOfCode) : Type 0 where
+  pub levels_are : IsLevelsText levels key.levels
+  pub seed_is : decode_of seed ≡ Ok key.seed
+  pub id_is : decode_of id ≡ Ok key.i
+
+-- the text is that of levels which are refused so
+abbrev pub AreRefused : Text → KeyFault → Type 0
+AreRefused text fault = (levels : List (LmsType × OtsType)) × IsLevelsText text levels × Judges levels (Err fault)
+
+-- the text is that of levels which the signer takes
+abbrev pub AreTaken : Text → Type 0
+AreTaken text = (levels : List (LmsType × OtsType)) × IsLevelsText text levels × Judges levels (Ok levels)
+
+-- why the texts are those of no key: the first of them that is bad
+abbrev pub IsNoKey : Text → Text → Text → Fault → Type 0
+IsNoKey levels seed id BadLevels = (pairs : List (LmsType × OtsType)) → ¬ IsLevelsText levels pairs
+IsNoKey levels seed id TooManyLevels = AreRefused levels refused.TooManyLevels
+IsNoKey levels seed id HeightNotSigned = AreRefused levels refused.HeightNotSigned
+IsNoKey levels seed id TooTall = AreRefused levels refused.TooTall
+IsNoKey levels seed id BadSeed = AreTaken levels × ¬ IsHexOf 32 seed
+IsNoKey levels seed id BadId = AreTaken levels × IsHexOf 32 seed × ¬ IsHexOf 16 id
+IsNoKey levels seed id OutOfMemory = Unit {0}
+IsNoKey levels seed id _ = ⊥
+
+-- there was no state, and now there is that of this key with no index used; its public key is in a file, and its capacity is printed
+pub record MakesKey (old new : Known) (key : KeyOfCode) (state public : Text) (before after : Option (List ℕ)) : Type 0 where
+  pub fresh : old.lacks state
+  pub stored : new.keeps state (image_of key 0)
+  pub published : new.gives public (hss_public_key (hss_key_of key))
+  pub printed : Appends before after (number_line (codes "capacity") (capacity_of (hss_key_of key)))
+
+-- why a new key's state was not stored
+abbrev pub FailsToStore : Known → Known → Text → Fault → Type 0
+FailsToStore old new state OutOfMemory = Stays old new state
+FailsToStore old new state WriteState = Unit {0}
+FailsToStore old new state _ = ⊥
+
+-- why no key was made; where only the output failed, the key's state stands
+abbrev pub FailsToMakeKey : Known → Known → KeyOfCode → Text → Fault → Type 0
+FailsToMakeKey old new key state StateInUse = Stays old new state
+FailsToMakeKey old new key state StateExists = Exists old state × Stays old new state
+FailsToMakeKey old new key state OutOfMemory = Stays old new state
+FailsToMakeKey old new key state WriteState = old.lacks state
+FailsToMakeKey old new key state Output = old.lacks state × new.keeps state (image_of key 0)
+FailsToMakeKey old new key state _ = ⊥

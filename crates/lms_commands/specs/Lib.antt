@@ -1,0 +1,9 @@
+pub mod Descriptions
+pub mod Faults
+pub mod Files
+pub mod Keygen
+pub mod Known
+pub mod Options
+pub mod Signing
+pub mod Verdicts
+pub mod Verifying

@@ -1,0 +1,114 @@
+-- What `info` and `sign` do with a key's state, and where they fail.
+use Rattle.std.specs.Prelude.{ℕ, ◌≡◌, ◌+◌, ◌-◌, ◌<◌, ◌≤◌, List, ◌++◌, [], ◌∷◌, length, Ok, Err, Some, Option, codes}
+use Rattle.std.specs.Io.KnownBytes.{Appends}
+use Rattle.hex.specs.Hex.{decode_of}
+use Rattle.lms_spec.specs.Hss.{capacity_of, hss_public_key, hss_signature, HssAccepts}
+use Rattle.lms_hss.specs.Keys.{hss_key_of}
+use Rattle.lms_hss.specs.declared.key.HssKey.{HssKey as KeyOfCode}
+use Rattle.lms_book.specs.Books.{Reserves, capacity, counter}
+use Rattle.lms_book.specs.Image.{fault_of, image_of, HasImage}
+use Rattle.lms_book.specs.States.{BookState}
+use Rattle.lms_book.specs.Stops.{IsOnlyStop}
+use Rattle.lms_book.specs.declared.history.Entry.TheVariants.{Given as Gave}
+use Rattle.lms_commands.specs.Descriptions.{info_text, number_line}
+use Rattle.lms_commands.specs.Keygen.{IsHexOf}
+use Rattle.lms_commands.specs.Known.{Given, Known, Stays, Text}
+use Rattle.lms_commands.specs.declared.fault.Fault.{Fault}
+use Rattle.lms_commands.specs.declared.fault.Fault.TheVariants.{BadRandom, StateInUse, ReadState, BadState, WriteStateBurnt, Exhausted, OutOfMemory, OutOfMemoryBurnt, Input, Output}
+use Rattle.lms_commands.specs.declared.signing.SignFault.{SignFault}
+use Rattle.lms_commands.specs.declared.signing.SignFault.TheVariants as unsigned
+use Rattle.lms_commands.specs.declared.world.WorldFault.TheVariants as world
+
+-- a book's next index is given, once the image that counts it is all that a stop leaves
+pub record GivesOne {S : Type 0} (may_leave : S → List ℕ → Type 0) (old new : BookState S) : Type 0 where
+  pub within : counter old + 1 ≤ capacity old
+  pub given : new.history ≡ old.history ++ Gave 1 ∷ []
+  pub stored : IsOnlyStop (image_of old.key (counter old + 1)) (may_leave new.store)
+
+-- why a book's next index signed nothing: it was not given, or it was and memory ran out
+abbrev pub SignsNothing : {S : Type 0} → (S → List ℕ → Type 0) → (S → ℕ) → BookState S → SignFault → BookState S → Type 0
+SignsNothing may_leave failures old (unsigned.Book fault) new = Reserves may_leave failures 1 old (Err fault) new
+SignsNothing may_leave failures old unsigned.OutOfMemory new = GivesOne may_leave old new
+
+-- the state of the name may be that of this key with this many indices used
+abbrev pub IsAt : Known → Text → KeyOfCode → ℕ → Type 0
+IsAt at state key used = at.keeps state (image_of key used)
+
+-- an index of the state's key is used
+pub record UsesIndex (old new : Known) (state : Text) (key : KeyOfCode) (index : ℕ) : Type 0 where
+  pub counted : HasImage key index
+  pub within : index < capacity_of (hss_key_of key)
+  pub opened : IsAt old state key index
+  pub stored : IsAt new state key (index + 1)
+
+-- a signature is the one that the next index of the state's key makes, and is accepted
+pub record SignsNext (old new : Known) (state : Text) (random message signature : List ℕ) (index : ℕ) : Type 0 where
+  pub key : KeyOfCode
+  pub used : UsesIndex old new state key index
+  pub signature_is : signature ≡ hss_signature (hss_key_of key) index random message
+  pub accepted : HssAccepts (hss_public_key (hss_key_of key)) message signature
+
+-- the name is that of a state with this fault
+abbrev pub IsBadState : Known → Text → Fault → Type 0
+IsBadState at state (BadState fault) = (text : List ℕ) × at.keeps state text × (fault_of text ≡ Some fault)
+IsBadState at state _ = ⊥
+
+-- why a state was not opened
+abbrev pub FailsToOpen : Known → Text → Fault → Type 0
+FailsToOpen at state ReadState = Unit {0}
+FailsToOpen at state (BadState fault) = IsBadState at state (BadState fault)
+FailsToOpen at state OutOfMemory = Unit {0}
+FailsToOpen at state _ = ⊥
+
+-- why nothing was signed, and which indices are used
+abbrev pub FailsToSignNext : Known → Known → Text → Fault → Type 0
+FailsToSignNext old new state ReadState = Stays old new state
+FailsToSignNext old new state (BadState fault) = IsBadState old state (BadState fault) × Stays old new state
+FailsToSignNext old new state OutOfMemory = Stays old new state
+FailsToSignNext old new state (Exhausted left) =
+    (key : KeyOfCode) × (index : ℕ) × (capacity_of (hss_key_of key) < index + 1) × (left ≡ capacity_of (hss_key_of key) - index)
+    × IsAt old state key index × Stays old new state
+FailsToSignNext old new state (WriteStateBurnt start len) = (key : KeyOfCode) × (start < capacity_of (hss_key_of key)) × IsAt old state key start × (len ≡ 1)
+FailsToSignNext old new state (OutOfMemoryBurnt count) =
+    (key : KeyOfCode) × (index : ℕ) × UsesIndex old new state key index × (count ≡ 1)
+FailsToSignNext old new state _ = ⊥
+
+-- the four lines of the state's key are printed
+pub record Describes (at : Known) (state : Text) (before after : Option (List ℕ)) : Type 0 where
+  pub key : KeyOfCode
+  pub used : ℕ
+  pub counted : HasImage key used
+  pub opened : IsAt at state key used
+  pub printed : Appends before after (info_text key used)
+
+-- why no key was described
+abbrev pub FailsToDescribe : Known → Text → Fault → Type 0
+FailsToDescribe at state StateInUse = Unit {0}
+FailsToDescribe at state Output = (key : KeyOfCode) × (used : ℕ) × IsAt at state key used
+FailsToDescribe at state ReadState = Unit {0}
+FailsToDescribe at state (BadState fault) = IsBadState at state (BadState fault)
+FailsToDescribe at state OutOfMemory = Unit {0}
+FailsToDescribe at state _ = ⊥
+
+-- a message was signed with the next index of the state's key, under the randomizer of this text; the signature is in a
+-- file, and the index is printed
+pub record SignsFile (old new : Known) (state random message out : Text) (before after : Option (List ℕ)) : Type 0 where
+  pub randomizer : List ℕ
+  pub text : List ℕ
+  pub signature : List ℕ
+  pub index : ℕ
+  pub randomizer_read : (length randomizer ≡ 32) × (decode_of random ≡ Ok randomizer)
+  pub text_given : old.gives message text
+  pub signed : SignsNext old new state randomizer text signature index
+  pub signature_given : new.gives out signature
+  pub printed : Appends before after (number_line (codes "index") index)
+
+-- why no message was signed, in the order in which it is found; where only the output failed, an index is used
+abbrev pub FailsToSign : Known → Known → Text → Text → Text → Fault → Type 0
+FailsToSign old new state random message BadRandom = (¬ IsHexOf 32 random) × Stays old new state
+FailsToSign old new state random message Input = IsHexOf 32 random × old.refuses message world.Device × Stays old new state
+FailsToSign old new state random message StateInUse = IsHexOf 32 random × Given old message × Stays old new state
+FailsToSign old new state random message Output =
+    IsHexOf 32 random × Given old message × ((key : KeyOfCode) × (index : ℕ) × UsesIndex old new state key index)
+FailsToSign old new state random message OutOfMemory = Stays old new state
+FailsToSign old new state random message fault = IsHexOf 32 random × Given old message × FailsToSignNext old new state fault

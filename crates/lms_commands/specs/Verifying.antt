@@ -1,0 +1,32 @@
+-- What `verify` does, and where it fails.
+use Rattle.std.specs.Prelude.{ℕ, ◌≡◌, ◌⊎◌, List}
+use Rattle.lms_commands.specs.Known.{Given, Known, Text}
+use Rattle.lms_commands.specs.Verdicts.{IsRightFor}
+use Rattle.lms_commands.specs.declared.fault.Fault.{Fault}
+use Rattle.lms_commands.specs.declared.fault.Fault.TheVariants.{Input, OutOfMemory, Output}
+use Rattle.lms_commands.specs.declared.verdict.Verdict.{Verdict}
+use Rattle.lms_commands.specs.declared.world.WorldFault.TheVariants as world
+
+-- the three names gave bytes for which the verdict is right
+pub record Judges (at : Known) (public_name message_name signature_name : Text) (verdict : Verdict) : Type 0 where
+  pub public : List ℕ
+  pub message : List ℕ
+  pub signature : List ℕ
+  pub public_given : at.gives public_name public
+  pub message_given : at.gives message_name message
+  pub signature_given : at.gives signature_name signature
+  pub right : IsRightFor verdict public message signature
+
+-- the fault that a read of a name comes to
+abbrev pub RefusedAt : Known → Text → Fault → Type 0
+RefusedAt at name Input = at.refuses name world.Device
+RefusedAt at name OutOfMemory = at.refuses name world.OutOfMemory
+RefusedAt at name _ = ⊥
+
+-- of three names read in this order, the fault is that of the first that gave no bytes, or that of the output after all three
+abbrev pub FailsToJudge : Known → Text → Text → Text → Fault → Type 0
+FailsToJudge at public message signature fault =
+    RefusedAt at public fault
+    ⊎ ((Given at public × RefusedAt at message fault)
+    ⊎ ((Given at public × Given at message × RefusedAt at signature fault)
+    ⊎ (Given at public × Given at message × Given at signature × (fault ≡ Output))))

@@ -1,0 +1,179 @@
+//! Why the program ends with a fault, and its printed line.
+ghost use Rattle.std.specs.Prelude.{◌≡◌, OnOk, Some};
+ghost use Rattle.std.specs.Io.KnownBytes.{Appends};
+ghost use Rattle.lms_commands.specs.Faults.{fault_line, of_book, of_key, of_opening, of_text, status_of, text_of};
+
+use crate::options::LevelsTextFault;
+use crate::status::Status;
+use lms_book::{BookFault, ImageFault, OpenFault};
+use lms_hss::KeyFault;
+use lms_params::OutOfMemory;
+use std::error::Error;
+use std::io::Write;
+use std::{fmt, io};
+
+/// Why the program ends with a fault.
+#[derive(Clone, Copy, Debug, PartialEq, Eq)]
+pub enum Fault {
+    /// The levels that were asked for are no list of them.
+    BadLevels,
+    /// There are more than 8 levels.
+    TooManyLevels,
+    /// A level is of a height that the signer doesn't take.
+    HeightNotSigned,
+    /// The levels' heights sum to over 60.
+    TooTall,
+    /// The seed is not 64 hexadecimal digits.
+    BadSeed,
+    /// The identifier is not 32 hexadecimal digits.
+    BadId,
+    /// The randomizer is not 64 hexadecimal digits.
+    BadRandom,
+    /// A new key's state is there already.
+    StateExists,
+    /// Another program has the state's lock.
+    StateInUse,
+    /// The state can't be read.
+    ReadState,
+    /// The state is no image.
+    BadState(ImageFault),
+    /// A new key's state was not stored for certain.
+    WriteState,
+    /// The state was not stored for certain: `len` indices from `start` on are burnt.
+    WriteStateBurnt { start: u64, len: u64 },
+    /// The key has fewer indices left than are asked for.
+    Exhausted { left: u64 },
+    /// Memory ran out.
+    OutOfMemory,
+    /// Memory ran out after a reservation: so many indices are burnt.
+    OutOfMemoryBurnt { count: u64 },
+    /// A file that was to be read can't be.
+    Input,
+    /// A file or standard output can't be written.
+    Output,
+}
+
+impl Fault {
+    /// How the program ends at this fault.
+    pub fn status(self) -> Status
+        ensures { result ≡ status_of self }
+    {
+        match self {
+            Fault::BadLevels
+            | Fault::TooManyLevels
+            | Fault::HeightNotSigned
+            | Fault::TooTall
+            | Fault::BadSeed
+            | Fault::BadId
+            | Fault::BadRandom => Status::Usage,
+            Fault::StateExists
+            | Fault::StateInUse
+            | Fault::ReadState
+            | Fault::BadState(_)
+            | Fault::WriteState
+            | Fault::WriteStateBurnt { .. } => Status::State,
+            Fault::Exhausted { .. } => Status::Exhausted,
+            Fault::OutOfMemory | Fault::OutOfMemoryBurnt { .. } => Status::Memory,
+            Fault::Input | Fault::Output => Status::Stream,
+        }
+    }
+}
+
+impl fmt::Display for Fault {
+    ghost output = { λ fault. Some (text_of fault) };
+
+    fn fmt<W: fmt::Write>(&self, f: &mut fmt::Formatter<W>) -> fmt::Result {
+        match *self {
+            Fault::BadLevels => f.write_str("bad levels"),
+            Fault::TooManyLevels => f.write_str("too many levels"),
+            Fault::HeightNotSigned => f.write_str("height not signed"),
+            Fault::TooTall => f.write_str("too tall"),
+            Fault::BadSeed => f.write_str("bad seed"),
+            Fault::BadId => f.write_str("bad id"),
+            Fault::BadRandom => f.write_str("bad random"),
+            Fault::StateExists => f.write_str("state exists"),
+            Fault::StateInUse => f.write_str("state in use"),
+            Fault::ReadState => f.write_str("cannot read state"),
+            Fault::BadState(fault) => write!(f, "bad state: {fault}"),
+            Fault::WriteState => f.write_str("cannot write state"),
+            Fault::WriteStateBurnt { start, len } => {
+                write!(f, "{}", BookFault::Store { start, len })
+            }
+            Fault::Exhausted { left } => write!(f, "{}", BookFault::Exhausted { left }),
+            Fault::OutOfMemory => f.write_str("out of memory"),
+            Fault::OutOfMemoryBurnt { count } => write!(f, "out of memory: {count} burnt"),
+            Fault::Input => f.write_str("cannot read input"),
+            Fault::Output => f.write_str("cannot write output"),
+        }
+    }
+}
+
+impl Error for Fault {}
+
+impl From<KeyFault> for Fault {
+    ghost from_gives = { λ key_fault fault. fault ≡ of_key key_fault };
+
+    fn from(fault: KeyFault) -> Self {
+        match fault {
+            KeyFault::NoLevels => Fault::BadLevels,
+            KeyFault::TooManyLevels => Fault::TooManyLevels,
+            KeyFault::HeightNotSigned => Fault::HeightNotSigned,
+            KeyFault::TooTall => Fault::TooTall,
+        }
+    }
+}
+
+impl From<LevelsTextFault> for Fault {
+    ghost from_gives = { λ text_fault fault. fault ≡ of_text text_fault };
+
+    fn from(fault: LevelsTextFault) -> Self {
+        match fault {
+            LevelsTextFault::Bad => Fault::BadLevels,
+            LevelsTextFault::OutOfMemory => Fault::OutOfMemory,
+        }
+    }
+}
+
+impl From<OutOfMemory> for Fault {
+    ghost use Rattle.lms_commands.specs.declared.fault.Fault.TheVariants.{OutOfMemory as FaultOfMemory};
+
+    ghost from_gives = { λ _ fault. fault ≡ FaultOfMemory };
+
+    fn from(_: OutOfMemory) -> Self {
+        Fault::OutOfMemory
+    }
+}
+
+impl From<OpenFault> for Fault {
+    ghost from_gives = { λ open_fault fault. fault ≡ of_opening open_fault };
+
+    fn from(fault: OpenFault) -> Self {
+        match fault {
+            OpenFault::Store => Fault::ReadState,
+            OpenFault::Image(fault) => Fault::BadState(fault),
+            OpenFault::OutOfMemory => Fault::OutOfMemory,
+        }
+    }
+}
+
+impl From<BookFault> for Fault {
+    ghost from_gives = { λ book_fault fault. fault ≡ of_book book_fault };
+
+    fn from(fault: BookFault) -> Self {
+        match fault {
+            BookFault::Exhausted { left } => Fault::Exhausted { left },
+            BookFault::OutOfMemory => Fault::OutOfMemory,
+            BookFault::Store { start, len } => Fault::WriteStateBurnt { start, len },
+        }
+    }
+}
+
+/// Prints the fault's line, `error: ` and its text.
+///
+/// An error is the writer's own; what of the line it took by then isn't said.
+pub fn print_fault<W: Write>(errors: &mut W, fault: Fault) -> io::Result<()>
+    ensures { OnOk result (Appends (W.contents errors.old) (W.contents errors.new) (fault_line fault)) }
+{
+    writeln!(errors, "error: {fault}")?;
+    errors.flush()
+}

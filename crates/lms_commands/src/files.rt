@@ -1,0 +1,70 @@
+//! What every command does with files and states.
+ghost use Rattle.std.specs.Prelude.{[], ◌≡◌, ◌⊎◌, ◌↔◌, ℕ, List, IfErr, IfOk, OnOk};
+ghost use Rattle.lms_book.specs.Image.{image_of, HasImage};
+ghost use Rattle.lms_commands.specs.Known.{Stays};
+ghost use Rattle.lms_commands.specs.Signing.{FailsToOpen};
+ghost use Rattle.lms_commands.specs.Verifying.{RefusedAt};
+
+use crate::fault::Fault;
+use crate::world::{World, WorldFault};
+use lms_book::Book;
+use lms_params::OutOfMemory;
+use std::alloc::Global;
+
+/// The bytes of a file. `Input` where it can't be read, `OutOfMemory` where memory for it was refused.
+pub fn read_file<W: World>(alloc: Global, world: &W, name: &str) -> Result<Vec<u8>, Fault>
+    ensures given { IfOk result (λ bytes. (W.known world.now).gives name.now bytes.items) }
+    ensures refused { IfErr result
+        (RefusedAt (W.known world.now) name.now) }
+{
+    match world.read(alloc, name) {
+        Ok(bytes) => Ok(bytes),
+        Err(WorldFault::Device) => Err(Fault::Input),
+        Err(WorldFault::OutOfMemory) => Err(Fault::OutOfMemory),
+    }
+}
+
+/// Makes these the bytes of a file. `Output` where it can't be written, or memory for that was refused.
+pub fn write_file<W: World>(world: &mut W, name: &str, bytes: &[u8]) -> Result<(), Fault>
+    ensures given { OnOk result ((W.known world.new).gives name.now bytes.now) }
+    ensures failed { IfErr result (λ fault. fault ≡ Fault.Output) }
+    ensures states { (state : List ℕ) → Stays (W.known world.old) (W.known world.new) state }
+{
+    world.write(name, bytes).map_err(|_| Fault::Output)
+}
+
+/// The lock of a state. `StateInUse` where it is not got, `OutOfMemory` where memory for its name was refused.
+pub fn lock_state<W: World>(alloc: Global, world: &W, state: &str) -> Result<W::Lock, Fault>
+    ensures { IfErr result (λ fault. (fault ≡ Fault.StateInUse) ⊎ (fault ≡ Fault.OutOfMemory)) }
+{
+    match world.lock(alloc, state) {
+        Ok(Some(lock)) => Ok(lock),
+        Ok(None) => Err(Fault::StateInUse),
+        Err(OutOfMemory) => Err(Fault::OutOfMemory),
+    }
+}
+
+/// Takes a state out of the world, and opens its book. The caller puts it back, as `world.put_back(state, book.close())`.
+/// `ReadState`, `BadState` and `OutOfMemory` leave the state where it was.
+pub fn open_state<W: World>(
+    alloc: Global,
+    world: &mut W,
+    state: &str,
+) -> Result<Book<W::Store>, Fault>
+    ensures opened { IfOk result (λ book. (W.known world.old).keeps state.now (image_of book.key book.base)) }
+    ensures counted { IfOk result (λ book. HasImage book.key book.base) }
+    ensures fresh { IfOk result (λ book. book.history ≡ []) }
+    ensures taken { IfOk result (λ book. (text : List ℕ)
+        → W.Store.may_leave book.store text ↔ (W.known world.old).keeps state.now text) }
+    ensures failed { IfErr result (FailsToOpen (W.known world.old) state.now) }
+    ensures stays { IfErr result (λ _. Stays (W.known world.old) (W.known world.new) state.now) }
+{
+    let store = world.take_store(alloc, state)?;
+    match Book::open(alloc, store) {
+        Ok(book) => Ok(book),
+        Err((fault, store)) => {
+            world.put_back(state, store);
+            Err(Fault::from(fault))
+        }
+    }
+}

@@ -1,0 +1,49 @@
+//! `info`: what a key's state says.
+ghost use Rattle.std.specs.Prelude.{◌≡◌, ◌≢◌, IfErr, IfOk, OnOk};
+ghost use Rattle.lms_book.specs.Image.{image_of, HasImage};
+ghost use Rattle.lms_commands.specs.Known.{Stays};
+ghost use Rattle.lms_commands.specs.Signing.{Describes, FailsToDescribe, FailsToOpen};
+
+use crate::description::print_info;
+use crate::fault::Fault;
+use crate::files::{lock_state, open_state};
+use crate::world::World;
+use lms_book::Image;
+use std::alloc::Global;
+use std::io::Write;
+
+/// Prints four lines on a key: its levels, how many indices are used, how many there are and how many are left.
+///
+/// In this order: `StateInUse` where the state's lock is not got, `ReadState`, `BadState`, `OutOfMemory`, `Output`.
+pub fn describe<W: World, O: Write>(
+    alloc: Global,
+    world: &mut W,
+    state: &str,
+    output: &mut O,
+) -> Result<(), Fault>
+    ensures described { OnOk result (Describes (W.known world.old) state.now
+        (O.contents output.old) (O.contents output.new)) }
+    ensures failed { IfErr result (FailsToDescribe (W.known world.old) state.now) }
+    ensures stays { Stays (W.known world.old) (W.known world.new) state.now }
+    ensures silent { IfErr result (λ fault. fault ≢ Fault.Output → output.new ≡ output.old) }
+{
+    let _lock = lock_state(alloc, world, state)?;
+    let image = read_state(alloc, world, state)?;
+    print_info(output, image.key, image.counter).map_err(|_| Fault::Output)
+}
+
+/// The key of a state, and how many of its indices are used.
+fn read_state<W: World>(alloc: Global, world: &mut W, state: &str) -> Result<Image, Fault>
+    ensures opened { IfOk result (λ image. (W.known world.old).keeps state.now (image_of image.key image.counter)) }
+    ensures stays { Stays (W.known world.old) (W.known world.new) state.now }
+    ensures counted { IfOk result (λ image. HasImage image.key image.counter) }
+    ensures failed { IfErr result (FailsToOpen (W.known world.old) state.now) }
+{
+    let book = open_state(alloc, world, state)?;
+    let image = Image {
+        key: book.key(),
+        counter: book.counter(),
+    };
+    world.put_back(state, book.close());
+    Ok(image)
+}

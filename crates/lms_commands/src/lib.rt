@@ -1,0 +1,26 @@
+//! What each command of the program does, from its options' texts to the bytes on its output.
+//!
+//! Files and states are reached through a [`World`]: [`DiskWorld`] is the disk, [`MemoryWorld`] stands in for it in tests.
+#![tactic(auto)]
+
+mod description;
+mod fault;
+mod files;
+mod info;
+mod keygen;
+mod options;
+mod signing;
+mod status;
+mod verdict;
+mod verifying;
+mod world;
+
+pub use crate::description::LevelsText;
+pub use crate::fault::{Fault, print_fault};
+pub use crate::info::describe;
+pub use crate::keygen::{key_from, make_key};
+pub use crate::signing::{SignFault, Signed, sign_file, sign_next};
+pub use crate::status::Status;
+pub use crate::verdict::{Verdict, judge};
+pub use crate::verifying::verify_files;
+pub use crate::world::{DiskWorld, MemoryLock, MemoryWorld, World, WorldFault};

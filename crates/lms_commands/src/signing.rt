@@ -1,0 +1,155 @@
+//! `sign`: a message signed with the next index of a key's state.
+ghost use Rattle.std.specs.Prelude.{◌≡◌, ◌≢◌, ◌⊎◌, ◌+◌, IfErr, IfOk, Ok, OnOk, length};
+ghost use Rattle.hex.specs.Hex.{decode_of};
+ghost use Rattle.lms_spec.specs.Hss.{hss_signature, hss_public_key, HssAccepts};
+ghost use Rattle.lms_hss.specs.Keys.{hss_key_of};
+ghost use Rattle.lms_book.specs.Books.{counter};
+ghost use Rattle.lms_book.specs.Image.{image_of};
+ghost use Rattle.lms_book.specs.Stops.{AtEachMoment};
+ghost use Rattle.lms_commands.specs.Faults.{of_signing};
+ghost use Rattle.lms_commands.specs.Signing.{FailsToSign, FailsToSignNext, GivesOne, SignsFile, SignsNext, SignsNothing};
+
+use crate::description::print_index;
+use crate::fault::Fault;
+use crate::files::{lock_state, open_state, read_file, write_file};
+use crate::options::read_bytes;
+use crate::world::World;
+use lms_book::{Book, BookFault, Lease, StateStore};
+use lms_hss::Forest;
+use lms_params::OutOfMemory;
+use std::alloc::Global;
+use std::io::Write;
+use std::thread::Threads;
+use thiserror::Error;
+
+/// Why a message was not signed.
+#[derive(Clone, Copy, Debug, PartialEq, Eq, Error)]
+pub enum SignFault {
+    /// No index was reserved.
+    #[error("{0}")]
+    Book(BookFault),
+    /// Memory was refused after the reservation: the index is used, and signed nothing.
+    #[error("out of memory: 1 burnt")]
+    OutOfMemory,
+}
+
+impl From<SignFault> for Fault {
+    ghost from_gives = { λ sign_fault fault. fault ≡ of_signing sign_fault };
+
+    fn from(fault: SignFault) -> Self {
+        match fault {
+            SignFault::Book(fault) => Fault::from(fault),
+            SignFault::OutOfMemory => Fault::OutOfMemoryBurnt { count: 1 },
+        }
+    }
+}
+
+/// A signature, and the index that made it.
+#[derive(Drop)]
+pub struct Signed {
+    pub index: u64,
+    pub signature: Vec<u8>,
+}
+
+/// Signs the message in a file with the next index of a state's key, under a randomizer of 64 hexadecimal digits, writes
+/// the signature to a file and prints the index.
+///
+/// In this order: `BadRandom`; `Input` or `OutOfMemory` of the message; `StateInUse` where the state's lock is not got;
+/// `ReadState`, `BadState`, `OutOfMemory`; `Exhausted`; `WriteStateBurnt`; `OutOfMemoryBurnt`; `Output`. From
+/// `OutOfMemoryBurnt` on the index is used; at `WriteStateBurnt` the state may be the older one, and give it again.
+pub fn sign_file<W: World, O: Write>(
+    rt: &(impl Threads + Sync),
+    alloc: Global,
+    world: &mut W,
+    state: &str,
+    random: &str,
+    message: &str,
+    out: &str,
+    output: &mut O,
+) -> Result<(), Fault>
+    ensures signed { OnOk result (SignsFile (W.known world.old)
+        (W.known world.new) state.now random.now message.now out.now
+        (O.contents output.old) (O.contents output.new)) }
+    ensures failed { IfErr result (FailsToSign (W.known world.old)
+        (W.known world.new) state.now random.now message.now) }
+    ensures silent { IfErr result (λ fault. fault ≢ Fault.Output → output.new ≡ output.old) }
+{
+    let randomizer = read_bytes(random).ok_or(Fault::BadRandom)?;
+    let message = read_file(alloc, world, message)?;
+    let _lock = lock_state(alloc, world, state)?;
+    let signed = sign_by_state(rt, alloc, world, state, &randomizer, &message)?;
+    write_file(world, out, &signed.signature)?;
+    match print_index(output, signed.index) {
+        Ok(()) => Ok(()),
+        Err(_) => Err(Fault::Output),
+    }
+}
+
+/// Signs a message with the next index of a state's key.
+fn sign_by_state<W: World>(
+    rt: &(impl Threads + Sync),
+    alloc: Global,
+    world: &mut W,
+    state: &str,
+    c: &[u8; 32],
+    msg: &[u8],
+) -> Result<Signed, Fault>
+    ensures signed { IfOk result (λ signed. SignsNext (W.known world.old)
+        (W.known world.new) state.now c.now msg.now
+        signed.signature.items signed.index) }
+    ensures failed { IfErr result (FailsToSignNext (W.known world.old)
+        (W.known world.new) state.now) }
+{
+    let mut book = open_state(alloc, world, state)?;
+    let signed = sign_next(rt, alloc, &mut book, c, msg);
+    world.put_back(state, book.close());
+    signed.map_err(|fault| Fault::from(fault))
+}
+
+/// Signs a message with the next index of a book, under the randomizer `c` (RFC 8554, 6.2). The use of the index is stored
+/// before the signature is made, and the index is never given again, also where an error comes after that. A stop at any
+/// moment leaves what it could leave before, or the image that counts the index.
+pub fn sign_next<S: StateStore>(
+    rt: &(impl Threads + Sync),
+    alloc: Global,
+    book: &mut Book<S>,
+    c: &[u8; 32],
+    msg: &[u8],
+) -> Result<Signed, SignFault>
+    ensures key { book.new.key ≡ book.old.key }
+    ensures index { IfOk result (λ signed. signed.index ≡ counter book.old) }
+    ensures reserved { IfOk result (λ _. GivesOne S.may_leave book.old book.new) }
+    ensures failed { IfErr result (λ fault. SignsNothing S.may_leave S.failures book.old fault book.new) }
+    ensures moments { AtEachMoment S.moment S.left_since book.old.store book.new.store
+        (λ left. S.may_leave book.old.store left ⊎ (left ≡ image_of book.old.key (counter book.old + 1))) }
+    ensures signature { IfOk result (λ signed. signed.signature.items
+        ≡ hss_signature (hss_key_of book.old.key) signed.index c.now msg.now) }
+    ensures accepted { IfOk result (λ signed.
+        HssAccepts (hss_public_key (hss_key_of book.old.key)) msg.now signed.signature.items) }
+{
+    let lease = book.reserve(1).map_err(|fault| SignFault::Book(fault))?;
+    let signed = sign_lease(rt, alloc, &lease, c, msg);
+    book.give_back(lease);
+    signed.map_err(|_| SignFault::OutOfMemory)
+}
+
+/// Signs a message with the first index of a lease.
+fn sign_lease(
+    rt: &(impl Threads + Sync),
+    alloc: Global,
+    lease: &Lease,
+    c: &[u8; 32],
+    msg: &[u8],
+) -> Result<Signed, OutOfMemory>
+    ensures index { IfOk result (λ signed. signed.index ≡ lease.now.start) }
+    ensures signature { IfOk result (λ signed. signed.signature.items
+        ≡ hss_signature (hss_key_of lease.now.key) signed.index c.now msg.now) }
+    ensures accepted { IfOk result (λ signed.
+        HssAccepts (hss_public_key (hss_key_of lease.now.key)) msg.now signed.signature.items) }
+{
+    let index = lease.start();
+    let len = lease.len();
+    let forest = Forest::cover(rt, alloc, lease.key(), index, len)?;
+    let signature = forest.sign(index, c, msg)?;
+    Ok(Signed { index, signature })
+}

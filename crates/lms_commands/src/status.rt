@@ -1,0 +1,31 @@
+//! How the program ends.
+ghost use Rattle.std.specs.Prelude.{◌≡◌};
+ghost use Rattle.lms_commands.specs.Faults.{code_of};
+
+/// How the program ends, by the number that it exits with.
+#[derive(Clone, Copy, Debug, PartialEq, Eq)]
+pub enum Status {
+    /// All was done, or the signature is valid.
+    Done = 0,
+    /// The signature is invalid.
+    Invalid = 1,
+    /// The words are no command, or an option's text is bad.
+    Usage = 2,
+    /// The state's store failed, or what it holds is no state.
+    State = 3,
+    /// The key has not enough indices left.
+    Exhausted = 4,
+    /// Memory ran out.
+    Memory = 5,
+    /// A file or a stream failed.
+    Stream = 6,
+}
+
+impl Status {
+    /// The number that the program exits with.
+    pub fn code(self) -> u8
+        ensures { result ≡ code_of self }
+    {
+        self as u8
+    }
+}

@@ -1,0 +1,54 @@
+//! What verification says, and its printed line.
+ghost use Rattle.std.specs.Prelude.{◌≡◌, ◌<◌, OnOk};
+ghost use Rattle.std.specs.Io.KnownBytes.{Appends};
+ghost use Rattle.lms_commands.specs.Faults.{code_of};
+ghost use Rattle.lms_commands.specs.Verdicts.{IsRightFor, line_of, verdict_status};
+
+use crate::status::Status;
+use std::io;
+use std::io::Write;
+
+/// What verification says of a signature.
+#[derive(Clone, Copy, Debug, PartialEq, Eq)]
+pub enum Verdict {
+    Valid,
+    Invalid,
+}
+
+impl Verdict {
+    /// How the program ends with this verdict.
+    pub fn status(self) -> Status
+        ensures status { result ≡ verdict_status self }
+        ensures small { code_of result < 2 }
+    {
+        match self {
+            Verdict::Valid => Status::Done,
+            Verdict::Invalid => Status::Invalid,
+        }
+    }
+}
+
+/// The verdict on a signature of the message under the public key. Any lengths will do.
+pub fn judge(public: &[u8], message: &[u8], signature: &[u8]) -> Verdict
+    ensures { IsRightFor result public.now message.now signature.now }
+{
+    if lms_hss::verify(public, message, signature) {
+        Verdict::Valid
+    } else {
+        Verdict::Invalid
+    }
+}
+
+/// Prints the verdict's line, `valid` or `invalid`.
+///
+/// An error is the writer's own; what of the line it took by then isn't said.
+pub fn print_verdict<W: Write>(output: &mut W, verdict: Verdict) -> io::Result<()>
+    ensures { OnOk result (Appends (W.contents output.old) (W.contents output.new) (line_of verdict)) }
+{
+    let line = match verdict {
+        Verdict::Valid => "valid\n",
+        Verdict::Invalid => "invalid\n",
+    };
+    output.write_all(line.as_bytes())?;
+    output.flush()
+}

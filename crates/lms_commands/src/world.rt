@@ -1,0 +1,71 @@
+//! Where the program's files and states are.
+ghost use Rattle.std.specs.Prelude.{◌≡◌, ◌↔◌, ℕ, List, true, false, IfErr, IfOk, OnOk};
+ghost use Rattle.lms_commands.specs.Known.{Exists, Known, Stays};
+
+mod disk;
+mod memory;
+
+pub use disk::DiskWorld;
+use lms_book::StateStore;
+use lms_params::OutOfMemory;
+pub use memory::{MemoryLock, MemoryWorld};
+use std::alloc::Global;
+use thiserror::Error;
+
+/// Why a file can't be read or written.
+#[derive(Clone, Copy, Debug, PartialEq, Eq, Error)]
+pub enum WorldFault {
+    /// There is no such file, or its device failed.
+    #[error("the file can't be reached")]
+    Device,
+    /// Memory ran out.
+    #[error("out of memory")]
+    OutOfMemory,
+}
+
+/// Files and keys' states, by their names.
+pub trait World {
+    /// Keeps other programs from a state for as long as it is held.
+    type Lock: Drop;
+
+    /// What keeps a state.
+    type Store: StateStore + Drop;
+
+    // What is known of the files and the states.
+    ghost known: { Self → Known };
+
+    /// The bytes of a file.
+    ///
+    /// `Device` where there is no such file or it can't be read, `OutOfMemory` where memory for its
+    /// bytes was refused.
+    fn read(&self, alloc: Global, name: &str) -> Result<Vec<u8>, WorldFault>
+        ensures given { IfOk result (λ bytes. (known self.now).gives name.now bytes.items) }
+        ensures refused { IfErr result ((known self.now).refuses name.now) };
+
+    /// Makes these the bytes of a file, which need not be there yet. No state is changed.
+    ///
+    /// `Device` where it can't be written, `OutOfMemory` where memory for that was refused.
+    fn write(&mut self, name: &str, bytes: &[u8]) -> Result<(), WorldFault>
+        ensures given { OnOk result ((known self.new).gives name.now bytes.now) }
+        ensures states { (state : List ℕ) → Stays (known self.old) (known self.new) state };
+
+    /// Whether there is a state of this name, also where that can't be told.
+    fn exists(&self, name: &str) -> bool
+        ensures missing { result ≡ false → (known self.now).lacks name.now }
+        ensures there { result ≡ true → Exists (known self.now) name.now };
+
+    /// The lock of the state of this name, without waiting for it; `None` where it is not got.
+    fn lock(&self, alloc: Global, name: &str) -> Result<Option<Self::Lock>, OutOfMemory>;
+
+    /// Takes out what keeps the state of this name. Where there is no such state, its reads fail.
+    ///
+    /// `OutOfMemory` where memory for it was refused.
+    fn take_store(&mut self, alloc: Global, name: &str) -> Result<Self::Store, OutOfMemory>
+        ensures taken { IfOk result (λ store. (text : List ℕ)
+            → Self.Store.may_leave store text ↔ (known self.old).keeps name.now text) }
+        ensures stays { IfErr result (λ _. Stays (known self.old) (known self.new) name.now) };
+
+    /// Puts it back.
+    fn put_back(&mut self, name: &str, store: Self::Store)
+        ensures { (text : List ℕ) → Self.Store.may_leave store text → (known self.new).keeps name.now text };
+}

@@ -1,6 +1,0 @@
-use Rattle.std.proofs.Common.{◌≡◌, map}
-use Rattle.lms_tool.specs.Options.{pair_text}
-use Rattle.lms_tool.proofs.options.read_levels.Given as goal
-
-abbrev pub invariant-loop-piece : goal.invariant-loop-piece
-invariant-loop-piece l = map pair_text l.pairs.items ≡ map (λ piece. piece.now) l.yielded

@@ -1,2 +1,0 @@
-pub(crate) mod stopping;
-mod stops;
