@@ -47,7 +47,7 @@ pub trait StateStore: Send {
 
     /// Puts this text in the place of the one before: from then on a stop leaves it alone. On `Err` the store failed,
     /// and counted it, and a stop leaves this text or what it could leave before the call, as it does at each moment
-    /// within the call.
+    /// within the call. A store that takes memory here, and is refused it, fails so.
     fn replace(&mut self, text: &[u8]) -> Result<(), StoreFault>
         ensures ok { OnOk result (IsOnlyStop text.now (may_leave self.new)) }
         ensures err { OnErr result ((left : List ℕ)

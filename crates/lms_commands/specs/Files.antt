@@ -1,5 +1,5 @@
 -- Files and a state in memory.
-use Rattle.std.specs.Prelude.{ℕ, ◌≡◌, ◌⊎◌, List, Option, Some, None, Result, Ok, Err, String, find, string_bytes}
+use Rattle.std.specs.Prelude.{ℕ, ◌≡◌, ◌⊎◌, List, Bool, true, Option, Some, None, Result, Ok, Err, String, find, string_bytes}
 use Rattle.std.specs.Global.{Global, Vec}
 use Rattle.std.specs.Str.{bytes_eq}
 use Rattle.lms_book.specs.Memory.{MemoryState}
@@ -37,11 +37,27 @@ abbrev pub state_text : Option MemoryState → Option (List ℕ)
 state_text None = None
 state_text (Some store) = store.text
 
+-- the store that keeps the state, where there is one
+abbrev pub store_in : MemoryWorld → Option MemoryState
+store_in world = world.state
+
+-- another program has the lock
+abbrev pub is_used_elsewhere : MemoryWorld → Bool
+is_used_elsewhere world = world.in_use
+
+-- the world with this store for its state
+abbrev pub with_store : MemoryState → MemoryWorld → MemoryWorld
+with_store store world = record world { state = Some store }
+
+-- the world with its lock held by another program
+abbrev pub used_elsewhere : MemoryWorld → MemoryWorld
+used_elsewhere world = record world { in_use = true }
+
 -- what is known in such a world: there is one state, whatever its name
 abbrev pub known_in_memory : MemoryWorld → Known
 known_in_memory world = record {
   gives = λ name bytes. answer_of world name ≡ Ok bytes;
   refuses = MayRefuse world;
-  keeps = λ _ text. state_text world.state ≡ Some text;
-  lacks = λ _. state_text world.state ≡ None;
+  keeps = λ _ text. state_text (store_in world) ≡ Some text;
+  lacks = λ _. state_text (store_in world) ≡ None;
 }

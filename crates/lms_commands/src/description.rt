@@ -47,7 +47,7 @@ impl fmt::Display for LevelsText<'_> {
 /// Prints four lines: a key's levels, the indices used so far, those that there are, and those that are left.
 ///
 /// An error is the writer's own; what of the lines it took by then isn't said.
-pub fn print_info<O: Write>(output: &mut O, key: HssKey, counter: u64) -> io::Result<()>
+pub(crate) fn print_info<O: Write>(output: &mut O, key: HssKey, counter: u64) -> io::Result<()>
     requires { counter ≤ capacity_of (hss_key_of key) }
     ensures { OnOk result (Appends (O.contents output.old) (O.contents output.new) (info_text key counter)) }
 {
@@ -64,7 +64,7 @@ pub fn print_info<O: Write>(output: &mut O, key: HssKey, counter: u64) -> io::Re
 /// Prints a line on how many messages a key can sign.
 ///
 /// An error is the writer's own; what of the line it took by then isn't said.
-pub fn print_capacity<O: Write>(output: &mut O, capacity: u64) -> io::Result<()>
+pub(crate) fn print_capacity<O: Write>(output: &mut O, capacity: u64) -> io::Result<()>
     ensures { OnOk result (Appends (O.contents output.old) (O.contents output.new)
         (number_line (codes "capacity") capacity)) }
 {
@@ -75,7 +75,7 @@ pub fn print_capacity<O: Write>(output: &mut O, capacity: u64) -> io::Result<()>
 /// Prints a line on the index that a message was signed with.
 ///
 /// An error is the writer's own; what of the line it took by then isn't said.
-pub fn print_index<O: Write>(output: &mut O, index: u64) -> io::Result<()>
+pub(crate) fn print_index<O: Write>(output: &mut O, index: u64) -> io::Result<()>
     ensures { OnOk result (Appends (O.contents output.old) (O.contents output.new)
         (number_line (codes "index") index)) }
 {

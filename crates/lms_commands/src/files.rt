@@ -12,7 +12,7 @@ use lms_params::OutOfMemory;
 use std::alloc::Global;
 
 /// The bytes of a file. `Input` where it can't be read, `OutOfMemory` where memory for it was refused.
-pub fn read_file<W: World>(alloc: Global, world: &W, name: &str) -> Result<Vec<u8>, Fault>
+pub(crate) fn read_file<W: World>(alloc: Global, world: &W, name: &str) -> Result<Vec<u8>, Fault>
     ensures given { IfOk result (λ bytes. (W.known world.now).gives name.now bytes.items) }
     ensures refused { IfErr result
         (RefusedAt (W.known world.now) name.now) }
@@ -25,7 +25,7 @@ pub fn read_file<W: World>(alloc: Global, world: &W, name: &str) -> Result<Vec<u
 }
 
 /// Makes these the bytes of a file. `Output` where it can't be written, or memory for that was refused.
-pub fn write_file<W: World>(world: &mut W, name: &str, bytes: &[u8]) -> Result<(), Fault>
+pub(crate) fn write_file<W: World>(world: &mut W, name: &str, bytes: &[u8]) -> Result<(), Fault>
     ensures given { OnOk result ((W.known world.new).gives name.now bytes.now) }
     ensures failed { IfErr result (λ fault. fault ≡ Fault.Output) }
     ensures states { (state : List ℕ) → Stays (W.known world.old) (W.known world.new) state }
@@ -34,7 +34,7 @@ pub fn write_file<W: World>(world: &mut W, name: &str, bytes: &[u8]) -> Result<(
 }
 
 /// The lock of a state. `StateInUse` where it is not got, `OutOfMemory` where memory for its name was refused.
-pub fn lock_state<W: World>(alloc: Global, world: &W, state: &str) -> Result<W::Lock, Fault>
+pub(crate) fn lock_state<W: World>(alloc: Global, world: &W, state: &str) -> Result<W::Lock, Fault>
     ensures { IfErr result (λ fault. (fault ≡ Fault.StateInUse) ⊎ (fault ≡ Fault.OutOfMemory)) }
 {
     match world.lock(alloc, state) {
@@ -46,7 +46,7 @@ pub fn lock_state<W: World>(alloc: Global, world: &W, state: &str) -> Result<W::
 
 /// Takes a state out of the world, and opens its book. The caller puts it back, as `world.put_back(state, book.close())`.
 /// `ReadState`, `BadState` and `OutOfMemory` leave the state where it was.
-pub fn open_state<W: World>(
+pub(crate) fn open_state<W: World>(
     alloc: Global,
     world: &mut W,
     state: &str,

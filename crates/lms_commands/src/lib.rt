@@ -19,6 +19,7 @@ pub use crate::description::LevelsText;
 pub use crate::fault::{Fault, print_fault};
 pub use crate::info::describe;
 pub use crate::keygen::{key_from, make_key};
+pub use crate::options::{LevelsTextFault, read_levels};
 pub use crate::signing::{SignFault, Signed, sign_file, sign_next};
 pub use crate::status::Status;
 pub use crate::verdict::{Verdict, judge};

@@ -1,24 +1,36 @@
 //! The texts of options read.
-ghost use Rattle.std.specs.Prelude.{◌≡◌, ◌≢◌, ℕ, List, IfErr, IfNone, IfOk, IfSome, Ok, length};
+ghost use Rattle.std.specs.Prelude.{◌≡◌, ◌≢◌, ℕ, List, IfErr, IfNone, IfOk, IfSome, Ok, Some, length};
 ghost use Rattle.hex.specs.Hex.{decode_of};
 ghost use Rattle.lms_params.specs.declared.lms_type.LmsType.{LmsType as LmsKind};
 ghost use Rattle.lms_params.specs.declared.ots_type.OtsType.{OtsType as OtsKind};
+ghost use Rattle.lms_commands.specs.Faults.{of_text, text_of};
 ghost use Rattle.lms_commands.specs.Options.{height_text, pair_text, width_text, IsLevelsText};
 
+use crate::fault::Fault;
 use hex::FromHex;
 use lms_params::{LmsType, OtsType};
 use std::alloc::{AllocError, Global};
-use thiserror::Error;
+use std::error::Error;
+use std::fmt;
 
 /// Why no levels were read.
-#[derive(Clone, Copy, Debug, PartialEq, Eq, Error)]
+#[derive(Clone, Copy, Debug, PartialEq, Eq)]
 pub enum LevelsTextFault {
     /// The text is not that of levels.
-    #[error("bad levels")]
     Bad,
-    #[error("out of memory")]
+    /// Memory for them ran out.
     OutOfMemory,
 }
+
+impl fmt::Display for LevelsTextFault {
+    ghost output = { λ fault. Some (text_of (of_text fault)) };
+
+    fn fmt<W: fmt::Write>(&self, f: &mut fmt::Formatter<W>) -> fmt::Result {
+        write!(f, "{}", Fault::from(*self))
+    }
+}
+
+impl Error for LevelsTextFault {}
 
 impl From<AllocError> for LevelsTextFault {
     ghost use Rattle.std.specs.Prelude.{◌≡◌};
@@ -49,7 +61,7 @@ pub fn read_levels(alloc: Global, text: &str) -> Result<Vec<(LmsType, OtsType)>,
 }
 
 /// The N bytes of a text of 2N hexadecimal digits in either case. None exactly where the text is no such digits.
-pub fn read_bytes<const N: usize>(text: &str) -> Option<[u8; N]>
+pub(crate) fn read_bytes<const N: usize>(text: &str) -> Option<[u8; N]>
     ensures some { IfSome result (λ bytes. decode_of text.now ≡ Ok bytes) }
     ensures none { IfNone result ((bytes : List ℕ) → length bytes ≡ N → decode_of text.now ≢ Ok bytes) }
 {
@@ -57,7 +69,7 @@ pub fn read_bytes<const N: usize>(text: &str) -> Option<[u8; N]>
 }
 
 /// The level of a text such as `5/8`. None exactly where the text is that of no level.
-pub fn pair_from(piece: &str) -> Option<(LmsType, OtsType)>
+pub(crate) fn pair_from(piece: &str) -> Option<(LmsType, OtsType)>
     ensures some { IfSome result (λ pair. piece.now ≡ pair_text pair) }
     ensures none { IfNone result ((pair : LmsKind × OtsKind) → piece.now ≢ pair_text pair) }
 {

@@ -1,12 +1,12 @@
 //! `sign`: a message signed with the next index of a key's state.
-ghost use Rattle.std.specs.Prelude.{◌≡◌, ◌≢◌, ◌⊎◌, ◌+◌, IfErr, IfOk, Ok, OnOk, length};
+ghost use Rattle.std.specs.Prelude.{◌≡◌, ◌≢◌, ◌⊎◌, ◌+◌, IfErr, IfOk, Ok, OnOk, Some, length};
 ghost use Rattle.hex.specs.Hex.{decode_of};
 ghost use Rattle.lms_spec.specs.Hss.{hss_signature, hss_public_key, HssAccepts};
 ghost use Rattle.lms_hss.specs.Keys.{hss_key_of};
 ghost use Rattle.lms_book.specs.Books.{counter};
 ghost use Rattle.lms_book.specs.Image.{image_of};
 ghost use Rattle.lms_book.specs.Stops.{AtEachMoment};
-ghost use Rattle.lms_commands.specs.Faults.{of_signing};
+ghost use Rattle.lms_commands.specs.Faults.{of_signing, text_of};
 ghost use Rattle.lms_commands.specs.Signing.{FailsToSign, FailsToSignNext, GivesOne, SignsFile, SignsNext, SignsNothing};
 
 use crate::description::print_index;
@@ -18,18 +18,17 @@ use lms_book::{Book, BookFault, Lease, StateStore};
 use lms_hss::Forest;
 use lms_params::OutOfMemory;
 use std::alloc::Global;
+use std::error::Error;
+use std::fmt;
 use std::io::Write;
 use std::thread::Threads;
-use thiserror::Error;
 
 /// Why a message was not signed.
-#[derive(Clone, Copy, Debug, PartialEq, Eq, Error)]
+#[derive(Clone, Copy, Debug, PartialEq, Eq)]
 pub enum SignFault {
     /// No index was reserved.
-    #[error("{0}")]
     Book(BookFault),
     /// Memory was refused after the reservation: the index is used, and signed nothing.
-    #[error("out of memory: 1 burnt")]
     OutOfMemory,
 }
 
@@ -43,6 +42,16 @@ impl From<SignFault> for Fault {
         }
     }
 }
+
+impl fmt::Display for SignFault {
+    ghost output = { λ fault. Some (text_of (of_signing fault)) };
+
+    fn fmt<W: fmt::Write>(&self, f: &mut fmt::Formatter<W>) -> fmt::Result {
+        write!(f, "{}", Fault::from(*self))
+    }
+}
+
+impl Error for SignFault {}
 
 /// A signature, and the index that made it.
 #[derive(Drop)]

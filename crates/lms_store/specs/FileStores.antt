@@ -62,16 +62,24 @@ confirmed store = record store { writes = confirm_newest store.writes }
 abbrev pub failed : FileState → FileState
 failed store = record store { failures = raised store.failures }
 
--- a write of this text is recorded for certain: it is one of the first eight, for which memory was taken at the start, and short
+-- for how many writes a store takes memory when it is made
+abbrev pub room : ℕ
+room = 8
+
+-- the longest text that a store takes, in bytes
+abbrev pub most_bytes : ℕ
+most_bytes = 256
+
+-- there is memory for a write of this text already, and the text is short enough
 pub record HasRoom (store : FileState) (text : List ℕ) : Type 0 where
-  pub room_left : length store.writes < 8
-  pub short : length text ≤ 256
+  pub room_left : length store.writes < room
+  pub short : length text ≤ most_bytes
 
 -- what a write of this text answers and leaves
 abbrev pub Replaces : {T : Type 0} → FileState → List ℕ → Result T StoreFault → FileState → Type 0
-Replaces old text (Ok done) new = (length text ≤ 256) × (new ≡ written old text true)
+Replaces old text (Ok done) new = (length text ≤ most_bytes) × (new ≡ written old text true)
 Replaces old text (Err fault) new =
-    ((length text ≤ 256) × (new ≡ failed (written old text false))) ⊎ ((¬ HasRoom old text) × (new ≡ failed old))
+    ((length text ≤ most_bytes) × (new ≡ failed (written old text false))) ⊎ ((¬ HasRoom old text) × (new ≡ failed old))
 
 -- what a read answers and leaves
 abbrev pub Reads : FileState → Result (Vec ℕ) ReadFault → FileState → Type 0

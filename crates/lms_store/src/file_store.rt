@@ -1,6 +1,6 @@
 //! A store in a file.
 ghost use Rattle.std.specs.Prelude.{◌≡◌, ◌⊎◌, ◌≤◌, length, false, IfOk, OnOk, OnErr};
-ghost use Rattle.lms_store.specs.FileStores.{HasRoom, confirmed, fresh, written, failed};
+ghost use Rattle.lms_store.specs.FileStores.{HasRoom, confirmed, fresh, most_bytes, written, failed};
 
 use crate::paths::{OWNER_ONLY, folder_of, resolve, sibling};
 use crate::record::{Attempt, leaves};
@@ -18,7 +18,7 @@ use std::{fs, io};
 /// For how many writes a store takes memory when it is made: more than a command of a program makes.
 const ROOM: usize = 8;
 
-/// A store in a file, with a record of its writes, which grows until the store is dropped, by some 280 bytes a write.
+/// A store in a file, with a record of its writes, which grows until the store is dropped, by 272 bytes a write.
 /// Contracts see the record and the count of failures.
 #[derive(Drop)]
 pub struct FileStore<'a, R: Files> {
@@ -36,7 +36,7 @@ pub struct FileStore<'a, R: Files> {
 impl<'a, R: Files> Model for FileStore<'a, R> {
     ghost use Rattle.std.specs.Prelude.{◌≤◌, string_bytes};
     ghost use Rattle.std.specs.VecDeque.{deque_capacity};
-    ghost use Rattle.lms_store.specs.FileStores.{AreBeside, FileState};
+    ghost use Rattle.lms_store.specs.FileStores.{AreBeside, FileState, room};
 
     ghost Value = { FileState };
 
@@ -44,7 +44,7 @@ impl<'a, R: Files> Model for FileStore<'a, R> {
 
     ghost invariant = { λ store.
         AreBeside (string_bytes store.state) (string_bytes store.draft) (string_bytes store.folder)
-        × (8 ≤ deque_capacity store.writes) };
+        × (room ≤ deque_capacity store.writes) };
 }
 
 impl<'a, R: Files> FileStore<'a, R> {
@@ -121,7 +121,7 @@ impl<'a, R: Files> FileStore<'a, R> {
     /// Records a write, before it is made, as one that is not stored for certain. An error where its text is over 256
     /// bytes, or the record is full and memory for more is refused.
     fn begin(&mut self, text: &[u8]) -> Result<(), StoreFault>
-        ensures short { OnOk result (length text.now ≤ 256) }
+        ensures short { OnOk result (length text.now ≤ most_bytes) }
         ensures begun { OnOk result (self.new ≡ written self.old text.now false) }
         ensures full { OnErr result (¬ HasRoom self.old text.now) }
         ensures same { OnErr result (self.new ≡ self.old) }

@@ -3,6 +3,9 @@
 //! Take the lock before the store, and hold it as long as the store is used: two stores in one file give one index twice,
 //! and so does an older copy of the file that is put back, or a second name of it by a hard link. Nothing here can see either.
 //!
+//! A store records each write until it is dropped, so one that is kept open for many writes grows. Close the book and open the
+//! store anew to begin a new record.
+//!
 //! No contract knows a disk. What is proved speaks of the texts that were written through a store, and stands on two
 //! premises: a rename takes the place of the file whole, so that a stop within it leaves the old file or the new one; and
 //! what `sync_all` answered `Ok` for outlives a stop, of a file its bytes and of a folder its names.

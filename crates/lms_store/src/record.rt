@@ -1,15 +1,18 @@
 //! What a store of files wrote since it was made.
 ghost use Rattle.std.specs.Prelude.{◌≡◌, ◌≤◌, ◌<◌, ◌↔◌, IfNone, IfSome, IsTrue, false, length, true};
-ghost use Rattle.lms_store.specs.FileStores.{Leaves};
+ghost use Rattle.lms_store.specs.FileStores.{Leaves, most_bytes};
 
 use arrayvec::ArrayVec;
 use std::collections::VecDeque;
 use std::marker::Model;
 
+/// The longest text that a store takes, in bytes.
+const MOST_BYTES: usize = 256;
+
 /// A write: its text, of at most 256 bytes, and whether it was stored for certain.
 #[derive(Drop)]
 pub(crate) struct Attempt {
-    text: ArrayVec<u8, 256>,
+    text: ArrayVec<u8, MOST_BYTES>,
     stored: bool,
 }
 
@@ -25,8 +28,8 @@ impl Attempt {
     /// A write of this text that is not stored for certain. `None` where the text is over 256 bytes.
     pub(crate) fn new(text: &[u8]) -> Option<Self>
         ensures made { IfSome result (λ attempt. attempt ≡ record { text = text.now; stored = false }) }
-        ensures short { IfSome result (λ _. length text.now ≤ 256) }
-        ensures long { IfNone result (256 < length text.now) }
+        ensures short { IfSome result (λ _. length text.now ≤ most_bytes) }
+        ensures long { IfNone result (most_bytes < length text.now) }
     {
         let text = ArrayVec::try_from(text).ok()?;
         Some(Attempt {

@@ -182,7 +182,7 @@ fn three_desks<E: Tally, G: Tally, B: Tally>(
     assert_eq!(rt; counts_at(&desks, 0), Some((2, 7, 0)));
     assert_eq!(rt; counts_at(&desks, 1), Some((1, 0, 3)));
     assert_eq!(rt; counts_at(&desks, 2), Some((0, 0, 0)));
-    assert_eq!(rt; base_counter_entries(rt, &shared), (0, 10, 3));
+    assert_eq!(rt; base_counter_stored_entries(rt, &shared), (0, 10, 10, 3));
     let history = [
         Entry::Given { len: 2 },
         Entry::Burnt { len: 3 },
@@ -191,16 +191,21 @@ fn three_desks<E: Tally, G: Tally, B: Tally>(
     settled_at_last(rt, shared, desks, &history)
 }
 
-/// What a shared book says of its reservations: base, counter, entries. Its key is that of the reservations.
-fn base_counter_entries<E: Tally, G: Tally, B: Tally>(
+/// What a shared book says of its reservations: base, counter, what is stored, entries. Its key is that of the reservations.
+fn base_counter_stored_entries<E: Tally, G: Tally, B: Tally>(
     rt: &(impl Abort + Wait),
     shared: &SharedBook<MemoryStore, E, G, B>,
-) -> (u64, u64, usize) {
+) -> (u64, u64, u64, usize) {
     let key = shared.key();
     assert!(rt; shared.with(rt, |found| found.key() == key));
     shared.with(
         rt,
-        |found| (found.base(), found.counter(), found.history().len()),
+        |found| (
+            found.base(),
+            found.counter(),
+            found.stored(),
+            found.history().len(),
+        ),
     )
 }
 

@@ -1,6 +1,6 @@
 //! Files and a state in memory.
-ghost use Rattle.std.specs.Prelude.{ℕ, ◌≡◌, List, OnOk, Ok, Err, Some, None, true, false, option_map};
-ghost use Rattle.lms_commands.specs.Files.{answer_of, bytes_or_fault, entry_of, known_in_memory, state_text};
+ghost use Rattle.std.specs.Prelude.{ℕ, ◌≡◌, List, OnOk, Ok, Err, None, false, option_map};
+ghost use Rattle.lms_commands.specs.Files.{answer_of, bytes_or_fault, entry_of, is_used_elsewhere, known_in_memory, state_text, store_in, used_elsewhere, with_store};
 
 use super::{World, WorldFault};
 use lms_book::MemoryStore;
@@ -28,8 +28,8 @@ impl MemoryWorld {
     /// No files, where a read of any name answers `Device`, and no state.
     pub fn new(alloc: Global) -> Self
         ensures files { (name : List ℕ) → answer_of result name ≡ Err WorldFault.Device }
-        ensures state { state_text result.state ≡ None }
-        ensures free { result.in_use ≡ false }
+        ensures state { state_text (store_in result) ≡ None }
+        ensures free { is_used_elsewhere result ≡ false }
     {
         MemoryWorld {
             alloc,
@@ -41,21 +41,21 @@ impl MemoryWorld {
 
     /// Makes the state one that this store keeps.
     pub fn set_state(&mut self, store: MemoryStore)
-        ensures { self.new ≡ record self.old { state = Some store } }
+        ensures { self.new ≡ with_store store self.old }
     {
         self.state = Some(store);
     }
 
     /// The store that keeps the state, where one was made or put back.
     pub fn state(&self) -> Option<&MemoryStore>
-        ensures { option_map (λ store. store.now) result ≡ self.now.state }
+        ensures { option_map (λ store. store.now) result ≡ store_in self.now }
     {
         self.state.as_ref()
     }
 
     /// Makes the lock one that another program has.
     pub fn use_elsewhere(&mut self)
-        ensures { self.new ≡ record self.old { in_use = true } }
+        ensures { self.new ≡ used_elsewhere self.old }
     {
         self.in_use = true;
     }
@@ -63,14 +63,14 @@ impl MemoryWorld {
     /// Makes each read and each write of a name fail. An error is want of memory.
     pub fn fail(&mut self, name: &str, fault: WorldFault) -> Result<(), AllocError>
         ensures fails { OnOk result (answer_of self.new name.now ≡ Err fault) }
-        ensures state { self.new.state ≡ self.old.state }
+        ensures state { store_in self.new ≡ store_in self.old }
     {
         self.put(name, Err(fault))
     }
 
     fn put(&mut self, name: &str, answer: Result<Vec<u8>, WorldFault>) -> Result<(), AllocError>
         ensures answer { OnOk result (answer_of self.new name.now ≡ bytes_or_fault answer) }
-        ensures state { self.new.state ≡ self.old.state }
+        ensures state { store_in self.new ≡ store_in self.old }
     {
         let name = String::from_str(self.alloc, name)?;
         self.entries.insert(0, (name, answer))?;

@@ -140,6 +140,30 @@ fn meets_faults_of_the_disk(rt: HostRuntime) -> Result<(), Fail> {
     Ok(())
 }
 
+/// A full device takes no signature: the index is used, and the next `sign` has another.
+#[test]
+fn meets_a_full_device(rt: HostRuntime) -> Result<(), Fail> {
+    begin(&rt)?;
+    assert!(rt; says(&disk_end(&rt, &rt, &KEYGEN)?, 0, "capacity 32\n", ""));
+    let [program, command, s, state, r, random, m, message, o, _] = SIGN;
+    let to_full = [
+        program,
+        command,
+        s,
+        state,
+        r,
+        random,
+        m,
+        message,
+        o,
+        "/dev/full",
+    ];
+    assert!(rt; fails(&rt, &rt, &to_full, 6, "error: cannot write output\n")?);
+    assert!(rt; says(&disk_end(&rt, &rt, &SIGN)?, 0, "index 1\n", ""));
+    fs::remove_dir_all(&rt, "program_files")?;
+    Ok(())
+}
+
 /// In a folder that may not be changed, no state is stored. A privileged user may change it, which a first write shows.
 #[test]
 fn may_not_change_the_folder(rt: HostRuntime) -> Result<(), Fail> {

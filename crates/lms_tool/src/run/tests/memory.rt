@@ -54,7 +54,15 @@ fn makes_a_key(
     })
 }
 
-/// Asks twice for what changes nothing, and says whether it ended so at least once.
+/// Whether a command that changes nothing ended with this status, or as one that was refused memory.
+fn ends_or_is_refused(end: &Ended, status: u8) -> bool {
+    match (end.status, end.errors.as_str()) {
+        (5, "error: out of memory\n") | (6, "error: cannot write output\n") => true,
+        (ended, _) => ended == status,
+    }
+}
+
+/// Asks twice for what changes nothing, and says whether it ended so at least once, and else as one that was refused memory.
 fn ends_once(
     rt: &(impl Threads + AllocGlobal + Sync),
     words: &[&str],
@@ -63,7 +71,11 @@ fn ends_once(
 ) -> Result<bool, Fail> {
     let first = end_of(rt, words, world)?;
     let second = end_of(rt, words, world)?;
-    Ok(first.status == status || second.status == status)
+    Ok(
+        ends_or_is_refused(&first, status)
+            && ends_or_is_refused(&second, status)
+            && (first.status == status || second.status == status),
+    )
 }
 
 /// Whether the public key was written.

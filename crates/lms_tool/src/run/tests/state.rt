@@ -255,6 +255,22 @@ fn leaves_a_state_in_use(rt: HostRuntime) -> Result<(), Fail> {
     Ok(())
 }
 
+/// The lock is asked for before a state is read: where it is not got, a state that is none is in use, too.
+#[test]
+fn asks_for_the_lock_before_it_reads(rt: HostRuntime) -> Result<(), Fail> {
+    let texts: [Option<&[u8]>; 2] = [None, Some(b"HSSX00000000")];
+    for text in texts {
+        let mut world = keyed(rt.alloc(), &ONE, 5)?;
+        world.set_state(store_of(rt.alloc(), text)?);
+        world.use_elsewhere();
+        let described = end_of(&rt, &INFO, &mut world)?;
+        assert!(rt; fails_with(&described, 3, "error: state in use\n"));
+        let signed = end_of(&rt, &sign(RANDOM, "text"), &mut world)?;
+        assert!(rt; fails_with(&signed, 3, "error: state in use\n"));
+    }
+    Ok(())
+}
+
 /// Whether a state with this text is described and used by no command, with this line.
 fn is_refused(
     rt: &(impl Threads + AllocGlobal + Sync),
