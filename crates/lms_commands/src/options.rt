@@ -44,7 +44,7 @@ impl From<AllocError> for LevelsTextFault {
 }
 
 /// The levels of a text such as `10/8,5/4`, from the top: the height of each and its Winternitz width, with a comma
-/// between each two. `Bad` exactly where the text is no such list, `OutOfMemory` where memory ran out.
+/// between each two. `Bad` only where the text is no such list, `OutOfMemory` where memory ran out first.
 pub fn read_levels(alloc: Global, text: &str) -> Result<Vec<(LmsType, OtsType)>, LevelsTextFault>
     ensures levels { IfOk result (λ pairs. IsLevelsText text.now pairs.items) }
     ensures bad { IfErr result (λ fault. fault ≡ LevelsTextFault.Bad →
