@@ -175,6 +175,7 @@ fn three_desks<E: Tally, G: Tally, B: Tally>(
         reserved_at(rt, &shared, &mut desks, 1, 3),
         Some(Err(burnt))
     );
+    assert_eq!(rt; base_counter_stored_entries(rt, &shared), (0, 5, 2, 2));
     assert_eq!(rt;
         reserved_at(rt, &shared, &mut desks, 0, 5),
         Some(Ok((5, 5)))

@@ -145,19 +145,8 @@ fn meets_faults_of_the_disk(rt: HostRuntime) -> Result<(), Fail> {
 fn meets_a_full_device(rt: HostRuntime) -> Result<(), Fail> {
     begin(&rt)?;
     assert!(rt; says(&disk_end(&rt, &rt, &KEYGEN)?, 0, "capacity 32\n", ""));
-    let [program, command, s, state, r, random, m, message, o, _] = SIGN;
-    let to_full = [
-        program,
-        command,
-        s,
-        state,
-        r,
-        random,
-        m,
-        message,
-        o,
-        "/dev/full",
-    ];
+    let mut to_full = SIGN;
+    to_full[9] = "/dev/full";
     assert!(rt; fails(&rt, &rt, &to_full, 6, "error: cannot write output\n")?);
     assert!(rt; says(&disk_end(&rt, &rt, &SIGN)?, 0, "index 1\n", ""));
     fs::remove_dir_all(&rt, "program_files")?;
