@@ -12,7 +12,7 @@ use Rattle.lms_book.specs.declared.refusals.BookFault.TheVariants.{Exhausted, Ou
 use Rattle.lms_book.specs.Image.{image_of, HasImage}
 use Rattle.lms_book.specs.History.{Range, range_of, end, counter_of, leases, stored_of}
 use Rattle.lms_book.specs.Stops.{AtEachMoment}
-use Rattle.lms_book.specs.States.{BookState, LeaseState, IsSafe, IsKept}
+use Rattle.lms_book.specs.States.{BookState, LeaseState, IsOpenedFrom, IsSafe, IsKept}
 use Rattle.lms_book.specs.Books.{counter, capacity, Reserves}
 use Rattle.lms_book.specs.Reservations.{Follows, IsInOrder, ReservesInOrder}
 use Rattle.lms_book.proofs.Histories.{kept_given, kept_burnt}
@@ -57,13 +57,14 @@ order_stays {S} may_leave failures n old answer new top at counted k b order is 
         kept_in_order may_leave new old.key old.base _ _ (sym k) (sym b) (kept_burnt old.key old.base (counter old) (stored_of old.base old.history) n old.history new.history (may_leave old.store) (may_leave new.store) kept room history only)
 
 pub reserved_in_order : {S : Type 0} (may_leave : S → List ℕ → Type 0) (failures moment : S → ℕ) (left_since : S → ℕ → List ℕ → Type 0) (n : ℕ) (old : BookState S) (answer : Result LeaseState BookFault) (new : BookState S) (top : ℕ)
-    → top ≡ counter old → HasImage old.key top → IsInOrder may_leave old → new.key ≡ old.key → new.base ≡ old.base → Reserves may_leave failures n old answer new
+    → top ≡ counter old → HasImage old.key top → IsInOrder may_leave old → new.key ≡ old.key → new.base ≡ old.base → ((opened : S) → IsOpenedFrom may_leave opened old → IsOpenedFrom may_leave opened new) → Reserves may_leave failures n old answer new
     → AtEachMoment moment left_since old.store new.store (λ text. may_leave old.store text ⊎ (text ≡ image_of old.key (counter old + n)))
     → ReservesInOrder may_leave failures moment left_since n old answer new
-reserved_in_order may_leave failures moment left_since n old answer new top at counted order k b is moments = record {
+reserved_in_order may_leave failures moment left_since n old answer new top at counted order k b o is moments = record {
   found = order;
   key = k;
   base = b;
+  opened = o;
   reserves = is;
   moments = moments;
   left = order_stays may_leave failures n old answer new top at counted k b order is;

@@ -9,4 +9,5 @@ pub mod Images
 pub mod InOrder
 pub mod Known
 pub mod LevelTexts
+pub mod Openings
 pub mod Overlap

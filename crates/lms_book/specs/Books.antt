@@ -41,8 +41,8 @@ Reserves may_leave failures n old (Err (faults.Store start len)) new =
     × (failures new.store ≡ raised (failures old.store))
 
 -- why a store was not opened: it failed, or one of its texts has this fault, or memory was refused
-abbrev pub HasCause : {S : Type 0} → (S → List ℕ → Type 0) → (S → ℕ) → S → OpenFault → S → Type 0
-HasCause may_leave failures old open_faults.Store new = failures new ≡ raised (failures old)
-HasCause may_leave failures old (open_faults.Image fault) new =
+abbrev pub HasCause : {S : Type 0} → (S → List ℕ → Type 0) → (S → Type 0) → (S → ℕ) → S → OpenFault → S → Type 0
+HasCause may_leave may_fail failures old open_faults.Store new = may_fail old × (failures new ≡ raised (failures old))
+HasCause may_leave may_fail failures old (open_faults.Image fault) new =
     ((text : List ℕ) × may_leave old text × (fault_of text ≡ Some fault)) × (failures new ≡ failures old)
-HasCause may_leave failures old open_faults.OutOfMemory new = failures new ≡ failures old
+HasCause may_leave may_fail failures old open_faults.OutOfMemory new = failures new ≡ failures old

@@ -106,6 +106,10 @@ pub record CanRead (store : MemoryState) : Type 0 where
   pub unplanned : next_read store ≡ false
   pub text_held : ¬ (store.text ≡ None)
 
+-- the next read may fail: it will
+abbrev pub MayFail : MemoryState → Type 0
+MayFail store = ¬ CanRead store
+
 -- what a read answers and leaves
 abbrev pub Reads : MemoryState → Result (Vec ℕ) ReadFault → MemoryState → Type 0
 Reads old (Ok text) new = CanRead old × (old.text ≡ Some text.items) × (new ≡ past_read old)

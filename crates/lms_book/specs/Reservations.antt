@@ -6,7 +6,7 @@ use Rattle.lms_book.specs.declared.refusals.BookFault.{BookFault}
 use Rattle.lms_book.specs.Image.{image_of, HasImage}
 use Rattle.lms_book.specs.History.{Range, end, counter_of, leases, stored_of}
 use Rattle.lms_book.specs.Stops.{AtEachMoment}
-use Rattle.lms_book.specs.States.{BookState, LeaseState, IsSafe}
+use Rattle.lms_book.specs.States.{BookState, LeaseState, IsOpenedFrom, IsSafe}
 use Rattle.lms_book.specs.Books.{counter, capacity, Reserves}
 
 -- a key, the counter that was read, and the reservations since
@@ -35,12 +35,13 @@ pub record IsInOrder {S : Type 0} (may_leave : S → List ℕ → Type 0) (book 
   pub disjoint : AllPairs Follows (leases book.base book.history)
   pub safe : IsSafe book.key (leases book.base book.history) (may_leave book.store)
 
--- a reservation of n indices: the book is in order before and after, key and base stay, and a stop at any moment leaves what it could before or the next image
+-- a reservation of n indices: the book is in order before and after, key and base stay, its opening goes on, and a stop at any moment leaves what it could before or the next image
 pub record ReservesInOrder {S : Type 0} (may_leave : S → List ℕ → Type 0) (failures moment : S → ℕ) (left_since : S → ℕ → List ℕ → Type 0) (n : ℕ)
     (old : BookState S) (answer : Result LeaseState BookFault) (new : BookState S) : Type 0 where
   pub found : IsInOrder may_leave old
   pub key : new.key ≡ old.key
   pub base : new.base ≡ old.base
+  pub opened : (opened : S) → IsOpenedFrom may_leave opened old → IsOpenedFrom may_leave opened new
   pub reserves : Reserves may_leave failures n old answer new
   pub moments : AtEachMoment moment left_since old.store new.store (λ text. may_leave old.store text ⊎ (text ≡ image_of old.key (counter old + n)))
   pub left : IsInOrder may_leave new

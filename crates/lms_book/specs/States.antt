@@ -7,6 +7,7 @@ use Rattle.lms_hss.specs.declared.key.HssKey.{HssKey as KeyOfCode}
 use Rattle.lms_book.specs.declared.history.Entry.{Entry}
 use Rattle.lms_book.specs.Image.{HasImage, IsImageFrom}
 use Rattle.lms_book.specs.History.{Range, end, counter_of, leases, stored_of}
+use Rattle.lms_book.specs.Lives.{IsOpened, opening_of}
 
 -- a key, the counter that was read, the reservations since, and the store
 pub record BookState (S : Type 0) : Type 0 where
@@ -37,3 +38,7 @@ pub record IsKept (key : KeyOfCode) (base counter stored : ℕ) (history : List 
   pub stored_is : stored ≡ stored_of base history
   pub counted : HasImage key counter
   pub safe : IsSafe key (leases base history) may_leave
+
+-- what a book did since this store was opened is an opening of which the law of lives speaks, and leaves what its store may leave now
+abbrev pub IsOpenedFrom : {S : Type 0} → (S → List ℕ → Type 0) → S → BookState S → Type 0
+IsOpenedFrom may_leave opened book = IsOpened may_leave (opening_of opened book.key book.base book.history) book.store

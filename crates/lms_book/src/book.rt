@@ -77,6 +77,7 @@ pub struct Book<S: StateStore> {
 }
 
 impl<S: StateStore> Model for Book<S> {
+    ghost use Rattle.lms_book.specs.Lives.{IsOpened, opening_of};
     ghost use Rattle.lms_book.specs.States.{BookState, IsKept};
 
     ghost Value = { BookState S };
@@ -89,14 +90,15 @@ impl<S: StateStore> Model for Book<S> {
     } };
 
     ghost invariant = { λ book.
-        IsKept book.key book.base book.counter book.stored book.history.items (S.may_leave book.store) };
+        IsKept book.key book.base book.counter book.stored book.history.items (S.may_leave book.store)
+        × ((opened : S) × IsOpened S.may_leave (opening_of opened book.key book.base book.history.items) book.store) };
 }
 
 impl<S: StateStore> Book<S> {
     ghost use Rattle.lms_book.specs.History.{leases, range_of, stored_of};
     ghost use Rattle.lms_book.specs.Image.{image_of, HasImage};
     ghost use Rattle.lms_book.specs.Stops.{HasSameStops, AtEachMoment};
-    ghost use Rattle.lms_book.specs.States.{IsSafe};
+    ghost use Rattle.lms_book.specs.States.{IsOpenedFrom, IsSafe};
     ghost use Rattle.lms_book.specs.Books.{counter, Reserves, HasCause};
 
     /// Opens a store by the image that it holds, which it only reads: a stop at any moment leaves what it could leave
@@ -105,6 +107,7 @@ impl<S: StateStore> Book<S> {
     /// An `Err` hands the store back: `Store` where it failed, `Image` with the first fault of its text, `OutOfMemory`
     /// where memory for the text is refused.
     pub fn open(alloc: Global, store: S) -> Result<Self, (OpenFault, S)>
+        ensures opened { IfOk result (IsOpenedFrom S.may_leave store) }
         ensures fresh { IfOk result (λ book. book.history ≡ []) }
         ensures found { IfOk result (λ book. S.may_leave store (image_of book.key book.base)) }
         ensures counted { IfOk result (λ book. HasImage book.key book.base) }
@@ -112,7 +115,7 @@ impl<S: StateStore> Book<S> {
         ensures stops { IfOk result (λ book. HasSameStops (S.may_leave store) (S.may_leave book.store)) }
         ensures moments { IfOk result (λ book.
             AtEachMoment S.moment S.left_since store book.store (S.may_leave store)) }
-        ensures err { IfErr result (λ e. HasCause S.may_leave S.failures store e.0 e.1) }
+        ensures err { IfErr result (λ e. HasCause S.may_leave S.may_fail S.failures store e.0 e.1) }
         ensures err_stops { IfErr result (λ e. HasSameStops (S.may_leave store) (S.may_leave e.1)) }
         ensures err_moments { IfErr result (λ e. AtEachMoment S.moment S.left_since store e.1 (S.may_leave store)) }
     {
@@ -193,6 +196,7 @@ impl<S: StateStore> Book<S> {
         requires at_most { n ≤ 1024 }
         ensures key { self.new.key ≡ self.old.key }
         ensures base { self.new.base ≡ self.old.base }
+        ensures opened { (opened : S) → IsOpenedFrom S.may_leave opened self.old → IsOpenedFrom S.may_leave opened self.new }
         ensures reserves { Reserves S.may_leave S.failures n self.old result self.new }
         ensures moments { AtEachMoment S.moment S.left_since self.old.store self.new.store
             (λ left. S.may_leave self.old.store left ⊎ (left ≡ image_of self.old.key (counter self.old + n))) }
@@ -235,9 +239,12 @@ impl<S: StateStore> Book<S> {
         lease.end()
     }
 
-    /// Ends the book, and hands the store back as it is: a stop at any moment leaves what it could leave before.
+    /// Ends the book, and hands the store back as it is: a stop at any moment leaves what it could leave before. What the
+    /// book did is an opening of which the law `leases_never_overlap` speaks; that it is one of the store that was opened,
+    /// `open` and `reserve` say.
     pub fn close(self) -> S
         ensures store { result ≡ self.store }
+        ensures opening { (opened : S) × IsOpenedFrom S.may_leave opened self }
         ensures moments { AtEachMoment S.moment S.left_since self.store result (S.may_leave self.store) }
     {
         let Book {

@@ -179,9 +179,9 @@ impl MemoryStore {
 }
 
 impl StateStore for MemoryStore {
-    ghost use Rattle.std.specs.Prelude.{◌⊎◌, List, ℕ};
+    ghost use Rattle.std.specs.Prelude.{◌⊎◌, IfErr, List, ℕ};
     ghost use Rattle.std.proofs.Common.{inl};
-    ghost use Rattle.lms_book.specs.Memory.{Holds, writes_made, HeldSince, only_text, Reads, Replaces};
+    ghost use Rattle.lms_book.specs.Memory.{Holds, MayFail, writes_made, HeldSince, only_text, Reads, Replaces};
     ghost use Rattle.lms_book.specs.Stops.{HasSameStops, IsOnlyStop, AtEachMoment, raised, CountsRead};
 
     ghost may_leave = { Holds };
@@ -191,6 +191,8 @@ impl StateStore for MemoryStore {
     ghost left_since = { HeldSince };
 
     ghost failures = { λ store. store.failures };
+
+    ghost may_fail = { MayFail };
 
     ghost counts_now = { λ store since left le now. inl now };
 
@@ -202,6 +204,7 @@ impl StateStore for MemoryStore {
         ensures stops { HasSameStops (Holds self.old) (Holds self.new) }
         ensures moments { AtEachMoment writes_made HeldSince self.old self.new (Holds self.old) }
         ensures failures { CountsRead self.old.failures self.new.failures result }
+        ensures cause { IfErr result (λ fault. fault ≡ ReadFault.Device → MayFail self.old) }
         ensures planned { Reads self.old result self.new }
     {
         let fails = self.next_read();

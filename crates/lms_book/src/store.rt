@@ -1,5 +1,5 @@
 //! A store that keeps one text, and replaces it whole.
-ghost use Rattle.std.specs.Prelude.{◌≡◌, ◌⊎◌, ◌≤◌, List, ℕ, IfOk, OnOk, OnErr};
+ghost use Rattle.std.specs.Prelude.{◌≡◌, ◌⊎◌, ◌≤◌, List, ℕ, IfErr, IfOk, OnOk, OnErr};
 ghost use Rattle.lms_book.specs.Stops.{HasSameStops, IsOnlyStop, AtEachMoment, raised, CountsRead};
 
 use std::alloc::Global;
@@ -36,6 +36,9 @@ pub trait StateStore: Send {
     /// How many calls failed, up to 2^64 - 1.
     ghost failures: { Self → ℕ };
 
+    /// The device may fail at the next read.
+    ghost may_fail: { Self → Type 0 };
+
     /// The text, one of those that a stop now could leave. `Device` where the store failed, and counted it;
     /// `OutOfMemory` where memory for the text is refused, which counts nothing. A stop at any moment of the call
     /// leaves what it could leave before it.
@@ -43,7 +46,8 @@ pub trait StateStore: Send {
         ensures text { IfOk result (λ text. may_leave self.old text.items) }
         ensures stops { HasSameStops (may_leave self.old) (may_leave self.new) }
         ensures moments { AtEachMoment moment left_since self.old self.new (may_leave self.old) }
-        ensures failures { CountsRead (failures self.old) (failures self.new) result };
+        ensures failures { CountsRead (failures self.old) (failures self.new) result }
+        ensures cause { IfErr result (λ fault. fault ≡ ReadFault.Device → may_fail self.old) };
 
     /// Puts this text in the place of the one before: from then on a stop leaves it alone. On `Err` the store failed,
     /// and counted it, and a stop leaves this text or what it could leave before the call, as it does at each moment

@@ -15,7 +15,7 @@ mod lives;
 const LEVELS: [(LmsType, OtsType); 1] = [(LmsType::H5, OtsType::W8)];
 
 /// How many writes a store of the tests has room for.
-const ROOM: usize = 40;
+const ROOM: usize = 1024;
 
 fn key_of(levels: &[(LmsType, OtsType)], seed: u8) -> Result<HssKey, Fail> {
     let levels = Levels::new(levels)
@@ -45,6 +45,11 @@ fn store_at(alloc: Global, key: HssKey, counter: u64) -> Result<MemoryStore, Fai
 /// A store that holds the image of 5/8 and this counter.
 pub(crate) fn small_store(alloc: Global, counter: u64) -> Result<MemoryStore, Fail> {
     store_at(alloc, key_of(&LEVELS, 0x11)?, counter)
+}
+
+/// A store that holds the image of an unused key of 10/8.
+pub(crate) fn tall_store(alloc: Global) -> Result<MemoryStore, Fail> {
+    store_at(alloc, key_of(&[(LmsType::H10, OtsType::W8)], 0x11)?, 0)
 }
 
 pub(crate) fn opened(alloc: Global, store: MemoryStore) -> Result<Book<MemoryStore>, Fail>
@@ -111,6 +116,20 @@ fn ranges_follow_each_other(rt: HostRuntime) -> Result<(), Fail> {
         counter: 32.min(key.capacity()),
     });
     assert_eq!(rt; book.close().text(), Some(last.as_slice()));
+    Ok(())
+}
+
+/// As many leases as a store of the tests has room for.
+#[test]
+fn gives_leases_of_each_length(rt: HostRuntime) -> Result<(), Fail> {
+    let key = key_of(&[(LmsType::H10, OtsType::W8); 2], 0x11)?;
+    let mut book = opened(rt.alloc(), store_at(rt.alloc(), key, 0)?)?;
+    for n in 1..1025 {
+        let start = book.counter();
+        assert_eq!(rt; reserved(&mut book, n), Ok((start, n)));
+    }
+    assert_eq!(rt; numbers(&book), (0, 524800, 524800));
+    assert_eq!(rt; book.history().len(), 1024);
     Ok(())
 }
 

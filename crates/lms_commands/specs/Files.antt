@@ -2,7 +2,7 @@
 use Rattle.std.specs.Prelude.{ℕ, ◌≡◌, ◌⊎◌, List, Bool, true, Option, Some, None, Result, Ok, Err, String, find, string_bytes}
 use Rattle.std.specs.Global.{Global, Vec}
 use Rattle.std.specs.Str.{bytes_eq}
-use Rattle.lms_book.specs.Memory.{MemoryState}
+use Rattle.lms_book.specs.Memory.{MayFail, MemoryState}
 use Rattle.lms_commands.specs.Known.{Known}
 use Rattle.lms_commands.specs.declared.world.WorldFault.{WorldFault}
 use Rattle.lms_commands.specs.declared.world.WorldFault.TheVariants.{Device, OutOfMemory}
@@ -37,6 +37,11 @@ abbrev pub state_text : Option MemoryState → Option (List ℕ)
 state_text None = None
 state_text (Some store) = store.text
 
+-- a read of a state may fail: with no store it does
+abbrev pub MayFailToRead : Option MemoryState → Type 0
+MayFailToRead None = Unit {0}
+MayFailToRead (Some store) = MayFail store
+
 -- the store that keeps the state, where there is one
 abbrev pub store_in : MemoryWorld → Option MemoryState
 store_in world = world.state
@@ -60,4 +65,8 @@ known_in_memory world = record {
   refuses = MayRefuse world;
   keeps = λ _ text. state_text (store_in world) ≡ Some text;
   lacks = λ _. state_text (store_in world) ≡ None;
+  holds = λ _ text. state_text (store_in world) ≡ Some text;
+  fails = λ _. MayFailToRead (store_in world);
+  in_use = λ _. is_used_elsewhere world ≡ true;
+  may_be = λ name text is. is;
 }

@@ -1,18 +1,18 @@
 -- What `keygen` does, and where it fails.
-use Rattle.std.specs.Prelude.{ℕ, ◌≡◌, List, length, Ok, Err, Option, codes}
+use Rattle.std.specs.Prelude.{ℕ, ◌≡◌, ◌⊎◌, List, length, Ok, Err, Option, codes}
 use Rattle.std.specs.Io.KnownBytes.{Appends}
 use Rattle.hex.specs.Hex.{decode_of}
 use Rattle.lms_params.specs.declared.lms_type.LmsType.{LmsType}
 use Rattle.lms_params.specs.declared.ots_type.OtsType.{OtsType}
 use Rattle.lms_spec.specs.Hss.{capacity_of, hss_public_key}
 use Rattle.lms_hss.specs.Keys.{hss_key_of}
-use Rattle.lms_hss.specs.Levels.{Judges}
+use Rattle.lms_hss.specs.Levels.{IsAdmitted, Judges}
 use Rattle.lms_hss.specs.declared.key.HssKey.{HssKey as KeyOfCode}
 use Rattle.lms_hss.specs.declared.levels.KeyFault.{KeyFault}
 use Rattle.lms_hss.specs.declared.levels.KeyFault.TheVariants as refused
 use Rattle.lms_book.specs.Image.{image_of}
 use Rattle.lms_commands.specs.Descriptions.{number_line}
-use Rattle.lms_commands.specs.Known.{Exists, Known, Stays, Text}
+use Rattle.lms_commands.specs.Known.{Exists, IsOldOr, IsPrintedLast, Known, Stays, Text}
 use Rattle.lms_commands.specs.Options.{IsLevelsText}
 use Rattle.lms_commands.specs.declared.fault.Fault.{Fault}
 use Rattle.lms_commands.specs.declared.fault.Fault.TheVariants.{BadLevels, TooManyLevels, HeightNotSigned, TooTall, BadSeed, BadId, StateExists, StateInUse, WriteState, OutOfMemory, Output}
@@ -21,11 +21,18 @@ use Rattle.lms_commands.specs.declared.fault.Fault.TheVariants.{BadLevels, TooMa
 abbrev pub IsHexOf : ℕ → Text → Type 0
 IsHexOf n text = (bytes : List ℕ) × (length bytes ≡ n) × (decode_of text ≡ Ok bytes)
 
--- the texts are those of a key's levels, seed and identifier
+-- the signer takes the key's levels, its seed has 32 bytes and its identifier 16
+pub record IsTaken (key : KeyOfCode) : Type 0 where
+  pub admitted : IsAdmitted key.levels
+  pub seed_length : length key.seed ≡ 32
+  pub id_length : length key.i ≡ 16
+
+-- the texts are those of a key's levels, seed and identifier, and the signer takes the key
 pub record IsKeyOf (levels seed id : Text) (key : KeyOfCode) : Type 0 where
   pub levels_are : IsLevelsText levels key.levels
   pub seed_is : decode_of seed ≡ Ok key.seed
   pub id_is : decode_of id ≡ Ok key.i
+  pub taken : IsTaken key
 
 -- the text is that of levels which are refused so
 abbrev pub AreRefused : Text → KeyFault → Type 0
@@ -35,7 +42,7 @@ AreRefused text fault = (levels : List (LmsType × OtsType)) × IsLevelsText tex
 abbrev pub AreTaken : Text → Type 0
 AreTaken text = (levels : List (LmsType × OtsType)) × IsLevelsText text levels × Judges levels (Ok levels)
 
--- why the texts are those of no key: the first of them that is bad
+-- why the texts are those of no key: the first of them that is bad; memory may run out while the levels are read
 abbrev pub IsNoKey : Text → Text → Text → Fault → Type 0
 IsNoKey levels seed id BadLevels = (pairs : List (LmsType × OtsType)) → ¬ IsLevelsText levels pairs
 IsNoKey levels seed id TooManyLevels = AreRefused levels refused.TooManyLevels
@@ -53,17 +60,23 @@ pub record MakesKey (old new : Known) (key : KeyOfCode) (state public : Text) (b
   pub published : new.gives public (hss_public_key (hss_key_of key))
   pub printed : Appends before after (number_line (codes "capacity") (capacity_of (hss_key_of key)))
 
--- why a new key's state was not stored
-abbrev pub FailsToStore : Known → Known → Text → Fault → Type 0
-FailsToStore old new state OutOfMemory = Stays old new state
-FailsToStore old new state WriteState = Unit {0}
-FailsToStore old new state _ = ⊥
+-- why a new key's state was not stored; where the write failed, the state is what it was, or that of the key with no index used
+abbrev pub FailsToStore : Known → Known → KeyOfCode → Text → Fault → Type 0
+FailsToStore old new key state OutOfMemory = Stays old new state
+FailsToStore old new key state WriteState = IsOldOr (image_of key 0) old new state
+FailsToStore old new key state _ = ⊥
 
--- why no key was made; where only the output failed, the key's state stands
-abbrev pub FailsToMakeKey : Known → Known → KeyOfCode → Text → Fault → Type 0
-FailsToMakeKey old new key state StateInUse = Stays old new state
-FailsToMakeKey old new key state StateExists = Exists old state × Stays old new state
-FailsToMakeKey old new key state OutOfMemory = Stays old new state
-FailsToMakeKey old new key state WriteState = old.lacks state
-FailsToMakeKey old new key state Output = old.lacks state × new.keeps state (image_of key 0)
-FailsToMakeKey old new key state _ = ⊥
+-- there was no state, and now there is that of this key with no index used
+abbrev pub IsNewKey : Known → Known → KeyOfCode → Text → Type 0
+IsNewKey old new key state = old.lacks state × new.keeps state (image_of key 0)
+
+-- why no key was made, in the order in which it is found; memory may run out before the state is stored, and while the public key is
+-- written. Where the output failed, nothing is printed before the file has the public key.
+abbrev pub FailsToMakeKey : Known → Known → KeyOfCode → Text → Text → Option (List ℕ) → Option (List ℕ) → Fault → Type 0
+FailsToMakeKey old new key state public before after StateInUse = old.in_use state × Stays old new state
+FailsToMakeKey old new key state public before after StateExists = Exists old state × Stays old new state
+FailsToMakeKey old new key state public before after OutOfMemory = Stays old new state ⊎ IsNewKey old new key state
+FailsToMakeKey old new key state public before after WriteState = old.lacks state × IsOldOr (image_of key 0) old new state
+FailsToMakeKey old new key state public before after Output =
+    IsNewKey old new key state × IsPrintedLast new public (hss_public_key (hss_key_of key)) before after
+FailsToMakeKey old new key state public before after _ = ⊥

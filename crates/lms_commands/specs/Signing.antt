@@ -1,5 +1,5 @@
 -- What `info` and `sign` do with a key's state, and where they fail.
-use Rattle.std.specs.Prelude.{ℕ, ◌≡◌, ◌+◌, ◌-◌, ◌<◌, ◌≤◌, List, ◌++◌, [], ◌∷◌, length, Ok, Err, Some, Option, codes}
+use Rattle.std.specs.Prelude.{ℕ, ◌≡◌, ◌⊎◌, ◌+◌, ◌-◌, ◌<◌, ◌≤◌, List, ◌++◌, [], ◌∷◌, length, Ok, Err, Some, Option, codes}
 use Rattle.std.specs.Io.KnownBytes.{Appends}
 use Rattle.hex.specs.Hex.{decode_of}
 use Rattle.lms_spec.specs.Hss.{capacity_of, hss_public_key, hss_signature, HssAccepts}
@@ -12,7 +12,7 @@ use Rattle.lms_book.specs.Stops.{IsOnlyStop}
 use Rattle.lms_book.specs.declared.history.Entry.TheVariants.{Given as Gave}
 use Rattle.lms_commands.specs.Descriptions.{info_text, number_line}
 use Rattle.lms_commands.specs.Keygen.{IsHexOf}
-use Rattle.lms_commands.specs.Known.{Given, Known, Stays, Text}
+use Rattle.lms_commands.specs.Known.{Given, IsOldOr, IsPrintedLast, Known, Stays, Text}
 use Rattle.lms_commands.specs.declared.fault.Fault.{Fault}
 use Rattle.lms_commands.specs.declared.fault.Fault.TheVariants.{BadRandom, StateInUse, ReadState, BadState, WriteStateBurnt, Exhausted, OutOfMemory, OutOfMemoryBurnt, Input, Output}
 use Rattle.lms_commands.specs.declared.signing.SignFault.{SignFault}
@@ -53,22 +53,30 @@ abbrev pub IsBadState : Known → Text → Fault → Type 0
 IsBadState at state (BadState fault) = (text : List ℕ) × at.keeps state text × (fault_of text ≡ Some fault)
 IsBadState at state _ = ⊥
 
--- why a state was not opened
+-- why a state was not opened; memory may run out at any state
 abbrev pub FailsToOpen : Known → Text → Fault → Type 0
-FailsToOpen at state ReadState = Unit {0}
+FailsToOpen at state ReadState = at.fails state
 FailsToOpen at state (BadState fault) = IsBadState at state (BadState fault)
 FailsToOpen at state OutOfMemory = Unit {0}
 FailsToOpen at state _ = ⊥
 
+-- the state counts all indices of its key as used
+abbrev pub IsUsedUp : Known → Text → ℕ → Type 0
+IsUsedUp at state left = (key : KeyOfCode) × (index : ℕ) × HasImage key index × (capacity_of (hss_key_of key) < index + 1)
+    × (left ≡ capacity_of (hss_key_of key) - index) × IsAt at state key index
+
+-- the state's next index could not be stored as used: the state is what it was, or counts that index
+abbrev pub IsBurnt : Known → Known → Text → ℕ → Type 0
+IsBurnt old new state index = (key : KeyOfCode) × HasImage key index × (index < capacity_of (hss_key_of key)) × IsAt old state key index
+    × IsOldOr (image_of key (index + 1)) old new state
+
 -- why nothing was signed, and which indices are used
 abbrev pub FailsToSignNext : Known → Known → Text → Fault → Type 0
-FailsToSignNext old new state ReadState = Stays old new state
+FailsToSignNext old new state ReadState = old.fails state × Stays old new state
 FailsToSignNext old new state (BadState fault) = IsBadState old state (BadState fault) × Stays old new state
 FailsToSignNext old new state OutOfMemory = Stays old new state
-FailsToSignNext old new state (Exhausted left) =
-    (key : KeyOfCode) × (index : ℕ) × (capacity_of (hss_key_of key) < index + 1) × (left ≡ capacity_of (hss_key_of key) - index)
-    × IsAt old state key index × Stays old new state
-FailsToSignNext old new state (WriteStateBurnt start len) = (key : KeyOfCode) × (start < capacity_of (hss_key_of key)) × IsAt old state key start × (len ≡ 1)
+FailsToSignNext old new state (Exhausted left) = IsUsedUp old state left × Stays old new state
+FailsToSignNext old new state (WriteStateBurnt start len) = IsBurnt old new state start × (len ≡ 1)
 FailsToSignNext old new state (OutOfMemoryBurnt count) =
     (key : KeyOfCode) × (index : ℕ) × UsesIndex old new state key index × (count ≡ 1)
 FailsToSignNext old new state _ = ⊥
@@ -81,11 +89,11 @@ pub record Describes (at : Known) (state : Text) (before after : Option (List �
   pub opened : IsAt at state key used
   pub printed : Appends before after (info_text key used)
 
--- why no key was described
+-- why no key was described; memory may run out at any state
 abbrev pub FailsToDescribe : Known → Text → Fault → Type 0
-FailsToDescribe at state StateInUse = Unit {0}
-FailsToDescribe at state Output = (key : KeyOfCode) × (used : ℕ) × IsAt at state key used
-FailsToDescribe at state ReadState = Unit {0}
+FailsToDescribe at state StateInUse = at.in_use state
+FailsToDescribe at state Output = (key : KeyOfCode) × (used : ℕ) × HasImage key used × IsAt at state key used
+FailsToDescribe at state ReadState = at.fails state
 FailsToDescribe at state (BadState fault) = IsBadState at state (BadState fault)
 FailsToDescribe at state OutOfMemory = Unit {0}
 FailsToDescribe at state _ = ⊥
@@ -103,12 +111,30 @@ pub record SignsFile (old new : Known) (state random message out : Text) (before
   pub signature_given : new.gives out signature
   pub printed : Appends before after (number_line (codes "index") index)
 
+-- a message was signed with the next index of the state's key, and the signature not written, or the index not printed: nothing is
+-- printed before the file has the signature
+pub record SignsInVain (old new : Known) (state random message out : Text) (before after : Option (List ℕ)) : Type 0 where
+  pub randomizer : List ℕ
+  pub text : List ℕ
+  pub signature : List ℕ
+  pub index : ℕ
+  pub randomizer_read : (length randomizer ≡ 32) × (decode_of random ≡ Ok randomizer)
+  pub text_given : old.gives message text
+  pub signed : SignsNext old new state randomizer text signature index
+  pub printed_last : IsPrintedLast new out signature before after
+
+-- memory ran out before an index was reserved: for the message, or once it was read
+abbrev pub LacksMemory : Known → Known → Text → Text → Type 0
+LacksMemory old new state message = (old.refuses message world.OutOfMemory ⊎ Given old message) × Stays old new state
+
 -- why no message was signed, in the order in which it is found; where only the output failed, an index is used
-abbrev pub FailsToSign : Known → Known → Text → Text → Text → Fault → Type 0
-FailsToSign old new state random message BadRandom = (¬ IsHexOf 32 random) × Stays old new state
-FailsToSign old new state random message Input = IsHexOf 32 random × old.refuses message world.Device × Stays old new state
-FailsToSign old new state random message StateInUse = IsHexOf 32 random × Given old message × Stays old new state
-FailsToSign old new state random message Output =
-    IsHexOf 32 random × Given old message × ((key : KeyOfCode) × (index : ℕ) × UsesIndex old new state key index)
-FailsToSign old new state random message OutOfMemory = Stays old new state
-FailsToSign old new state random message fault = IsHexOf 32 random × Given old message × FailsToSignNext old new state fault
+abbrev pub FailsToSign : Known → Known → Text → Text → Text → Text → Option (List ℕ) → Option (List ℕ) → Fault → Type 0
+FailsToSign old new state random message out before after BadRandom = (¬ IsHexOf 32 random) × Stays old new state
+FailsToSign old new state random message out before after Input =
+    IsHexOf 32 random × old.refuses message world.Device × Stays old new state
+FailsToSign old new state random message out before after StateInUse =
+    IsHexOf 32 random × Given old message × old.in_use state × Stays old new state
+FailsToSign old new state random message out before after OutOfMemory = IsHexOf 32 random × LacksMemory old new state message
+FailsToSign old new state random message out before after Output = SignsInVain old new state random message out before after
+FailsToSign old new state random message out before after fault =
+    IsHexOf 32 random × Given old message × FailsToSignNext old new state fault

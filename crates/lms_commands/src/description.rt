@@ -6,6 +6,7 @@ ghost use Rattle.lms_hss.specs.Keys.{hss_key_of};
 ghost use Rattle.lms_commands.specs.Descriptions.{info_text, number_line};
 ghost use Rattle.lms_commands.specs.Options.{levels_text, pair_text};
 
+use crate::line::print_line;
 use lms_hss::HssKey;
 use lms_params::{LmsType, OtsType};
 use std::io::Write;
@@ -54,11 +55,10 @@ pub(crate) fn print_info<O: Write>(output: &mut O, key: HssKey, counter: u64) ->
     let levels = LevelsText(key.levels.as_slice());
     let capacity = key.capacity();
     let left = capacity - counter;
-    writeln!(
-        output,
-        "levels {levels}\ncounter {counter}\ncapacity {capacity}\nleft {left}"
-    )?;
-    output.flush()
+    print_line(output, format_args!("levels {levels}"))?;
+    print_line(output, format_args!("counter {counter}"))?;
+    print_capacity(output, capacity)?;
+    print_line(output, format_args!("left {left}"))
 }
 
 /// Prints a line on how many messages a key can sign.
@@ -68,8 +68,7 @@ pub(crate) fn print_capacity<O: Write>(output: &mut O, capacity: u64) -> io::Res
     ensures { OnOk result (Appends (O.contents output.old) (O.contents output.new)
         (number_line (codes "capacity") capacity)) }
 {
-    writeln!(output, "capacity {capacity}")?;
-    output.flush()
+    print_line(output, format_args!("capacity {capacity}"))
 }
 
 /// Prints a line on the index that a message was signed with.
@@ -79,8 +78,7 @@ pub(crate) fn print_index<O: Write>(output: &mut O, index: u64) -> io::Result<()
     ensures { OnOk result (Appends (O.contents output.old) (O.contents output.new)
         (number_line (codes "index") index)) }
 {
-    writeln!(output, "index {index}")?;
-    output.flush()
+    print_line(output, format_args!("index {index}"))
 }
 
 #[cfg(test)]

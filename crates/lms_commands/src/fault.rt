@@ -3,6 +3,7 @@ ghost use Rattle.std.specs.Prelude.{◌≡◌, OnOk, Some};
 ghost use Rattle.std.specs.Io.KnownBytes.{Appends};
 ghost use Rattle.lms_commands.specs.Faults.{fault_line, of_book, of_key, of_opening, of_text, status_of, text_of};
 
+use crate::line::print_line;
 use crate::options::LevelsTextFault;
 use crate::status::Status;
 use lms_book::{BookFault, ImageFault, OpenFault};
@@ -174,6 +175,5 @@ impl From<BookFault> for Fault {
 pub fn print_fault<W: Write>(errors: &mut W, fault: Fault) -> io::Result<()>
     ensures { OnOk result (Appends (W.contents errors.old) (W.contents errors.new) (fault_line fault)) }
 {
-    writeln!(errors, "error: {fault}")?;
-    errors.flush()
+    print_line(errors, format_args!("error: {fault}"))
 }

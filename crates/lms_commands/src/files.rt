@@ -1,7 +1,7 @@
 //! What every command does with files and states.
 ghost use Rattle.std.specs.Prelude.{[], ◌≡◌, ◌⊎◌, ◌↔◌, ℕ, List, IfErr, IfOk, OnOk};
 ghost use Rattle.lms_book.specs.Image.{image_of, HasImage};
-ghost use Rattle.lms_commands.specs.Known.{Stays};
+ghost use Rattle.lms_commands.specs.Known.{SameFiles, SameFilesBut, Stays};
 ghost use Rattle.lms_commands.specs.Signing.{FailsToOpen};
 ghost use Rattle.lms_commands.specs.Verifying.{RefusedAt};
 
@@ -24,18 +24,25 @@ pub(crate) fn read_file<W: World>(alloc: Global, world: &W, name: &str) -> Resul
     }
 }
 
-/// Makes these the bytes of a file. `Output` where it can't be written, or memory for that was refused.
+/// Makes these the bytes of a file, and changes no other. `Output` where it can't be written, `OutOfMemory` where memory for
+/// that was refused.
 pub(crate) fn write_file<W: World>(world: &mut W, name: &str, bytes: &[u8]) -> Result<(), Fault>
     ensures given { OnOk result ((W.known world.new).gives name.now bytes.now) }
-    ensures failed { IfErr result (λ fault. fault ≡ Fault.Output) }
+    ensures failed { IfErr result (λ fault. (fault ≡ Fault.Output) ⊎ (fault ≡ Fault.OutOfMemory)) }
+    ensures others { SameFilesBut name.now (W.known world.old) (W.known world.new) }
     ensures states { (state : List ℕ) → Stays (W.known world.old) (W.known world.new) state }
 {
-    world.write(name, bytes).map_err(|_| Fault::Output)
+    match world.write(name, bytes) {
+        Ok(()) => Ok(()),
+        Err(WorldFault::Device) => Err(Fault::Output),
+        Err(WorldFault::OutOfMemory) => Err(Fault::OutOfMemory),
+    }
 }
 
 /// The lock of a state. `StateInUse` where it is not got, `OutOfMemory` where memory for its name was refused.
 pub(crate) fn lock_state<W: World>(alloc: Global, world: &W, state: &str) -> Result<W::Lock, Fault>
-    ensures { IfErr result (λ fault. (fault ≡ Fault.StateInUse) ⊎ (fault ≡ Fault.OutOfMemory)) }
+    ensures { IfErr result (λ fault.
+        ((fault ≡ Fault.StateInUse) × (W.known world.now).in_use state.now) ⊎ (fault ≡ Fault.OutOfMemory)) }
 {
     match world.lock(alloc, state) {
         Ok(Some(lock)) => Ok(lock),
@@ -58,6 +65,7 @@ pub(crate) fn open_state<W: World>(
         → W.Store.may_leave book.store text ↔ (W.known world.old).keeps state.now text) }
     ensures failed { IfErr result (FailsToOpen (W.known world.old) state.now) }
     ensures stays { IfErr result (λ _. Stays (W.known world.old) (W.known world.new) state.now) }
+    ensures files { SameFiles (W.known world.old) (W.known world.new) }
 {
     let store = world.take_store(alloc, state)?;
     match Book::open(alloc, store) {

@@ -1,7 +1,7 @@
 //! `info`: what a key's state says.
 ghost use Rattle.std.specs.Prelude.{◌≡◌, ◌≢◌, IfErr, IfOk, OnOk};
 ghost use Rattle.lms_book.specs.Image.{image_of, HasImage};
-ghost use Rattle.lms_commands.specs.Known.{Stays};
+ghost use Rattle.lms_commands.specs.Known.{SameFiles, Stays};
 ghost use Rattle.lms_commands.specs.Signing.{Describes, FailsToDescribe, FailsToOpen};
 
 use crate::description::print_info;
@@ -25,6 +25,7 @@ pub fn describe<W: World, O: Write>(
         (O.contents output.old) (O.contents output.new)) }
     ensures failed { IfErr result (FailsToDescribe (W.known world.old) state.now) }
     ensures stays { Stays (W.known world.old) (W.known world.new) state.now }
+    ensures files { SameFiles (W.known world.old) (W.known world.new) }
     ensures silent { IfErr result (λ fault. fault ≢ Fault.Output → output.new ≡ output.old) }
 {
     let _lock = lock_state(alloc, world, state)?;
@@ -36,6 +37,7 @@ pub fn describe<W: World, O: Write>(
 fn read_state<W: World>(alloc: Global, world: &mut W, state: &str) -> Result<Image, Fault>
     ensures opened { IfOk result (λ image. (W.known world.old).keeps state.now (image_of image.key image.counter)) }
     ensures stays { Stays (W.known world.old) (W.known world.new) state.now }
+    ensures files { SameFiles (W.known world.old) (W.known world.new) }
     ensures counted { IfOk result (λ image. HasImage image.key image.counter) }
     ensures failed { IfErr result (FailsToOpen (W.known world.old) state.now) }
 {

@@ -1,14 +1,18 @@
 //! `keygen`: a new key's state, and its public key.
-ghost use Rattle.std.specs.Prelude.{◌≡◌, ◌≢◌, IfErr, IfOk, OnOk};
+ghost use Rattle.std.specs.Prelude.{◌≡◌, ◌≢◌, ◌⊎◌, ℕ, List, IfErr, IfOk, OnErr, OnOk, codes};
+ghost use Rattle.std.specs.Io.KnownBytes.{Appends};
 ghost use Rattle.lms_book.specs.Image.{image_of};
-ghost use Rattle.lms_commands.specs.Keygen.{FailsToMakeKey, FailsToStore, IsKeyOf, IsNoKey, MakesKey};
+ghost use Rattle.lms_book.specs.Stops.{AtEachMoment, IsOnlyStop};
+ghost use Rattle.lms_commands.specs.Keygen.{FailsToMakeKey, FailsToStore, IsKeyOf, IsNoKey, IsTaken, MakesKey};
+ghost use Rattle.lms_commands.specs.Descriptions.{number_line};
+ghost use Rattle.lms_commands.specs.Known.{IsPrintedLast, SameFiles, SameFilesBut, Stays};
 
 use crate::description::print_capacity;
 use crate::fault::Fault;
 use crate::files::{lock_state, write_file};
 use crate::options::{read_bytes, read_levels};
 use crate::world::World;
-use lms_book::{Image, StateStore, encode_image};
+use lms_book::{Image, StateStore, StoreFault, encode_image};
 use lms_hss::{HssKey, Levels};
 use std::alloc::Global;
 use std::io::Write;
@@ -26,14 +30,26 @@ pub fn key_from(alloc: Global, levels: &str, seed: &str, id: &str) -> Result<Hss
     let levels = Levels::new(&pairs)?;
     let seed = read_bytes(seed).ok_or(Fault::BadSeed)?;
     let id = read_bytes(id).ok_or(Fault::BadId)?;
-    Ok(HssKey::new(levels, seed, id))
+    Ok(key_of(levels, seed, id))
+}
+
+/// The key of these levels, seed and identifier.
+fn key_of(levels: Levels, seed: [u8; 32], id: [u8; 16]) -> HssKey
+    ensures levels { result.levels ≡ levels }
+    ensures seed { result.seed ≡ seed }
+    ensures id { result.i ≡ id }
+    ensures taken { IsTaken result }
+{
+    // Its clause says that the signer takes the levels.
+    let _sets = levels.as_slice();
+    HssKey::new(levels, seed, id)
 }
 
 /// Stores the state of a new key with no index used, writes its public key to a file and prints its capacity.
 ///
 /// In this order: `StateInUse` where the state's lock is not got, `StateExists` where the state is there, `OutOfMemory`,
-/// `WriteState` where the state was not stored for certain, `Output` where the public key can't be written, or the
-/// capacity not printed.
+/// `WriteState` where the state was not stored for certain, `Output` where the public key can't be written, or
+/// `OutOfMemory` where memory for that was refused, and `Output` where the capacity can't be printed.
 pub fn make_key<W: World, O: Write>(
     rt: &(impl Threads + Sync),
     alloc: Global,
@@ -47,8 +63,10 @@ pub fn make_key<W: World, O: Write>(
         (W.known world.new) key state.now public.now
         (O.contents output.old) (O.contents output.new)) }
     ensures failed { IfErr result (FailsToMakeKey (W.known world.old)
-        (W.known world.new) key state.now) }
+        (W.known world.new) key state.now public.now
+        (O.contents output.old) (O.contents output.new)) }
     ensures silent { IfErr result (λ fault. fault ≢ Fault.Output → output.new ≡ output.old) }
+    ensures files { SameFilesBut public.now (W.known world.old) (W.known world.new) }
 {
     let _lock = lock_state(alloc, world, state)?;
     if world.exists(state) {
@@ -56,18 +74,54 @@ pub fn make_key<W: World, O: Write>(
     }
     let public_key = key.public_key(rt, alloc)?;
     store_key(alloc, world, key, state)?;
-    write_file(world, public, &public_key)?;
-    print_capacity(output, key.capacity()).map_err(|_| Fault::Output)
+    publish(world, public, &public_key, key.capacity(), output)
+}
+
+/// Writes a public key to a file, and then prints its capacity. `OutOfMemory` where memory for the file was refused,
+/// `Output` where it can't be written, or the capacity not printed.
+fn publish<W: World, O: Write>(
+    world: &mut W,
+    name: &str,
+    public_key: &[u8],
+    capacity: u64,
+    output: &mut O,
+) -> Result<(), Fault>
+    ensures given { OnOk result ((W.known world.new).gives name.now public_key.now) }
+    ensures printed { OnOk result (Appends (O.contents output.old) (O.contents output.new)
+        (number_line (codes "capacity") capacity)) }
+    ensures failed { IfErr result (λ fault. (fault ≡ Fault.OutOfMemory) ⊎ ((fault ≡ Fault.Output)
+        × IsPrintedLast (W.known world.new) name.now public_key.now (O.contents output.old) (O.contents output.new))) }
+    ensures silent { IfErr result (λ fault. fault ≢ Fault.Output → output.new ≡ output.old) }
+    ensures others { SameFilesBut name.now (W.known world.old) (W.known world.new) }
+    ensures states { (state : List ℕ) → Stays (W.known world.old) (W.known world.new) state }
+{
+    write_file(world, name, public_key)?;
+    match print_capacity(output, capacity) {
+        Ok(()) => Ok(()),
+        Err(_) => Err(Fault::Output),
+    }
 }
 
 /// Stores a key's state with no index used. `OutOfMemory`, or `WriteState` where it was not stored for certain.
 fn store_key<W: World>(alloc: Global, world: &mut W, key: HssKey, state: &str) -> Result<(), Fault>
     ensures stored { OnOk result ((W.known world.new).keeps state.now (image_of key 0)) }
-    ensures failed { IfErr result (FailsToStore (W.known world.old) (W.known world.new) state.now) }
+    ensures failed { IfErr result (FailsToStore (W.known world.old) (W.known world.new) key state.now) }
+    ensures files { SameFiles (W.known world.old) (W.known world.new) }
 {
     let mut store = world.take_store(alloc, state)?;
-    let image = encode_image(&Image { key, counter: 0 });
-    let stored = store.replace(image.as_slice());
+    let stored = store_unused(&mut store, key);
     world.put_back(state, store);
     stored.map_err(|_| Fault::WriteState)
+}
+
+/// Stores a key's image with no index used. A stop at any moment leaves what it could leave before, or that image.
+fn store_unused<S: StateStore>(store: &mut S, key: HssKey) -> Result<(), StoreFault>
+    ensures stored { OnOk result (IsOnlyStop (image_of key 0) (S.may_leave store.new)) }
+    ensures failed { OnErr result ((left : List ℕ)
+        → S.may_leave store.new left → S.may_leave store.old left ⊎ (left ≡ image_of key 0)) }
+    ensures moments { AtEachMoment S.moment S.left_since store.old store.new
+        (λ left. S.may_leave store.old left ⊎ (left ≡ image_of key 0)) }
+{
+    let image = encode_image(&Image { key, counter: 0 });
+    store.replace(image.as_slice())
 }

@@ -8,6 +8,7 @@ mod fault;
 mod files;
 mod info;
 mod keygen;
+mod line;
 mod options;
 mod signing;
 mod status;

@@ -1,12 +1,17 @@
 //! `sign`: a message signed with the next index of a key's state.
-ghost use Rattle.std.specs.Prelude.{◌≡◌, ◌≢◌, ◌⊎◌, ◌+◌, IfErr, IfOk, Ok, OnOk, Some, length};
+ghost use Rattle.std.specs.Prelude.{◌≡◌, ◌≢◌, ◌⊎◌, ◌+◌, ℕ, List, IfErr, IfOk, Ok, OnOk, Some, codes, length};
+ghost use Rattle.std.specs.Io.KnownBytes.{Appends};
 ghost use Rattle.hex.specs.Hex.{decode_of};
 ghost use Rattle.lms_spec.specs.Hss.{hss_signature, hss_public_key, HssAccepts};
 ghost use Rattle.lms_hss.specs.Keys.{hss_key_of};
 ghost use Rattle.lms_book.specs.Books.{counter};
 ghost use Rattle.lms_book.specs.Image.{image_of};
+ghost use Rattle.lms_book.specs.States.{IsOpenedFrom};
 ghost use Rattle.lms_book.specs.Stops.{AtEachMoment};
 ghost use Rattle.lms_commands.specs.Faults.{of_signing, text_of};
+ghost use Rattle.lms_commands.specs.Descriptions.{number_line};
+ghost use Rattle.lms_commands.specs.Keygen.{IsHexOf};
+ghost use Rattle.lms_commands.specs.Known.{IsPrintedLast, SameFiles, SameFilesBut, Stays};
 ghost use Rattle.lms_commands.specs.Signing.{FailsToSign, FailsToSignNext, GivesOne, SignsFile, SignsNext, SignsNothing};
 
 use crate::description::print_index;
@@ -80,14 +85,48 @@ pub fn sign_file<W: World, O: Write>(
         (W.known world.new) state.now random.now message.now out.now
         (O.contents output.old) (O.contents output.new)) }
     ensures failed { IfErr result (FailsToSign (W.known world.old)
-        (W.known world.new) state.now random.now message.now) }
+        (W.known world.new) state.now random.now message.now out.now
+        (O.contents output.old) (O.contents output.new)) }
     ensures silent { IfErr result (λ fault. fault ≢ Fault.Output → output.new ≡ output.old) }
+    ensures files { SameFilesBut out.now (W.known world.old) (W.known world.new) }
 {
-    let randomizer = read_bytes(random).ok_or(Fault::BadRandom)?;
+    let randomizer = randomizer_from(random)?;
     let message = read_file(alloc, world, message)?;
     let _lock = lock_state(alloc, world, state)?;
     let signed = sign_by_state(rt, alloc, world, state, &randomizer, &message)?;
-    write_file(world, out, &signed.signature)?;
+    deliver(world, out, &signed, output)
+}
+
+/// The randomizer of a text of 64 hexadecimal digits, else `BadRandom`.
+fn randomizer_from(text: &str) -> Result<[u8; 32], Fault>
+    ensures read { IfOk result (λ c. (length c ≡ 32) × (decode_of text.now ≡ Ok c)) }
+    ensures refused { IfErr result (λ fault. (fault ≡ Fault.BadRandom) × ¬ IsHexOf 32 text.now) }
+{
+    match read_bytes(text) {
+        Some(c) => Ok(c),
+        None => Err(Fault::BadRandom),
+    }
+}
+
+/// Writes a signature to a file, and then prints its index. `Output` where either can't be done, also where memory for the
+/// file was refused, since the index is used.
+fn deliver<W: World, O: Write>(
+    world: &mut W,
+    out: &str,
+    signed: &Signed,
+    output: &mut O,
+) -> Result<(), Fault>
+    ensures given { OnOk result ((W.known world.new).gives out.now signed.now.signature.items) }
+    ensures printed { OnOk result (Appends (O.contents output.old) (O.contents output.new)
+        (number_line (codes "index") signed.now.index)) }
+    ensures failed { IfErr result (λ fault. (fault ≡ Fault.Output) × IsPrintedLast (W.known world.new) out.now
+        signed.now.signature.items (O.contents output.old) (O.contents output.new)) }
+    ensures others { SameFilesBut out.now (W.known world.old) (W.known world.new) }
+    ensures states { (state : List ℕ) → Stays (W.known world.old) (W.known world.new) state }
+{
+    if write_file(world, out, &signed.signature).is_err() {
+        return Err(Fault::Output);
+    }
     match print_index(output, signed.index) {
         Ok(()) => Ok(()),
         Err(_) => Err(Fault::Output),
@@ -108,6 +147,7 @@ fn sign_by_state<W: World>(
         signed.signature.items signed.index) }
     ensures failed { IfErr result (FailsToSignNext (W.known world.old)
         (W.known world.new) state.now) }
+    ensures files { SameFiles (W.known world.old) (W.known world.new) }
 {
     let mut book = open_state(alloc, world, state)?;
     let signed = sign_next(rt, alloc, &mut book, c, msg);
@@ -126,6 +166,8 @@ pub fn sign_next<S: StateStore>(
     msg: &[u8],
 ) -> Result<Signed, SignFault>
     ensures key { book.new.key ≡ book.old.key }
+    ensures base { book.new.base ≡ book.old.base }
+    ensures opened { (opened : S) → IsOpenedFrom S.may_leave opened book.old → IsOpenedFrom S.may_leave opened book.new }
     ensures index { IfOk result (λ signed. signed.index ≡ counter book.old) }
     ensures reserved { IfOk result (λ _. GivesOne S.may_leave book.old book.new) }
     ensures failed { IfErr result (λ fault. SignsNothing S.may_leave S.failures book.old fault book.new) }

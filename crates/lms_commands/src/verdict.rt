@@ -4,6 +4,7 @@ ghost use Rattle.std.specs.Io.KnownBytes.{Appends};
 ghost use Rattle.lms_commands.specs.Faults.{code_of};
 ghost use Rattle.lms_commands.specs.Verdicts.{IsRightFor, line_of, verdict_status};
 
+use crate::line::print_line;
 use crate::status::Status;
 use std::io;
 use std::io::Write;
@@ -45,10 +46,8 @@ pub fn judge(public: &[u8], message: &[u8], signature: &[u8]) -> Verdict
 pub(crate) fn print_verdict<W: Write>(output: &mut W, verdict: Verdict) -> io::Result<()>
     ensures { OnOk result (Appends (W.contents output.old) (W.contents output.new) (line_of verdict)) }
 {
-    let line = match verdict {
-        Verdict::Valid => "valid\n",
-        Verdict::Invalid => "invalid\n",
-    };
-    output.write_all(line.as_bytes())?;
-    output.flush()
+    match verdict {
+        Verdict::Valid => print_line(output, "valid"),
+        Verdict::Invalid => print_line(output, "invalid"),
+    }
 }

@@ -1,9 +1,11 @@
 //! Where the program's files and states are.
-ghost use Rattle.std.specs.Prelude.{◌≡◌, ◌↔◌, ℕ, List, true, false, IfErr, IfOk, OnOk};
-ghost use Rattle.lms_commands.specs.Known.{Exists, Known, Stays};
+ghost use Rattle.std.specs.Prelude.{◌≡◌, ◌↔◌, ℕ, List, None, true, false, IfErr, IfOk, OnOk};
+ghost use Rattle.lms_commands.specs.Known.{Exists, Known, SameFiles, SameFilesBut, Stays};
 
 mod disk;
 mod memory;
+#[cfg(test)]
+mod tests;
 
 pub use disk::DiskWorld;
 use lms_book::StateStore;
@@ -42,11 +44,12 @@ pub trait World {
         ensures given { IfOk result (λ bytes. (known self.now).gives name.now bytes.items) }
         ensures refused { IfErr result ((known self.now).refuses name.now) };
 
-    /// Makes these the bytes of a file, which need not be there yet. No state is changed.
+    /// Makes these the bytes of a file, which need not be there yet. No other file is changed, and no state.
     ///
     /// `Device` where it can't be written, `OutOfMemory` where memory for that was refused.
     fn write(&mut self, name: &str, bytes: &[u8]) -> Result<(), WorldFault>
         ensures given { OnOk result ((known self.new).gives name.now bytes.now) }
+        ensures others { SameFilesBut name.now (known self.old) (known self.new) }
         ensures states { (state : List ℕ) → Stays (known self.old) (known self.new) state };
 
     /// Whether there is a state of this name, also where that can't be told.
@@ -55,17 +58,22 @@ pub trait World {
         ensures there { result ≡ true → Exists (known self.now) name.now };
 
     /// The lock of the state of this name, without waiting for it; `None` where it is not got.
-    fn lock(&self, alloc: Global, name: &str) -> Result<Option<Self::Lock>, OutOfMemory>;
+    fn lock(&self, alloc: Global, name: &str) -> Result<Option<Self::Lock>, OutOfMemory>
+        ensures { IfOk result (λ lock. lock ≡ None → (known self.now).in_use name.now) };
 
-    /// Takes out what keeps the state of this name. Where there is no such state, its reads fail.
+    /// Takes out what keeps the state of this name. Where there is no such state, its reads fail. No file is changed.
     ///
     /// `OutOfMemory` where memory for it was refused.
     fn take_store(&mut self, alloc: Global, name: &str) -> Result<Self::Store, OutOfMemory>
         ensures taken { IfOk result (λ store. (text : List ℕ)
             → Self.Store.may_leave store text ↔ (known self.old).keeps name.now text) }
-        ensures stays { IfErr result (λ _. Stays (known self.old) (known self.new) name.now) };
+        ensures fails { IfOk result (λ store. Self.Store.may_fail store → (known self.old).fails name.now) }
+        ensures stays { IfErr result (λ _. Stays (known self.old) (known self.new) name.now) }
+        ensures files { SameFiles (known self.old) (known self.new) };
 
-    /// Puts it back.
+    /// Puts it back: the state of this name is what it keeps. No file is changed.
     fn put_back(&mut self, name: &str, store: Self::Store)
-        ensures { (text : List ℕ) → Self.Store.may_leave store text → (known self.new).keeps name.now text };
+        ensures kept { (text : List ℕ) → Self.Store.may_leave store text → (known self.new).keeps name.now text }
+        ensures only { (text : List ℕ) → (known self.new).holds name.now text → Self.Store.may_leave store text }
+        ensures files { SameFiles (known self.old) (known self.new) };
 }

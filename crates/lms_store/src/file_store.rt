@@ -148,7 +148,7 @@ impl<'a, R: Files> FileStore<'a, R> {
 }
 
 impl<R: Files + Sync> StateStore for FileStore<'_, R> {
-    ghost use Rattle.std.specs.Prelude.{◌⊎◌, List, ℕ};
+    ghost use Rattle.std.specs.Prelude.{◌⊎◌, IfErr, List, ℕ};
     ghost use Rattle.lms_store.specs.FileStores.{MayLeave, writes_made, HasLeftSince, Reads, Replaces, counts_now, only_now};
     ghost use Rattle.lms_book.specs.Stops.{HasSameStops, IsOnlyStop, AtEachMoment, raised, CountsRead};
 
@@ -159,6 +159,8 @@ impl<R: Files + Sync> StateStore for FileStore<'_, R> {
     ghost left_since = { HasLeftSince };
 
     ghost failures = { λ store. store.failures };
+
+    ghost may_fail = { λ _. Unit {0} };
 
     ghost counts_now = { λ store. counts_now store.writes };
 
@@ -171,6 +173,7 @@ impl<R: Files + Sync> StateStore for FileStore<'_, R> {
         ensures stops { HasSameStops (MayLeave self.old) (MayLeave self.new) }
         ensures moments { AtEachMoment writes_made HasLeftSince self.old self.new (MayLeave self.old) }
         ensures failures { CountsRead self.old.failures self.new.failures result }
+        ensures cause { IfErr result (λ fault. fault ≡ ReadFault.Device → Unit {0}) }
         ensures reads { Reads self.old result self.new }
     {
         match self.fetch(alloc) {

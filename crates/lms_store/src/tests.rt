@@ -1,3 +1,6 @@
+mod recording;
+mod replacing;
+
 use crate::{FileStore, exists, lock};
 use lms_book::{ReadFault, StateStore, StoreFault};
 use lms_params::OutOfMemory;
@@ -14,7 +17,7 @@ fn empty_folder(rt: &HostRuntime, folder: &str) -> Result<(), Fail> {
 }
 
 /// Whether a store reads this text.
-fn reads(rt: &HostRuntime, store: &mut FileStore<'_, HostRuntime>, text: &[u8]) -> bool {
+fn reads(rt: &HostRuntime, store: &mut impl StateStore, text: &[u8]) -> bool {
     match store.read(rt.alloc()) {
         Ok(found) => found.as_slice() == text,
         Err(_) => false,
@@ -105,7 +108,7 @@ fn a_long_text_touches_no_file(rt: HostRuntime) -> Result<(), Fail> {
 fn a_store_takes_many_writes(rt: HostRuntime) -> Result<(), Fail> {
     empty_folder(&rt, "file_store_many")?;
     let mut store = FileStore::new(rt.alloc(), &rt, "file_store_many/state")?;
-    for n in 0..20_u8 {
+    for n in 0..100_u8 {
         assert_eq!(rt; store.replace(&[n]), Ok(()));
         assert!(rt; reads(&rt, &mut store, &[n]));
     }

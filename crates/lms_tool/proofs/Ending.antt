@@ -25,7 +25,7 @@ command_ends old new words before after command reads status.Stream is = absurd 
 
 -- a run fails as its command does, which prints nothing but where the output fails
 pub command_fails : (old new : Known) (words : List Text) (before after : Option (List ℕ)) (command : Command) → IsRead words command
-    → (fault : Fault) → FailsToObey old new command fault → (fault ≢ Output → after ≡ before) → Fails old new words before after fault
+    → (fault : Fault) → FailsToObey old new command before after fault → (fault ≢ Output → after ≡ before) → Fails old new words before after fault
 command_fails old new words before after command reads BadLevels is silent = (silent (λ e. cc), (command, reads, is))
 command_fails old new words before after command reads TooManyLevels is silent = (silent (λ e. cc), (command, reads, is))
 command_fails old new words before after command reads HeightNotSigned is silent = (silent (λ e. cc), (command, reads, is))

@@ -42,29 +42,29 @@ Obeys old new command before after Done = IsDone old new command before after
 Obeys old new command before after status.Invalid = FindsInvalid old command before after
 Obeys old new command before after _ = ⊥
 
--- why the command was not done
-abbrev pub FailsToObey : Known → Known → Command → Fault → Type 0
-FailsToObey old new (Keygen levels seed id state public) fault =
+-- why the command was not done, with these bytes printed before and after
+abbrev pub FailsToObey : Known → Known → Command → Option (List ℕ) → Option (List ℕ) → Fault → Type 0
+FailsToObey old new (Keygen levels seed id state public) before after fault =
     (IsNoKey (string_bytes levels) (string_bytes seed) (string_bytes id) fault × Stays old new (string_bytes state))
     ⊎ ((key : KeyOfCode) × IsKeyOf (string_bytes levels) (string_bytes seed) (string_bytes id) key
-    × FailsToMakeKey old new key (string_bytes state) fault)
-FailsToObey old new (Info state) fault = FailsToDescribe old (string_bytes state) fault × Stays old new (string_bytes state)
-FailsToObey old new (Sign state random message out) fault =
-    FailsToSign old new (string_bytes state) (string_bytes random) (string_bytes message) fault
-FailsToObey old new (Verify public message signature) fault =
+    × FailsToMakeKey old new key (string_bytes state) (string_bytes public) before after fault)
+FailsToObey old new (Info state) before after fault = FailsToDescribe old (string_bytes state) fault × Stays old new (string_bytes state)
+FailsToObey old new (Sign state random message out) before after fault =
+    FailsToSign old new (string_bytes state) (string_bytes random) (string_bytes message) (string_bytes out) before after fault
+FailsToObey old new (Verify public message signature) before after fault =
     FailsToJudge old (string_bytes public) (string_bytes message) (string_bytes signature) fault
 
 -- the words ask for a command, and this is why it failed
-abbrev pub CommandFails : Known → Known → List Text → Fault → Type 0
-CommandFails old new words fault = (command : Command) × IsRead words command × FailsToObey old new command fault
+abbrev pub CommandFails : Known → Known → List Text → Option (List ℕ) → Option (List ℕ) → Fault → Type 0
+CommandFails old new words before after fault = (command : Command) × IsRead words command × FailsToObey old new command before after fault
 
 -- what it takes for the program to end with this fault, with these bytes printed before and after; memory may run out at any words,
 -- which leaves each state as it was, unless a command was under way
 abbrev pub Fails : Known → Known → List Text → Option (List ℕ) → Option (List ℕ) → Fault → Type 0
 Fails old new words before after OutOfMemory =
-    (after ≡ before) × (((state : Text) → Stays old new state) ⊎ CommandFails old new words OutOfMemory)
-Fails old new words before after Output = AsksForHelp words ⊎ CommandFails old new words Output
-Fails old new words before after fault = (after ≡ before) × CommandFails old new words fault
+    (after ≡ before) × (((state : Text) → Stays old new state) ⊎ CommandFails old new words before after OutOfMemory)
+Fails old new words before after Output = AsksForHelp words ⊎ CommandFails old new words before after Output
+Fails old new words before after fault = (after ≡ before) × CommandFails old new words before after fault
 
 -- the program ends so at a fault
 abbrev pub FailsWith : Known → Known → List Text → Option (List ℕ) → Option (List ℕ) → Status → Type 0
@@ -89,3 +89,13 @@ Touches _ = Unit {0}
 -- the words ask for a command that may change files or a state
 abbrev pub AsksToTouch : List Text → Type 0
 AsksToTouch words = (command : Command) × IsRead words command × Touches command
+
+-- the command writes the file of this name
+abbrev pub Writes : Command → Text → Type 0
+Writes (Keygen levels seed id state public) name = name ≡ string_bytes public
+Writes (Sign state random message out) name = name ≡ string_bytes out
+Writes _ name = ⊥
+
+-- no command that the words ask for writes the file of this name
+abbrev pub NoneWrites : List Text → Text → Type 0
+NoneWrites words name = (command : Command) → IsRead words command → ¬ Writes command name

@@ -14,6 +14,26 @@ use std::alloc::{AllocError, Global};
 use std::convert::AsStr;
 pub use types::{Command, CommandFault};
 
+const LEVELS_HELP: &str =
+    "Height/width of each level, top first, as 10/8,10/8: heights 5, 10, 15, widths 1, 2, 4, 8";
+
+const KEYGEN_NOTE: &str = "Example:
+  lms_tool keygen --levels 10/8,10/8 --seed \"$(openssl rand -hex 32)\" --id \"$(openssl rand -hex 16)\" \\
+      --state key.state --public key.pub
+
+The same seed and identifier make the same key, with its indices counted from 0 again: never use them twice.";
+
+const INFO_NOTE: &str =
+    "Prints the levels, how many indices are used (counter), how many there are (capacity) and are left.";
+
+const SIGN_NOTE: &str = "Example:
+  lms_tool sign --state key.state --random \"$(openssl rand -hex 32)\" --message firmware.bin --out firmware.sig
+
+Prints the index, which is used for good before the signature is made. Never sign with an older copy of a state.";
+
+const VERIFY_NOTE: &str =
+    "Ends with status 0 for `valid`, 1 for `invalid`, and another where a file can't be read.";
+
 /// The command that the words ask for, the first of which is the program's name.
 ///
 /// `Help` where they ask for help and `Usage` where they are no command, both with clap's text, and
@@ -54,11 +74,17 @@ fn keygen_application<'a>(alloc: Global) -> Result<clap::Command<'a>, AllocError
 {
     clap::Command::new(alloc, "keygen")
         .about("Makes a key from a seed")
-        .arg(option(alloc, "levels", "LEVELS", "The levels of trees"))?
-        .arg(option(alloc, "seed", "HEX", "The seed"))?
-        .arg(option(alloc, "id", "HEX", "The identifier"))?
-        .arg(option(alloc, "state", "FILE", "The key's state"))?
-        .arg(option(alloc, "public", "FILE", "The public key"))
+        .after_help(KEYGEN_NOTE)
+        .arg(option(alloc, "levels", "LEVELS", LEVELS_HELP))?
+        .arg(option(
+            alloc,
+            "seed",
+            "HEX",
+            "64 hexadecimal digits, random and secret",
+        ))?
+        .arg(option(alloc, "id", "HEX", "32 hexadecimal digits, random"))?
+        .arg(option(alloc, "state", "FILE", "The key's state, a new file"))?
+        .arg(option(alloc, "public", "FILE", "Where the public key is written"))
 }
 
 fn info_application<'a>(alloc: Global) -> Result<clap::Command<'a>, AllocError>
@@ -67,6 +93,7 @@ fn info_application<'a>(alloc: Global) -> Result<clap::Command<'a>, AllocError>
 {
     clap::Command::new(alloc, "info")
         .about("Describes a key")
+        .after_help(INFO_NOTE)
         .arg(option(alloc, "state", "FILE", "The key's state"))
 }
 
@@ -76,10 +103,16 @@ fn sign_application<'a>(alloc: Global) -> Result<clap::Command<'a>, AllocError>
 {
     clap::Command::new(alloc, "sign")
         .about("Signs a message")
+        .after_help(SIGN_NOTE)
         .arg(option(alloc, "state", "FILE", "The key's state"))?
-        .arg(option(alloc, "random", "HEX", "The randomizer"))?
-        .arg(option(alloc, "message", "FILE", "The message"))?
-        .arg(option(alloc, "out", "FILE", "The signature"))
+        .arg(option(
+            alloc,
+            "random",
+            "HEX",
+            "64 hexadecimal digits, fresh for each signature",
+        ))?
+        .arg(option(alloc, "message", "FILE", "The message, any bytes"))?
+        .arg(option(alloc, "out", "FILE", "Where the signature is written"))
 }
 
 fn verify_application<'a>(alloc: Global) -> Result<clap::Command<'a>, AllocError>
@@ -88,6 +121,7 @@ fn verify_application<'a>(alloc: Global) -> Result<clap::Command<'a>, AllocError
 {
     clap::Command::new(alloc, "verify")
         .about("Prints whether a signature is valid")
+        .after_help(VERIFY_NOTE)
         .arg(option(alloc, "public", "FILE", "The public key"))?
         .arg(option(alloc, "message", "FILE", "The message"))?
         .arg(option(alloc, "signature", "FILE", "The signature"))

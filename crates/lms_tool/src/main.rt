@@ -3,8 +3,10 @@
 
 mod command;
 mod run;
+mod streams;
 
 use crate::run::{report, run};
+use crate::streams::hold_closed_streams;
 use lms_commands::{DiskWorld, Fault};
 use std::env;
 use std::io::ErrorKind;
@@ -13,7 +15,13 @@ use std::rt::Env;
 
 fn main(rt: HostRuntime) -> ExitCode {
     let mut errors = rt.stderr();
-    let status = match words(&rt) {
+    let held = hold_closed_streams(&rt);
+    let words = if held.is_ok() {
+        words(&rt)
+    } else {
+        Err(Fault::Input)
+    };
+    let status = match words {
         Ok(words) => run(
             &rt,
             rt.alloc(),
@@ -25,6 +33,8 @@ fn main(rt: HostRuntime) -> ExitCode {
         ),
         Err(fault) => report(fault, &mut errors),
     };
+    // Nothing is printed any more.
+    drop(held);
     ExitCode::from(status)
 }
 

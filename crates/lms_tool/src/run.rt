@@ -1,8 +1,9 @@
 //! The whole program, over its words, its files and its streams.
-ghost use Rattle.std.specs.Prelude.{◌≡◌, ◌≢◌, ◌⊎◌, ◌<◌, ◌≤◌, IfErr, IfOk, MatchResult, OnOk, map};
+ghost use Rattle.std.specs.Prelude.{◌≡◌, ◌≢◌, ◌⊎◌, ◌<◌, ◌≤◌, ℕ, List, IfErr, IfOk, MatchResult, OnOk, map};
 ghost use Rattle.std.specs.Io.KnownBytes.{Appends};
 ghost use Rattle.lms_commands.specs.Faults.{code_of, status_of};
-ghost use Rattle.lms_tool.specs.Runs.{AsksToTouch, Ends, Fails, FailsToObey, Obeys, Touches};
+ghost use Rattle.lms_commands.specs.Known.{SameFile};
+ghost use Rattle.lms_tool.specs.Runs.{AsksToTouch, Ends, Fails, FailsToObey, NoneWrites, Obeys, Touches, Writes};
 ghost use Rattle.lms_commands.specs.declared.status.Status.{Status};
 
 use crate::command::{Command, CommandFault, command};
@@ -19,8 +20,8 @@ use std::thread::Threads;
 /// Answers the number to exit with, by `Status`.
 ///
 /// A fault is one line on `errors`, `error: ` and its text. Help goes to `output` and a mistake in the
-/// words to `errors`, both as clap words them. Files and states are changed by `keygen`, `info` and `sign` alone. No
-/// command reads `input` so far.
+/// words to `errors`, both as clap words them. Files and states are changed by `keygen`, `info` and `sign` alone, and no
+/// file but the one that the words name to be written. No command reads `input` so far.
 pub fn run<S: AsStr, W: World, I: BufRead, O: Write, E: Write>(
     rt: &(impl Threads + Sync),
     alloc: Global,
@@ -36,6 +37,8 @@ pub fn run<S: AsStr, W: World, I: BufRead, O: Write, E: Write>(
     ensures quiet { result < 2 → errors.new ≡ errors.old }
     ensures silent { 2 ≤ result → result < 6 → output.new ≡ output.old }
     ensures files { (world.new ≡ world.old) ⊎ AsksToTouch (map S.text words.now) }
+    ensures others { (name : List ℕ) → NoneWrites (map S.text words.now) name
+        → SameFile (W.known world.old) (W.known world.new) name }
     ensures unread { input.new ≡ input.old }
 {
     match answer(rt, alloc, words, world, output, errors) {
@@ -72,6 +75,8 @@ fn answer<S: AsStr, W: World, O: Write, E: Write>(
     ensures silent { MatchResult result (λ status. 2 ≤ code_of status → output.new ≡ output.old)
         (λ fault. fault ≢ Fault.Output → output.new ≡ output.old) }
     ensures files { (world.new ≡ world.old) ⊎ AsksToTouch (map S.text words.now) }
+    ensures others { (name : List ℕ) → NoneWrites (map S.text words.now) name
+        → SameFile (W.known world.old) (W.known world.new) name }
 {
     match command(alloc, words) {
         Ok(command) => obey(rt, alloc, command, world, output),
@@ -99,9 +104,12 @@ fn obey<W: World, O: Write>(
         (W.known world.new) command
         (O.contents output.old) (O.contents output.new)) }
     ensures failed { IfErr result (FailsToObey (W.known world.old)
-        (W.known world.new) command) }
+        (W.known world.new) command
+        (O.contents output.old) (O.contents output.new)) }
     ensures silent { IfErr result (λ fault. fault ≢ Fault.Output → output.new ≡ output.old) }
     ensures files { (world.new ≡ world.old) ⊎ Touches command }
+    ensures others { (name : List ℕ) → ¬ Writes command name
+        → SameFile (W.known world.old) (W.known world.new) name }
 {
     match command {
         Command::Keygen {

@@ -1,8 +1,8 @@
-ghost use Rattle.std.specs.Prelude.{◌≡◌, ◌≤◌, []};
+ghost use Rattle.std.specs.Prelude.{◌≡◌, ◌≤◌, ◌+◌, []};
 ghost use Rattle.lms_book.specs.Desks.{sums, sums_of, BlankFits};
 
 use super::SharedBook;
-use crate::tests::{opened, reserved, small_store};
+use crate::tests::{opened, reserved, small_store, tall_store};
 use crate::{Blanks, Book, BookFault, Desk, Entry, Lease, Left, MemoryStore, MissingDesks, Tally};
 use lms_params::OutOfMemory;
 use std::alloc::{AllocGlobal, Global};
@@ -216,6 +216,61 @@ fn desks_count_what_they_got(rt: HostRuntime) -> Result<(), Fail> {
     store.fail_replace(2, Left::Old);
     let book = opened(rt.alloc(), store)?;
     three_desks::<Brand, Brand, Brand>(&rt, book, blanks(4))
+}
+
+/// Reserves at each desk once.
+fn each_reserves<E: Tally, G: Tally, B: Tally>(
+    rt: &(impl Abort + Wait),
+    shared: &SharedBook<MemoryStore, E, G, B>,
+    desks: &mut [Desk<E, G, B>],
+) {
+    for place in 0..desks.len() {
+        let start = place as u64;
+        assert_eq!(rt;
+            reserved_at(rt, shared, desks, place, 1),
+            Some(Ok((start, 1)))
+        );
+        assert_eq!(rt; counts_at(desks, place), Some((1, 1, 0)));
+    }
+}
+
+/// So many desks, each of which reserves once.
+fn many_desks<E: Tally, G: Tally, B: Tally>(
+    rt: &(impl Abort + AllocGlobal + Wait),
+    book: Book<MemoryStore>,
+    blanks: Blanks,
+    desks: usize,
+) -> Result<(), Fail>
+    requires some { 1 ≤ desks }
+    requires at_most { desks ≤ 64 }
+    requires key { book.key ≡ E.key }
+    requires fresh { book.history ≡ [] }
+    requires entries { BlankFits blanks.entries E.name E.parts (desks + 1) }
+    requires given { BlankFits blanks.given G.name G.parts (desks + 1) }
+    requires burnt { BlankFits blanks.burnt B.name B.parts (desks + 1) }
+    requires before { (E.before ≡ 0) × (G.before ≡ 0) × (B.before ≡ 0) }
+{
+    let shared = SharedBook::<MemoryStore, E, G, B>::share(rt.alloc(), book, blanks, desks);
+    let (shared, mut all) = shared.ok().ok_or("memory for desks")?;
+    assert_eq!(rt; all.len(), desks);
+    each_reserves(rt, &shared, &mut all);
+    settled(rt, shared, all, &[Entry::Given { len: 1 }; 64][..desks])
+}
+
+fn desks_of_a_new_book(rt: &(impl Abort + AllocGlobal + Wait), desks: usize) -> Result<(), Fail>
+    requires some { 1 ≤ desks }
+    requires at_most { desks ≤ 64 }
+{
+    let book = opened(rt.alloc(), tall_store(rt.alloc())?)?;
+    many_desks::<Brand, Brand, Brand>(rt, book, blanks(desks as u64 + 1), desks)
+}
+
+#[test]
+fn each_number_of_desks_is_shared(rt: HostRuntime) -> Result<(), Fail> {
+    for desks in 1..65 {
+        desks_of_a_new_book(&rt, desks)?;
+    }
+    Ok(())
 }
 
 /// Eight leases of one index, each asked of the book: the starts of those that it knew.

@@ -1,5 +1,5 @@
 //! Files and a state in memory.
-ghost use Rattle.std.specs.Prelude.{ℕ, ◌≡◌, List, OnOk, Ok, Err, None, false, option_map};
+ghost use Rattle.std.specs.Prelude.{ℕ, ◌≡◌, ◌≢◌, List, OnOk, Ok, Err, None, false, option_map};
 ghost use Rattle.lms_commands.specs.Files.{answer_of, bytes_or_fault, entry_of, is_used_elsewhere, known_in_memory, state_text, store_in, used_elsewhere, with_store};
 
 use super::{World, WorldFault};
@@ -70,6 +70,7 @@ impl MemoryWorld {
 
     fn put(&mut self, name: &str, answer: Result<Vec<u8>, WorldFault>) -> Result<(), AllocError>
         ensures answer { OnOk result (answer_of self.new name.now ≡ bytes_or_fault answer) }
+        ensures others { (other : List ℕ) → other ≢ name.now → answer_of self.new other ≡ answer_of self.old other }
         ensures state { store_in self.new ≡ store_in self.old }
     {
         let name = String::from_str(self.alloc, name)?;

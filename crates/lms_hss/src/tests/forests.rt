@@ -6,6 +6,10 @@ use lms_slow::slow_sign;
 use lms_slow::vectors::VECTORS;
 use std::process::Abort;
 use std::test::Fail;
+use std::thread::Threads;
+
+/// A level whose trees are worked out quickly.
+const QUICK: (LmsType, OtsType) = (LmsType::H5, OtsType::W2);
 
 /// An index that a forest covers signs as the slow signer does.
 fn check_index(
@@ -73,6 +77,41 @@ fn signs_through_eight_levels(rt: HostRuntime) -> Result<(), Fail> {
         let signature = sign(&rt, &forest, g, &RANDOMIZER, b"abc")?;
         assert_eq!(rt; signature.len(), 10732);
         assert!(rt; verify(&public, b"abc", &signature), "{g}");
+    }
+    Ok(())
+}
+
+/// The last indices of a key, so many of them, are covered, and the first and the last of these sign.
+fn check_last(
+    rt: &(impl Abort + AllocGlobal + Threads + Sync),
+    levels: &[(LmsType, OtsType)],
+    len: u64,
+) -> Result<(), Fail> {
+    let key = key_of(levels)?;
+    let public = key.public_key(rt, rt.alloc())?;
+    let start = key.capacity().saturating_sub(len);
+    let forest = cover(rt, key, start, len)?;
+    for g in [start, key.capacity().saturating_sub(1)] {
+        let signature = sign(rt, &forest, g, &RANDOMIZER, b"abc")?;
+        assert_eq!(rt; signature.len(), key.sig_len());
+        assert!(rt; verify(&public, b"abc", &signature), "{len} {g}");
+    }
+    Ok(())
+}
+
+#[test]
+fn signs_through_each_number_of_levels(rt: HostRuntime) -> Result<(), Fail> {
+    for levels in 1..9 {
+        check_last(&rt, &[QUICK; 8][..levels], 2)?;
+    }
+    Ok(())
+}
+
+/// Twenty lengths, from 17 to 1024.
+#[test]
+fn covers_many_indices(rt: HostRuntime) -> Result<(), Fail> {
+    for len in (17..1025).step_by(53) {
+        check_last(&rt, &[QUICK; 2], len)?;
     }
     Ok(())
 }

@@ -1,5 +1,7 @@
 mod disk;
 mod faults;
+mod large;
+mod lines;
 mod memory;
 mod state;
 mod stopping;

@@ -9,8 +9,8 @@ use Rattle.lms_tool.proofs.command.keygen_application.Goals as goal
 
 is_built : (c : goal.After-arg-5) → IfOk c.arg-5.result (IsBuilt (app_for keygen))
 is_built c =
-    let bare_app : app_of c.about.result ≡ new_app (codes "keygen") = search rules in
-    let bare_local : (fields_of c.about.result).has_globals ≡ false = search rules in
+    let bare_app : app_of c.after_help.result ≡ new_app (codes "keygen") = search rules in
+    let bare_local : (fields_of c.after_help.result).has_globals ≡ false = search rules in
     let levels = required_option (codes "levels") in
     let seed = required_option (codes "seed") in
     let id = required_option (codes "id") in

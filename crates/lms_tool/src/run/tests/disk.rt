@@ -73,9 +73,12 @@ fn says(end: &Ended, status: u8, output: &str, errors: &str) -> bool {
     end.status == status && end.output.as_str() == output && end.errors.as_str() == errors
 }
 
+/// The files that are written stand there already, and are longer.
 #[test]
 fn goes_a_whole_round(rt: HostRuntime) -> Result<(), Fail> {
     begin(&rt)?;
+    fs::write(&rt, "program_files/key.pub", [0; 3000].as_slice())?;
+    fs::write(&rt, "program_files/text.sig", [0; 3000].as_slice())?;
     assert!(rt; fails(&rt, &rt, &INFO, 3, "error: cannot read state\n")?);
     assert!(rt; says(&disk_end(&rt, &rt, &KEYGEN)?, 0, "capacity 32\n", ""));
     assert_eq!(rt;

@@ -81,10 +81,15 @@ fn cannot_read_the_message(rt: HostRuntime) -> Result<(), Fail> {
     Ok(())
 }
 
-/// A signature that can't be written has used its index; a public key that can't be written leaves the state.
+/// A signature that can't be written has used its index; a public key that can't be written leaves the state. Only where an
+/// index is used is want of memory not said.
 #[test]
 fn cannot_write_a_file(rt: HostRuntime) -> Result<(), Fail> {
-    for fault in [WorldFault::Device, WorldFault::OutOfMemory] {
+    let rows: [(WorldFault, u8, &str); 2] = [
+        (WorldFault::Device, 6, "error: cannot write output\n"),
+        (WorldFault::OutOfMemory, 5, "error: out of memory\n"),
+    ];
+    for (fault, status, line) in rows {
         let mut world = keyed(rt.alloc(), &ONE, 5)?;
         world.fail("text.sig", fault)?;
         let end = end_of(&rt, &sign(RANDOM, "text"), &mut world)?;
@@ -93,7 +98,7 @@ fn cannot_write_a_file(rt: HostRuntime) -> Result<(), Fail> {
         let mut world = MemoryWorld::new(rt.alloc());
         world.fail("key.pub", fault)?;
         let end = end_of(&rt, &keygen("5/8", SEED, ID), &mut world)?;
-        assert!(rt; fails_with(&end, 6, "error: cannot write output\n"));
+        assert!(rt; fails_with(&end, status, line));
         assert!(rt; is_at(&world, &ONE, 0)?);
     }
     Ok(())

@@ -41,7 +41,7 @@ fn signs(rt: &(impl Threads + AllocGlobal + Sync), world: &mut MemoryWorld) -> R
     )
 }
 
-/// Makes a key, at the second try where memory was refused at the first.
+/// Makes a key, at the second try where memory was refused at the first, unless the first try made its state.
 fn makes_a_key(
     rt: &(impl Threads + AllocGlobal + Sync),
     world: &mut MemoryWorld,
@@ -49,7 +49,10 @@ fn makes_a_key(
     let first = end_of(rt, &keygen_one(), world)?;
     Ok(match (first.status, first.errors.as_str()) {
         (0, "") | (6, "error: cannot write output\n") => true,
-        (5, "error: out of memory\n") => end_of(rt, &keygen_one(), world)?.status == 0,
+        (5, "error: out of memory\n") => {
+            let made = is_at(world, &ONE, 0)?;
+            end_of(rt, &keygen_one(), world)?.status == if made { 3 } else { 0 }
+        }
         _ => false,
     })
 }

@@ -22,12 +22,18 @@ const KEYGEN_HELP: &str = "Makes a key from a seed
 Usage: lms_tool keygen --levels <LEVELS> --seed <HEX> --id <HEX> --state <FILE> --public <FILE>
 
 Options:
-      --levels <LEVELS>  The levels of trees
-      --seed <HEX>       The seed
-      --id <HEX>         The identifier
-      --state <FILE>     The key's state
-      --public <FILE>    The public key
+      --levels <LEVELS>  Height/width of each level, top first, as 10/8,10/8: heights 5, 10, 15, widths 1, 2, 4, 8
+      --seed <HEX>       64 hexadecimal digits, random and secret
+      --id <HEX>         32 hexadecimal digits, random
+      --state <FILE>     The key's state, a new file
+      --public <FILE>    Where the public key is written
   -h, --help             Print help
+
+Example:
+  lms_tool keygen --levels 10/8,10/8 --seed \"$(openssl rand -hex 32)\" --id \"$(openssl rand -hex 16)\" \\
+      --state key.state --public key.pub
+
+The same seed and identifier make the same key, with its indices counted from 0 again: never use them twice.
 ";
 
 const INFO_HELP: &str = "Describes a key
@@ -37,6 +43,8 @@ Usage: lms_tool info --state <FILE>
 Options:
       --state <FILE>  The key's state
   -h, --help          Print help
+
+Prints the levels, how many indices are used (counter), how many there are (capacity) and are left.
 ";
 
 const SIGN_HELP: &str = "Signs a message
@@ -45,10 +53,15 @@ Usage: lms_tool sign --state <FILE> --random <HEX> --message <FILE> --out <FILE>
 
 Options:
       --state <FILE>    The key's state
-      --random <HEX>    The randomizer
-      --message <FILE>  The message
-      --out <FILE>      The signature
+      --random <HEX>    64 hexadecimal digits, fresh for each signature
+      --message <FILE>  The message, any bytes
+      --out <FILE>      Where the signature is written
   -h, --help            Print help
+
+Example:
+  lms_tool sign --state key.state --random \"$(openssl rand -hex 32)\" --message firmware.bin --out firmware.sig
+
+Prints the index, which is used for good before the signature is made. Never sign with an older copy of a state.
 ";
 
 const VERIFY_HELP: &str = "Prints whether a signature is valid
@@ -60,6 +73,8 @@ Options:
       --message <FILE>    The message
       --signature <FILE>  The signature
   -h, --help              Print help
+
+Ends with status 0 for `valid`, 1 for `invalid`, and another where a file can't be read.
 ";
 
 const HELP_HELP: &str = "Print this message or the help of the given subcommand(s)

@@ -34,14 +34,14 @@ returns-in-Ok-clause-reserves g c =
     let S = g.S.StateStore in
     subst (λ book. ReservesInOrder S.may_leave S.failures S.moment S.left_since c.args.n book (Ok c.in-Ok.lease) c.reserve.new.self) c.self.view_is
     (reserved_in_order S.may_leave S.failures S.moment S.left_since c.args.n c.self.inside.book _ c.reserve.new.self c.counter-counter.result c.counter-counter.ensures.counter
-    c.counter-counter.ensures.counted c.self.invariant.0 c.reserve.ensures.key c.reserve.ensures.base c.in-Ok.ensures.reserves c.reserve.ensures.moments)
+    c.counter-counter.ensures.counted c.self.invariant.0 c.reserve.ensures.key c.reserve.ensures.base c.reserve.ensures.opened c.in-Ok.ensures.reserves c.reserve.ensures.moments)
 
 pub returns-in-Err-Store-clause-reserves : goal.returns-in-Err-Store-clause-reserves
 returns-in-Err-Store-clause-reserves g c =
     let S = g.S.StateStore in
     subst (λ book. ReservesInOrder S.may_leave S.failures S.moment S.left_since c.args.n book (Err (Store c.in-Err-Store.start c.in-Err-Store.len)) c.reserve.new.self) c.self.view_is
     (reserved_in_order S.may_leave S.failures S.moment S.left_since c.args.n c.self.inside.book _ c.reserve.new.self c.counter-counter.result c.counter-counter.ensures.counter
-    c.counter-counter.ensures.counted c.self.invariant.0 c.reserve.ensures.key c.reserve.ensures.base (rw c.in-Err-Store.field-0-is at c.in-Err-Store.ensures.reserves) c.reserve.ensures.moments)
+    c.counter-counter.ensures.counted c.self.invariant.0 c.reserve.ensures.key c.reserve.ensures.base c.reserve.ensures.opened (rw c.in-Err-Store.field-0-is at c.in-Err-Store.ensures.reserves) c.reserve.ensures.moments)
 
 pub invariant_of-self : goal.invariant_of-self
 invariant_of-self g c = (

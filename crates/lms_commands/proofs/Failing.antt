@@ -1,0 +1,63 @@
+-- Why commands fail, by the steps that failed.
+use Rattle.std.proofs.Common.{◌≡◌, ◌⊎◌, inl, inr, ℕ, List, length, Option, Result, Ok, Err, sym, subst}
+use Rattle.std.specs.Prelude.{OnOk}
+use Rattle.hex.specs.Hex.{decode_of}
+use Rattle.lms_spec.specs.Hss.{hss_public_key}
+use Rattle.lms_hss.specs.Keys.{hss_key_of}
+use Rattle.lms_hss.specs.declared.key.HssKey.{HssKey as KeyOfCode}
+use Rattle.lms_book.specs.Image.{image_of}
+use Rattle.lms_commands.specs.Keygen.{FailsToMakeKey}
+use Rattle.lms_commands.specs.Known.{IsPrintedLast, Known, Stays, Text}
+use Rattle.lms_commands.specs.Signing.{FailsToSign, SignsNext}
+use Rattle.lms_commands.specs.declared.fault.Fault.{Fault}
+use Rattle.lms_commands.specs.declared.fault.Fault.TheVariants.{OutOfMemory, Output}
+
+-- nothing changed
+pub stays_same : (at : Known) (state : Text) → Stays at at state
+stays_same at state = record { kept = λ text keeps. keeps; only = at.may_be state }
+
+-- two facts of what is done make a third
+pub both_ok : {T E : Type 0} (result : Result T E) (P Q R : Type 0) → (P → Q → R) → OnOk result P → OnOk result Q → OnOk result R
+both_ok (Ok x) P Q R more p q = more p q
+both_ok (Err e) P Q R more p q = tt
+
+-- a new key's state was stored, and its public key or capacity was not published
+pub not_published : (old mid new : Known) (key : KeyOfCode) (state public : Text) (before after : Option (List ℕ)) → old.lacks state
+    → mid.keeps state (image_of key 0) → Stays mid new state → (fault : Fault)
+    → (fault ≡ OutOfMemory) ⊎ ((fault ≡ Output) × IsPrintedLast new public (hss_public_key (hss_key_of key)) before after)
+    → FailsToMakeKey old new key state public before after fault
+not_published old mid new key state public before after lacks stored stays fault (inl is) =
+    subst (FailsToMakeKey old new key state public before after) (sym is) (inr (lacks, stays.kept (image_of key 0) stored))
+not_published old mid new key state public before after lacks stored stays fault (inr (is, last)) =
+    subst (FailsToMakeKey old new key state public before after) (sym is) ((lacks, stays.kept (image_of key 0) stored), last)
+
+-- a message was signed, and no state changed after that
+pub signed_still : (old mid new : Known) (state : Text) (random message signature : List ℕ) (index : ℕ) → SignsNext old mid state random message signature index
+    → Stays mid new state → SignsNext old new state random message signature index
+signed_still old mid new state random message signature index is stays = record {
+  key = is.key;
+  used = record {
+    counted = is.used.counted;
+    within = is.used.within;
+    opened = is.used.opened;
+    stored = stays.kept _ is.used.stored;
+  };
+  signature_is = is.signature_is;
+  accepted = is.accepted;
+}
+
+-- the signature was not written, or the index not printed
+pub not_delivered : (old new : Known) (state random message out : Text) (before after : Option (List ℕ)) (randomizer text signature : List ℕ) (index : ℕ)
+    → (length randomizer ≡ 32) × (decode_of random ≡ Ok randomizer) → old.gives message text → SignsNext old new state randomizer text signature index → (fault : Fault)
+    → (fault ≡ Output) × IsPrintedLast new out signature before after → FailsToSign old new state random message out before after fault
+not_delivered old new state random message out before after randomizer text signature index read given signed fault (is, last) =
+    subst (FailsToSign old new state random message out before after) (sym is) (record {
+      randomizer = randomizer;
+      text = text;
+      signature = signature;
+      index = index;
+      randomizer_read = read;
+      text_given = given;
+      signed = signed;
+      printed_last = last;
+    })

@@ -1,0 +1,99 @@
+//! A store of the program's own.
+ghost use Rattle.std.specs.Prelude.{◌≡◌, None, OnOk, OnErr};
+ghost use Rattle.lms_example.specs.Kept.{holding};
+
+use lms_book::{ReadFault, StateStore, StoreFault};
+use lms_params::OutOfMemory;
+use std::alloc::Global;
+use std::marker::Model;
+use std::mem;
+
+/// One text in memory, and those before it, of which contracts say what a stop could have left. A real store keeps its text
+/// where it outlives the program.
+#[derive(Drop)]
+pub(crate) struct OneText {
+    alloc: Global,
+    past: Vec<Option<Vec<u8>>>,
+    text: Option<Vec<u8>>,
+    failures: u64,
+}
+
+impl Model for OneText {
+    ghost use Rattle.std.specs.Prelude.{map, option_map};
+    ghost use Rattle.lms_example.specs.Kept.{Kept};
+
+    ghost Value = { Kept };
+
+    ghost view = { λ store. record {
+      past = map (option_map (λ text. text.items)) store.past.items;
+      text = option_map (λ text. text.items) store.text;
+      failures = store.failures;
+    } };
+}
+
+impl OneText {
+    /// A store that holds no text yet.
+    pub(crate) fn new(alloc: Global) -> Self
+        ensures { result.text ≡ None }
+    {
+        OneText {
+            alloc,
+            past: Vec::new(alloc),
+            text: None,
+            failures: 0,
+        }
+    }
+
+    /// Holds this text from now on. All memory is taken first, so that an error changes nothing.
+    fn hold(&mut self, text: &[u8]) -> Result<(), OutOfMemory>
+        ensures held { OnOk result (self.new ≡ holding self.old text.now) }
+        ensures same { OnErr result (self.new ≡ self.old) }
+    {
+        let text = Vec::from_slice(self.alloc, text)?;
+        self.past.reserve(1)?;
+        let before = mem::replace(&mut self.text, Some(text));
+        self.past.push_reserved(before);
+        Ok(())
+    }
+}
+
+impl StateStore for OneText {
+    ghost use Rattle.std.proofs.Common.{inl};
+    ghost use Rattle.lms_example.specs.Kept.{Holds, writes_made, HeldSince, only_text};
+
+    ghost may_leave = { Holds };
+
+    ghost moment = { writes_made };
+
+    ghost left_since = { HeldSince };
+
+    ghost failures = { λ store. store.failures };
+
+    ghost may_fail = { λ store. store.text ≡ None };
+
+    ghost counts_now = { λ store since left le now. inl now };
+
+    ghost only_now = { only_text };
+
+    /// Fails while there is no text.
+    fn read(&mut self, alloc: Global) -> Result<Vec<u8>, ReadFault> {
+        match &self.text {
+            Some(text) => { Vec::from_slice(alloc, text).map_err(|_| ReadFault::OutOfMemory) }
+            None => {
+                self.failures = self.failures.saturating_add(1);
+                Err(ReadFault::Device)
+            }
+        }
+    }
+
+    /// Fails where memory is refused, and the text before stays.
+    fn replace(&mut self, text: &[u8]) -> Result<(), StoreFault> {
+        match self.hold(text) {
+            Ok(()) => Ok(()),
+            Err(OutOfMemory) => {
+                self.failures = self.failures.saturating_add(1);
+                Err(StoreFault)
+            }
+        }
+    }
+}
