@@ -1,5 +1,5 @@
 -- How a book's numbers and promises go on with one entry more.
-use Rattle.std.proofs.Common.{◌≡◌, ◌⊎◌, inl, inr, ⊎_elim, ℕ, ◌+◌, ◌≤◌, List, [], ◌∷◌, ◌++◌, refl, sym, ◌∙◌, ap, subst, arith}
+use Rattle.std.proofs.Common.{◌≡◌, ◌⊎◌, inl, inr, ⊎_elim, ℕ, zero, suc, ◌+◌, ◌<◌, ◌≤◌, length, slice_index_or, slice_set, List, [], ◌∷◌, ◌++◌, refl, sym, ◌∙◌, ap, subst, arith}
 use Rattle.std.specs.List.{AllByRecursion}
 use Rattle.std.proofs.lemmas.List.Sums.{sum_by-cons, sum_by_push}
 use Rattle.lms_spec.specs.Hss.{capacity_of}
@@ -7,8 +7,9 @@ use Rattle.lms_hss.specs.Keys.{hss_key_of}
 use Rattle.lms_hss.specs.declared.key.HssKey.{HssKey as KeyOfCode}
 use Rattle.lms_book.specs.declared.history.Entry.{Entry}
 use Rattle.lms_book.specs.declared.history.Entry.TheVariants.{Given, Burnt}
-use Rattle.lms_book.specs.Image.{image_of, HasImage, IsImageFrom}
-use Rattle.lms_book.specs.History.{Range, range_of, end, len_of, counter_of, leases, last_end, stored_of}
+use Rattle.lms_image.specs.Image.{image_of, HasImage, IsImageFrom}
+use Rattle.lms_book.specs.History.{Range, range_of, end, len_of, counter_of, leases, last_end, stored_of, confirmed}
+use Rattle.lms_book.specs.Stops.{StoreView, MayLeave}
 use Rattle.lms_book.specs.States.{IsSafe, IsKept}
 
 pub counter-push : (base : ℕ) (es : List Entry) (e : Entry) → counter_of base (es ++ e ∷ []) ≡ counter_of base es + len_of e
@@ -59,33 +60,71 @@ safe_or : (key : KeyOfCode) (top : ℕ) (rs : List Range) (old new : List ℕ �
 safe_or key top [] old new ends from safe = tt
 safe_or key top (r ∷ rs) old new ends from safe = (λ left now. ⊎_elim (safe.0 left) (lower key (end r) top left ends.0) (from left now), safe_or key top rs old new ends.1 from safe.1)
 
-module _ (key : KeyOfCode) (base counter stored n : ℕ) (es later : List Entry) (old new : List ℕ → Type 0) (kept : IsKept key base counter stored es old) (room : counter + n ≤ capacity_of (hss_key_of key)) where
-  at_top : (left : List ℕ) → left ≡ image_of key (counter + n) → IsImageFrom key (counter + n) left
-  at_top left is = record { counter = counter + n; past = omega arith; within = room; text_is = is }
+-- the last entry of a history is given
+pub confirmed-push : (es : List Entry) (e : Entry) → confirmed (es ++ e ∷ []) ≡ es ++ Given (len_of e) ∷ []
+confirmed-push [] e = refl
+confirmed-push (x ∷ []) e = refl
+confirmed-push (x ∷ y ∷ es) e = ap (λ (l : List Entry). x ∷ l) (confirmed-push (y ∷ es) e)
+
+-- a history that has entries has a last one
+ends : (es : List Entry) → 0 < length es → (front : List Entry) × (last : Entry) × (es ≡ front ++ last ∷ [])
+ends [] some = absurd (omega (arith, some))
+ends (x ∷ []) some = ([], x, refl)
+ends (x ∷ y ∷ es) some = let rest = ends (y ∷ es) (omega arith) in (x ∷ rest.0, rest.1, ap (λ (l : List Entry). x ∷ l) rest.2)
+
+-- the last entry is written over as given
+pub confirmed-set : (es : List Entry) (last : Entry) (i len : ℕ) → i + 1 ≡ length es → last ≡ slice_index_or es i last → len ≡ len_of last
+    → slice_set es i (Given len) ≡ confirmed es
+confirmed-set [] last i len at is l = absurd (omega (arith, at))
+confirmed-set (x ∷ []) last zero len at is l = ap (λ (k : ℕ). Given k ∷ []) (l ∙ ap len_of is)
+confirmed-set (x ∷ []) last (suc i) len at is l = absurd (omega (arith, at))
+confirmed-set (x ∷ y ∷ es) last zero len at is l = absurd (omega (arith, at))
+confirmed-set (x ∷ y ∷ es) last (suc i) len at is l = ap (λ (l : List Entry). x ∷ l) (confirmed-set (y ∷ es) last i len (omega (arith, at)) is l)
+
+-- ---- the running numbers
+
+pub kept_burnt : (key : KeyOfCode) (base counter stored n : ℕ) (es : List Entry) → IsKept key base counter stored es
+    → counter + n ≤ capacity_of (hss_key_of key) → IsKept key base (counter + n) stored (es ++ Burnt n ∷ [])
+kept_burnt key base counter stored n es kept room = record {
+  counter_is = omega (arith, counter-push base es (Burnt n), kept.counter_is);
+  stored_is = kept.stored_is ∙ sym (ap (last_end base) (leases-push_burnt base n es));
+  counted = recount key counter (counter + n) kept.counted room;
+}
+
+kept_given : (key : KeyOfCode) (base counter stored : ℕ) (es : List Entry) (e : Entry) → IsKept key base counter stored (es ++ e ∷ [])
+    → IsKept key base counter counter (es ++ Given (len_of e) ∷ [])
+kept_given key base counter stored es e kept =
+    let before : counter ≡ counter_of base es + len_of e = kept.counter_is ∙ counter-push base es e in
+    let top : counter ≡ counter_of base (es ++ Given (len_of e) ∷ []) = before ∙ sym (counter-push base es (Given (len_of e))) in
+    let ranges = leases-push_given base (counter_of base es) (len_of e) es refl in
+    let last : stored_of base (es ++ Given (len_of e) ∷ []) ≡ counter_of base es + len_of e
+    = ap (last_end base) ranges ∙ last_end-push base (leases base es) (range_of (counter_of base es) (len_of e)) in
+    record { counter_is = top; stored_is = before ∙ sym last; counted = kept.counted }
+
+pub kept_confirmed : (key : KeyOfCode) (base counter stored : ℕ) (es : List Entry) → 0 < length es → IsKept key base counter stored es
+    → IsKept key base counter counter (confirmed es)
+kept_confirmed key base counter stored es some kept =
+    let (front, last, is) = ends es some in
+    let before = subst (λ (l : List Entry). IsKept key base counter stored l) is kept in
+    subst (λ (l : List Entry). IsKept key base counter counter l) (sym (ap confirmed is ∙ confirmed-push front last)) (kept_given key base counter stored front last before)
+
+-- ---- what a stop leaves
+
+module _ (key : KeyOfCode) (base n : ℕ) (es : List Entry) (old new : StoreView) (room : counter_of base es + n ≤ capacity_of (hss_key_of key)) where
+  at_top : (left : List ℕ) → left ≡ image_of key (counter_of base es + n) → IsImageFrom key (counter_of base es + n) left
+  at_top left is = record { counter = counter_of base es + n; past = omega arith; within = room; text_is = is }
 
   -- a lease more, and a stop leaves its image alone
-  pub kept_given : later ≡ es ++ Given n ∷ [] → ((left : List ℕ) → new left → left ≡ image_of key (counter + n))
-      → IsKept key base (counter + n) (counter + n) later new
-  kept_given is only =
-      let top : counter_of base (es ++ Given n ∷ []) ≡ counter + n = omega (arith, counter-push base es (Given n), kept.counter_is) in
-      let ranges = leases-push_given base counter n es kept.counter_is in
-      let last : stored_of base (es ++ Given n ∷ []) ≡ counter + n = ap (last_end base) ranges ∙ last_end-push base (leases base es) (range_of counter n) in
-      subst (λ (l : List Entry). IsKept key base (counter + n) (counter + n) l new) (sym is) (record {
-        counter_is = sym top;
-        stored_is = sym last;
-        counted = recount key counter (counter + n) kept.counted room;
-        safe = safe_at key (counter + n) _ new (ends_within base (counter + n) (es ++ Given n ∷ []) (omega arith)) (λ left now. at_top left (only left now));
-      })
+  pub safe_given : ((left : List ℕ) → MayLeave new left → left ≡ image_of key (counter_of base es + n))
+      → IsSafe key (leases base (es ++ Given n ∷ [])) (MayLeave new)
+  safe_given only =
+      let top : counter_of base (es ++ Given n ∷ []) ≤ counter_of base es + n = omega (arith, counter-push base es (Given n)) in
+      safe_at key (counter_of base es + n) _ (MayLeave new) (ends_within base (counter_of base es + n) (es ++ Given n ∷ []) top) (λ left now. at_top left (only left now))
 
   -- indices burnt, and a stop may leave their image too
-  pub kept_burnt : later ≡ es ++ Burnt n ∷ [] → ((left : List ℕ) → new left → old left ⊎ (left ≡ image_of key (counter + n)))
-      → IsKept key base (counter + n) stored later new
-  kept_burnt is only =
-      let top : counter_of base (es ++ Burnt n ∷ []) ≡ counter + n = omega (arith, counter-push base es (Burnt n), kept.counter_is) in
-      let ranges = leases-push_burnt base n es in
-      subst (λ (l : List Entry). IsKept key base (counter + n) stored l new) (sym is) (record {
-        counter_is = sym top;
-        stored_is = kept.stored_is ∙ sym (ap (last_end base) ranges);
-        counted = recount key counter (counter + n) kept.counted room;
-        safe = subst (λ (rs : List Range). IsSafe key rs new) (sym ranges) (safe_or key (counter + n) (leases base es) old new (ends_within base (counter + n) es (omega (arith, kept.counter_is))) (λ left now. ⊎_elim (λ was. inl was) (λ text. inr (at_top left text)) (only left now)) kept.safe);
-      })
+  pub safe_burnt : IsSafe key (leases base es) (MayLeave old)
+      → ((left : List ℕ) → MayLeave new left → MayLeave old left ⊎ (left ≡ image_of key (counter_of base es + n)))
+      → IsSafe key (leases base (es ++ Burnt n ∷ [])) (MayLeave new)
+  safe_burnt safe only = subst (λ (rs : List Range). IsSafe key rs (MayLeave new)) (sym (leases-push_burnt base n es)) (
+      safe_or key (counter_of base es + n) (leases base es) (MayLeave old) (MayLeave new) (ends_within base (counter_of base es + n) es (omega arith))
+      (λ left now. ⊎_elim (λ was. inl was) (λ text. inr (at_top left text)) (only left now)) safe)

@@ -1,5 +1,5 @@
 -- A book's leases are disjoint and below what a stop could leave, and a reservation keeps them so.
-use Rattle.std.proofs.Common.{◌≡◌, ◌⊎◌, ℕ, ◌+◌, ◌≤◌, List, [], ◌∷◌, sym, refl, subst, arith}
+use Rattle.std.proofs.Common.{◌≡◌, ℕ, ◌+◌, ◌≤◌, List, [], ◌∷◌, ◌++◌, sym, subst, arith}
 use Rattle.std.specs.Prelude.{AllPairs, Result, Ok, Err}
 use Rattle.std.specs.List.{AllByRecursion}
 use Rattle.lms_spec.specs.Hss.{capacity_of}
@@ -9,13 +9,13 @@ use Rattle.lms_book.specs.declared.history.Entry.{Entry}
 use Rattle.lms_book.specs.declared.history.Entry.TheVariants.{Given, Burnt}
 use Rattle.lms_book.specs.declared.refusals.BookFault.{BookFault}
 use Rattle.lms_book.specs.declared.refusals.BookFault.TheVariants.{Exhausted, OutOfMemory, Store}
-use Rattle.lms_book.specs.Image.{image_of, HasImage}
-use Rattle.lms_book.specs.History.{Range, range_of, end, counter_of, leases, stored_of}
-use Rattle.lms_book.specs.Stops.{AtEachMoment}
-use Rattle.lms_book.specs.States.{BookState, LeaseState, IsOpenedFrom, IsSafe, IsKept}
-use Rattle.lms_book.specs.Books.{counter, capacity, Reserves}
-use Rattle.lms_book.specs.Reservations.{Follows, IsInOrder, ReservesInOrder}
-use Rattle.lms_book.proofs.Histories.{kept_given, kept_burnt}
+use Rattle.lms_image.specs.Image.{image_of, HasImage}
+use Rattle.lms_book.specs.History.{Range, range_of, end, counter_of, leases}
+use Rattle.lms_book.specs.Stops.{Texts, MayLeave}
+use Rattle.lms_book.specs.States.{BookState, LeaseState, IsOpenedFrom, IsSafe}
+use Rattle.lms_book.specs.Books.{counter, capacity, Reserves, Follows, IsInOrder, ReservesInOrder}
+use Rattle.lms_book.proofs.Histories.{counter-push, recount, safe_given, safe_burnt}
+use Rattle.lms_book.proofs.Leaving.{leaves_written, leaves_failed}
 use Rattle.lms_book.proofs.Overlap.{pairs_cons}
 
 starts_from : (first : Range) (base : ℕ) (history : List Entry) → end first ≤ base → AllByRecursion (Follows first) (leases base history)
@@ -28,44 +28,37 @@ disjoint_leases base [] = λ i j d lt long. absurd (omega arith)
 disjoint_leases base (Given len ∷ history) = pairs_cons Follows (range_of base len) (leases (base + len) history) (starts_from (range_of base len) (base + len) history (omega arith)) (disjoint_leases (base + len) history)
 disjoint_leases base (Burnt len ∷ history) = disjoint_leases (base + len) history
 
-pub in_order : {S : Type 0} (may_leave : S → List ℕ → Type 0) (book : BookState S) → counter book ≤ capacity book
-    → IsSafe book.key (leases book.base book.history) (may_leave book.store) → IsInOrder may_leave book
-in_order may_leave book within safe = record { within = within; disjoint = disjoint_leases book.base book.history; safe = safe }
+pub in_order : (book : BookState) → HasImage book.key (counter book) → IsSafe book.key (leases book.base book.history) (MayLeave book.store)
+    → IsInOrder book
+in_order book counted safe = record { counted = counted; disjoint = disjoint_leases book.base book.history; safe = safe }
 
--- what a book keeps, of its own key and base
-kept_in_order : {S : Type 0} (may_leave : S → List ℕ → Type 0) (book : BookState S) (key : KeyOfCode) (base top stored : ℕ) → key ≡ book.key → base ≡ book.base
-    → IsKept key base top stored book.history (may_leave book.store) → IsInOrder may_leave book
-kept_in_order may_leave book key base top stored k b kept =
-    let P : KeyOfCode → ℕ → Type 0 = λ key base. (counter_of base book.history ≤ capacity_of (hss_key_of key)) × IsSafe key (leases base book.history) (may_leave book.store) in
-    let here : P key base = (omega (arith, kept.counter_is, kept.counted.within), kept.safe) in
-    let both : P book.key book.base = subst (λ key. P key book.base) k (subst (λ base. P key base) b here) in
-    in_order may_leave book both.0 both.1
+-- what holds of another key, base and history that are the book's
+order_of : (book : BookState) (key : KeyOfCode) (base : ℕ) (history : List Entry) → book.key ≡ key → book.base ≡ base → book.history ≡ history
+    → HasImage key (counter_of base history) → IsSafe key (leases base history) (MayLeave book.store) → IsInOrder book
+order_of book key base history k b h counted safe =
+    let P : KeyOfCode → ℕ → List Entry → Type 0 = λ key base history. HasImage key (counter_of base history) × IsSafe key (leases base history) (MayLeave book.store) in
+    let all : P book.key book.base book.history = subst (λ key. P key book.base book.history) (sym k) (subst (λ base. P key base book.history) (sym b) (subst (λ history. P key base history) (sym h) (counted, safe))) in
+    in_order book all.0 all.1
 
-pub order_stays : {S : Type 0} (may_leave : S → List ℕ → Type 0) (failures : S → ℕ) (n : ℕ) (old : BookState S) (answer : Result LeaseState BookFault) (new : BookState S) (top : ℕ)
-    → top ≡ counter old → HasImage old.key top → new.key ≡ old.key → new.base ≡ old.base → IsInOrder may_leave old → Reserves may_leave failures n old answer new → IsInOrder may_leave new
-order_stays {S} may_leave failures n old answer new top at counted k b order is = by_answer answer is
-  where
-    kept : IsKept old.key old.base (counter old) (stored_of old.base old.history) old.history (may_leave old.store)
-    kept = record { counter_is = refl; stored_is = refl; counted = subst (λ (top : ℕ). HasImage old.key top) at counted; safe = order.safe }
+pub order_stays : (n : ℕ) (old : BookState) (answer : Result LeaseState BookFault) (new : BookState)
+    → new.key ≡ old.key → new.base ≡ old.base → IsInOrder old → Reserves n old answer new → IsInOrder new
+order_stays n old (Ok lease) new k b order (room, is, history, wrote) =
+    order_of new old.key old.base (old.history ++ Given n ∷ []) k b history (recount old.key (counter old) _ order.counted (omega (arith, room, counter-push old.base old.history (Given n))))
+    (safe_given old.key old.base n old.history old.store new.store room (leaves_written _ old.store new.store wrote))
+order_stays n old (Err (Exhausted left)) new k b order (full, is, same) = subst (λ (book : BookState). IsInOrder book) (sym same) order
+order_stays n old (Err OutOfMemory) new k b order (room, same) = subst (λ (book : BookState). IsInOrder book) (sym same) order
+order_stays n old (Err (Store start len)) new k b order (room, s, l, history, failed) =
+    order_of new old.key old.base (old.history ++ Burnt n ∷ []) k b history (recount old.key (counter old) _ order.counted (omega (arith, room, counter-push old.base old.history (Burnt n))))
+    (safe_burnt old.key old.base n old.history old.store new.store room order.safe (leaves_failed _ old.store new.store failed))
 
-    by_answer : (answer : Result LeaseState BookFault) → Reserves may_leave failures n old answer new → IsInOrder may_leave new
-    by_answer (Ok lease) (room, is, history, only, same) =
-        kept_in_order may_leave new old.key old.base _ _ (sym k) (sym b) (kept_given old.key old.base (counter old) (stored_of old.base old.history) n old.history new.history (may_leave old.store) (may_leave new.store) kept room history only.only)
-    by_answer (Err (Exhausted left)) (full, is, same) = subst (λ (book : BookState S). IsInOrder may_leave book) (sym same) order
-    by_answer (Err OutOfMemory) (room, same) = subst (λ (book : BookState S). IsInOrder may_leave book) (sym same) order
-    by_answer (Err (Store start len)) (room, s, l, history, only, raised) =
-        kept_in_order may_leave new old.key old.base _ _ (sym k) (sym b) (kept_burnt old.key old.base (counter old) (stored_of old.base old.history) n old.history new.history (may_leave old.store) (may_leave new.store) kept room history only)
-
-pub reserved_in_order : {S : Type 0} (may_leave : S → List ℕ → Type 0) (failures moment : S → ℕ) (left_since : S → ℕ → List ℕ → Type 0) (n : ℕ) (old : BookState S) (answer : Result LeaseState BookFault) (new : BookState S) (top : ℕ)
-    → top ≡ counter old → HasImage old.key top → IsInOrder may_leave old → new.key ≡ old.key → new.base ≡ old.base → ((opened : S) → IsOpenedFrom may_leave opened old → IsOpenedFrom may_leave opened new) → Reserves may_leave failures n old answer new
-    → AtEachMoment moment left_since old.store new.store (λ text. may_leave old.store text ⊎ (text ≡ image_of old.key (counter old + n)))
-    → ReservesInOrder may_leave failures moment left_since n old answer new
-reserved_in_order may_leave failures moment left_since n old answer new top at counted order k b o is moments = record {
+pub reserved_in_order : (n : ℕ) (old : BookState) (answer : Result LeaseState BookFault) (new : BookState)
+    → IsInOrder old → new.key ≡ old.key → new.base ≡ old.base → ((held : Texts) → IsOpenedFrom held old → IsOpenedFrom held new)
+    → Reserves n old answer new → ReservesInOrder n old answer new
+reserved_in_order n old answer new order k b o is = record {
   found = order;
   key = k;
   base = b;
   opened = o;
   reserves = is;
-  moments = moments;
-  left = order_stays may_leave failures n old answer new top at counted k b order is;
+  left = order_stays n old answer new k b order is;
 }

@@ -6,8 +6,7 @@ use Rattle.std.proofs.lemmas.Bool.Decides.{nat_tests}
 use Rattle.lms_hss.specs.declared.key.HssKey.{HssKey as KeyOfCode}
 use Rattle.lms_book.specs.declared.history.Entry.{Entry}
 use Rattle.lms_book.specs.History.{Range, leases, has_range, range_of}
-use Rattle.lms_book.specs.States.{LeaseState}
-use Rattle.lms_book.specs.Reservations.{ReservationsState}
+use Rattle.lms_book.specs.States.{LeaseState, ReservationsState}
 
 same_at : (range r : Range) → ((r.start == range.start) && (r.len == range.len)) ≡ true → r ≡ range
 same_at range r is =

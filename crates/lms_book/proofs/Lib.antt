@@ -1,13 +1,8 @@
-pub mod DeskSums
-pub mod Faultless
-pub mod Faults
-pub mod Fields
 pub mod Histories
-pub mod ImageCuts
-pub mod ImageParts
-pub mod Images
 pub mod InOrder
 pub mod Known
-pub mod LevelTexts
+pub mod Leaving
+pub mod Moments
 pub mod Openings
 pub mod Overlap
+pub mod Storing

@@ -1,5 +1,5 @@
--- What `reserve` and `open` answer, and what they change.
-use Rattle.std.specs.Prelude.{◌≡◌, ◌⊎◌, ℕ, ◌+◌, ◌-◌, ◌≤◌, ◌<◌, List, [], ◌∷◌, ◌++◌, Result, Ok, Err, Some}
+-- What `reserve` and `open` answer, and what they change; when a book is in order.
+use Rattle.std.specs.Prelude.{◌≡◌, ◌⊎◌, ℕ, ◌+◌, ◌-◌, ◌≤◌, ◌<◌, List, [], ◌∷◌, ◌++◌, AllPairs, Result, Ok, Err, Some}
 use Rattle.lms_spec.specs.Hss.{capacity_of}
 use Rattle.lms_hss.specs.Keys.{hss_key_of}
 use Rattle.lms_book.specs.declared.history.Entry.TheVariants.{Given, Burnt}
@@ -7,42 +7,66 @@ use Rattle.lms_book.specs.declared.refusals.BookFault.{BookFault}
 use Rattle.lms_book.specs.declared.refusals.BookFault.TheVariants as faults
 use Rattle.lms_book.specs.declared.refusals.OpenFault.{OpenFault}
 use Rattle.lms_book.specs.declared.refusals.OpenFault.TheVariants as open_faults
-use Rattle.lms_book.specs.Image.{image_of, fault_of}
-use Rattle.lms_book.specs.History.{counter_of}
-use Rattle.lms_book.specs.Stops.{IsOnlyStop, raised}
-use Rattle.lms_book.specs.States.{BookState, LeaseState}
+use Rattle.lms_image.specs.Image.{image_of, fault_of, HasImage}
+use Rattle.lms_book.specs.History.{Range, end, counter_of, leases}
+use Rattle.lms_book.specs.Stops.{Texts, StoreView, MayLeave, LeavesWithin, after_write, after_failure, FailsToWrite}
+use Rattle.lms_book.specs.States.{BookState, LeaseState, IsOpenedFrom, IsSafe}
 
 -- how many of the key's indices are used
-abbrev pub counter : {S : Type 0} → BookState S → ℕ
+abbrev pub counter : BookState → ℕ
 counter book = counter_of book.base book.history
 
 -- how many indices the book's key has
-abbrev pub capacity : {S : Type 0} → BookState S → ℕ
+abbrev pub capacity : BookState → ℕ
 capacity book = capacity_of (hss_key_of book.key)
 
 -- what a reservation of n indices answers and changes
-abbrev pub Reserves : {S : Type 0} → (S → List ℕ → Type 0) → (S → ℕ) → ℕ → BookState S → Result LeaseState BookFault → BookState S → Type 0
-Reserves may_leave failures n old (Ok lease) new =
+abbrev pub Reserves : ℕ → BookState → Result LeaseState BookFault → BookState → Type 0
+Reserves n old (Ok lease) new =
     (counter old + n ≤ capacity old)
     × (lease ≡ record { key = old.key; start = counter old; len = n })
     × (new.history ≡ old.history ++ Given n ∷ [])
-    × IsOnlyStop (image_of old.key (counter old + n)) (may_leave new.store)
-    × (failures new.store ≡ failures old.store)
-Reserves may_leave failures n old (Err (faults.Exhausted left)) new =
+    × (new.store ≡ after_write (image_of old.key (counter old + n)) old.store)
+Reserves n old (Err (faults.Exhausted left)) new =
     (capacity old < counter old + n) × (left ≡ capacity old - counter old) × (new ≡ old)
-Reserves may_leave failures n old (Err faults.OutOfMemory) new =
+Reserves n old (Err faults.OutOfMemory) new =
     (counter old + n ≤ capacity old) × (new ≡ old)
-Reserves may_leave failures n old (Err (faults.Store start len)) new =
+Reserves n old (Err (faults.Store start len)) new =
     (counter old + n ≤ capacity old)
     × (start ≡ counter old)
     × (len ≡ n)
     × (new.history ≡ old.history ++ Burnt n ∷ [])
-    × ((left : List ℕ) → may_leave new.store left → may_leave old.store left ⊎ (left ≡ image_of old.key (counter old + n)))
-    × (failures new.store ≡ raised (failures old.store))
+    × FailsToWrite (image_of old.key (counter old + n)) old.store new.store
 
 -- why a store was not opened: it failed, or one of its texts has this fault, or memory was refused
-abbrev pub HasCause : {S : Type 0} → (S → List ℕ → Type 0) → (S → Type 0) → (S → ℕ) → S → OpenFault → S → Type 0
-HasCause may_leave may_fail failures old open_faults.Store new = may_fail old × (failures new ≡ raised (failures old))
-HasCause may_leave may_fail failures old (open_faults.Image fault) new =
-    ((text : List ℕ) × may_leave old text × (fault_of text ≡ Some fault)) × (failures new ≡ failures old)
-HasCause may_leave may_fail failures old open_faults.OutOfMemory new = failures new ≡ failures old
+abbrev pub HasCause : Type 0 → StoreView → OpenFault → StoreView → Type 0
+HasCause may_fail old open_faults.Store new = may_fail × (new ≡ after_failure old)
+HasCause may_fail old (open_faults.Image fault) new =
+    ((text : List ℕ) × MayLeave old text × (fault_of text ≡ Some fault)) × (new ≡ old)
+HasCause may_fail old open_faults.OutOfMemory new = new ≡ old
+
+-- the second range begins at or past the end of the first
+abbrev pub Follows : Range → Range → Type 0
+Follows first second = end first ≤ second.start
+
+-- a book's key and counter have an image, so that the counter is within the key's capacity, and its leases are disjoint and below each
+-- counter that a stop could leave stored
+pub record IsInOrder (book : BookState) : Type 0 where
+  pub counted : HasImage book.key (counter book)
+  pub disjoint : AllPairs Follows (leases book.base book.history)
+  pub safe : IsSafe book.key (leases book.base book.history) (MayLeave book.store)
+
+-- a reservation of n indices: the book is in order before and after, key and base stay, and its opening goes on
+pub record ReservesInOrder (n : ℕ) (old : BookState) (answer : Result LeaseState BookFault) (new : BookState) : Type 0 where
+  pub found : IsInOrder old
+  pub key : new.key ≡ old.key
+  pub base : new.base ≡ old.base
+  pub opened : (held : Texts) → IsOpenedFrom held old → IsOpenedFrom held new
+  pub reserves : Reserves n old answer new
+  pub left : IsInOrder new
+
+-- a stop at any moment of a reservation leaves what it could leave before, or the image that counts its indices
+abbrev pub NoThirdTextIsLeft : Type 0
+NoThirdTextIsLeft =
+    (n : ℕ) (old : BookState) (answer : Result LeaseState BookFault) (new : BookState) → Reserves n old answer new
+    → (text : List ℕ) → LeavesWithin old.store new.store text → MayLeave old.store text ⊎ (text ≡ image_of old.key (counter old + n))

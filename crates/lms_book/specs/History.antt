@@ -39,6 +39,12 @@ last_end base (range ∷ ranges) = last_end (end range) ranges
 abbrev pub stored_of : ℕ → List Entry → ℕ
 stored_of base history = last_end base (leases base history)
 
+-- the last entry is given
+abbrev pub confirmed : List Entry → List Entry
+confirmed [] = []
+confirmed (last ∷ []) = Given (len_of last) ∷ []
+confirmed (first ∷ second ∷ more) = first ∷ confirmed (second ∷ more)
+
 -- whether this is one of the ranges
 abbrev pub has_range : Range → List Range → Bool
 has_range range ranges = list_any (λ r. (r.start == range.start) && (r.len == range.len)) ranges

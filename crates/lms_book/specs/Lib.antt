@@ -1,12 +1,7 @@
 pub mod Books
-pub mod Desks
 pub mod History
-pub mod Image
-pub mod ImageLaws
-pub mod ImageReading
 pub mod Lives
 pub mod Memory
 pub mod Refusals
-pub mod Reservations
 pub mod States
 pub mod Stops

@@ -1,15 +1,14 @@
 -- A store in memory: the texts that it held, and which calls are to fail.
-use Rattle.std.specs.Prelude.{◌≡◌, ◌⊎◌, ℕ, ◌-◌, ◌<◌, ◌≤◌, List, [], ◌∷◌, ◌++◌, length, get_or, drop, replicate, Option, Some, None, Bool, false, ◌||◌, Contains, Result, Ok, Err}
+use Rattle.std.specs.Prelude.{◌≡◌, ◌⊎◌, ℕ, ◌-◌, ◌<◌, ◌≤◌, List, [], ◌∷◌, ◌++◌, length, get_or, drop, replicate, Option, Some, None, Bool, false, ◌||◌, map, Result, Ok, Err}
 use Rattle.std.specs.Global.{Vec}
 use Rattle.std.proofs.Math.ListN.{set}
-use Rattle.std.proofs.Common.{inl, inr, arith, length-drop}
 use Rattle.lms_book.specs.declared.plans.Left.{Left}
 use Rattle.lms_book.specs.declared.plans.Left.TheVariants.{Old, New}
 use Rattle.lms_book.specs.declared.plans.Plan.{Plan}
 use Rattle.lms_book.specs.declared.store.ReadFault.{ReadFault}
 use Rattle.lms_book.specs.declared.store.ReadFault.TheVariants.{Device, OutOfMemory}
 use Rattle.lms_book.specs.declared.store.StoreFault.{StoreFault}
-use Rattle.lms_book.specs.Stops.{raised}
+use Rattle.lms_book.specs.Stops.{Texts, StoreView, only, raised}
 
 pub record MemoryState : Type 0 where
   -- what it held before each write
@@ -24,17 +23,14 @@ pub record MemoryState : Type 0 where
   -- whether the program stopped in a write
   pub stopped : Bool
 
--- the text is the one that is held
-abbrev pub Holds : MemoryState → List ℕ → Type 0
-Holds store left = store.text ≡ Some left
+-- a stop leaves the text that is held, and none where there is none
+abbrev pub held : Option (List ℕ) → Texts
+held None = Some []
+held (Some text) = only text
 
--- how many writes are recorded
-abbrev pub writes_made : MemoryState → ℕ
-writes_made store = length store.past
-
--- the text is held, or was at some moment since
-abbrev pub HeldSince : MemoryState → ℕ → List ℕ → Type 0
-HeldSince store since left = (store.text ≡ Some left) ⊎ Contains (drop since store.past) (Some left)
+-- what contracts see of it, as of any store
+abbrev pub view_of : MemoryState → StoreView
+view_of store = record { now = held store.text; past = map held store.past; failures = store.failures }
 
 -- nothing recorded, counted or planned
 pub record IsFresh (room : ℕ) (store : MemoryState) : Type 0 where
@@ -90,15 +86,15 @@ left_by Old store text = store
 left_by New store text = holding store text
 
 -- a write fails as it is planned to, or where the store can't take it, with the old text left
-abbrev pub FailsToWrite : MemoryState → List ℕ → MemoryState → Type 0
-FailsToWrite old text new =
+abbrev pub FailsAsPlanned : MemoryState → List ℕ → MemoryState → Type 0
+FailsAsPlanned old text new =
     (Takes old text × ((plan : Plan) × (next_write old ≡ Some plan) × (new ≡ failed (left_by plan.left (past_write old) text))))
     ⊎ ((¬ Takes old text) × (new ≡ failed (past_write old)))
 
 -- what a write of this text answers and leaves
 abbrev pub Replaces : {T : Type 0} → MemoryState → List ℕ → Result T StoreFault → MemoryState → Type 0
 Replaces old text (Ok done) new = Takes old text × (next_write old ≡ None) × (new ≡ holding (past_write old) text)
-Replaces old text (Err fault) new = FailsToWrite old text new
+Replaces old text (Err fault) new = FailsAsPlanned old text new
 
 -- the store can read, and the next read is not to fail
 pub record CanRead (store : MemoryState) : Type 0 where
@@ -115,9 +111,3 @@ abbrev pub Reads : MemoryState → Result (Vec ℕ) ReadFault → MemoryState �
 Reads old (Ok text) new = CanRead old × (old.text ≡ Some text.items) × (new ≡ past_read old)
 Reads old (Err Device) new = (¬ CanRead old) × (new ≡ failed (past_read old))
 Reads old (Err OutOfMemory) new = CanRead old × (new ≡ past_read old)
-
--- since the last write there is no other text
-pub only_text : (past : List (Option (List ℕ))) (text : Option (List ℕ)) (left : List ℕ)
-    → (text ≡ Some left) ⊎ Contains (drop (length past) past) (Some left) → text ≡ Some left
-only_text past text left (inl now) = now
-only_text past text left (inr (k, lt, is)) = absurd (omega (arith, length-drop (length past) past))

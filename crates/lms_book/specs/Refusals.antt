@@ -1,8 +1,7 @@
--- What a book's fault prints, and that of missing desks.
+-- What a book's fault prints.
 use Rattle.std.specs.Prelude.{ℕ, ◌+◌, ◌-◌, ◌^◌, min, List, ◌++◌, codes}
 use Rattle.std.specs.Fmt.{decimal}
 use Rattle.lms_book.specs.declared.refusals.BookFault.{BookFault}
-use Rattle.lms_book.specs.declared.refusals.MissingDesks.{MissingDesks}
 use Rattle.lms_book.specs.declared.refusals.BookFault.TheVariants.{Exhausted, OutOfMemory, Store}
 
 -- the last of `len` indices from `start` on, at most 2^64 - 1
@@ -15,7 +14,3 @@ text_of (Exhausted left) = codes "exhausted: " ++ (decimal left ++ codes " left"
 text_of OutOfMemory = codes "out of memory"
 text_of (Store start len) =
     codes "cannot write state: " ++ (decimal start ++ (codes " to " ++ (decimal (last_index start len) ++ codes " burnt")))
-
--- the bytes of the text where desks are missing
-abbrev pub text_of_missing : MissingDesks → List ℕ
-text_of_missing missing = codes "desks are missing: " ++ (decimal missing.present ++ codes " came")

@@ -1,20 +1,31 @@
--- What contracts see of a book and of a lease.
+-- What contracts see of a book, of its reservations and of a lease.
 use Rattle.std.specs.Prelude.{◌≡◌, ℕ, ◌+◌, ◌≤◌, List}
 use Rattle.std.specs.List.{AllByRecursion}
 use Rattle.lms_spec.specs.Hss.{capacity_of}
 use Rattle.lms_hss.specs.Keys.{hss_key_of}
 use Rattle.lms_hss.specs.declared.key.HssKey.{HssKey as KeyOfCode}
 use Rattle.lms_book.specs.declared.history.Entry.{Entry}
-use Rattle.lms_book.specs.Image.{HasImage, IsImageFrom}
+use Rattle.lms_image.specs.Image.{HasImage, IsImageFrom}
 use Rattle.lms_book.specs.History.{Range, end, counter_of, leases, stored_of}
+use Rattle.lms_book.specs.Stops.{Texts, StoreView, MayLeave}
 use Rattle.lms_book.specs.Lives.{IsOpened, opening_of}
 
--- a key, the counter that was read, the reservations since, and the store
-pub record BookState (S : Type 0) : Type 0 where
+-- a key, the counter that was read, and the reservations since
+pub record ReservationsState : Type 0 where
   pub key : KeyOfCode
   pub base : ℕ
   pub history : List Entry
-  pub store : S
+
+-- these, and what is seen of the store
+pub record BookState : Type 0 where
+  pub key : KeyOfCode
+  pub base : ℕ
+  pub history : List Entry
+  pub store : StoreView
+
+-- the reservations of a book
+abbrev pub reservations_of : BookState → ReservationsState
+reservations_of book = record { key = book.key; base = book.base; history = book.history }
 
 -- a range of a key's indices
 pub record LeaseState : Type 0 where
@@ -32,13 +43,19 @@ pub record IsLease (key : KeyOfCode) (start len : ℕ) : Type 0 where
 abbrev pub IsSafe : KeyOfCode → List Range → (List ℕ → Type 0) → Type 0
 IsSafe key ranges may_leave = AllByRecursion (λ range. (left : List ℕ) → may_leave left → IsImageFrom key (end range) left) ranges
 
--- the numbers that a book keeps are those of its history, and the store is never behind a lease
-pub record IsKept (key : KeyOfCode) (base counter stored : ℕ) (history : List Entry) (may_leave : List ℕ → Type 0) : Type 0 where
+-- the running numbers are those of the history, and the key has so many indices
+pub record IsKept (key : KeyOfCode) (base counter stored : ℕ) (history : List Entry) : Type 0 where
   pub counter_is : counter ≡ counter_of base history
   pub stored_is : stored ≡ stored_of base history
   pub counted : HasImage key counter
-  pub safe : IsSafe key (leases base history) may_leave
 
--- what a book did since this store was opened is an opening of which the law of lives speaks, and leaves what its store may leave now
-abbrev pub IsOpenedFrom : {S : Type 0} → (S → List ℕ → Type 0) → S → BookState S → Type 0
-IsOpenedFrom may_leave opened book = IsOpened may_leave (opening_of opened book.key book.base book.history) book.store
+-- the store is never behind a lease; and since it held some texts, perhaps any, what was reserved is an opening of which the law of
+-- lives speaks
+pub record IsBackedBy (reserved : ReservationsState) (store : StoreView) : Type 0 where
+  pub safe : IsSafe reserved.key (leases reserved.base reserved.history) (MayLeave store)
+  pub held : Texts
+  pub opened : IsOpened (opening_of held reserved.key reserved.base reserved.history) store.now
+
+-- what a book did since these texts were held is an opening of which the law of lives speaks, and leaves what its store may leave now
+abbrev pub IsOpenedFrom : Texts → BookState → Type 0
+IsOpenedFrom held book = IsOpened (opening_of held book.key book.base book.history) book.store.now

@@ -1,33 +1,78 @@
--- What a stop of the program leaves in a store, now and at each moment of a call.
-use Rattle.std.specs.Prelude.{◌≡◌, ◌⊎◌, ℕ, ◌+◌, ◌^◌, ◌-◌, ◌≤◌, max, min, List, Result, Ok, Err}
+-- What a store is to contracts: what a stop of the program leaves in it, now and at each moment before, and how many calls
+-- failed.
+use Rattle.std.specs.Prelude.{◌≡◌, ◌⊎◌, ℕ, ◌+◌, ◌^◌, ◌-◌, max, min, List, [], ◌∷◌, ◌++◌, Contains, drop, length, Option, Some, None, Result, Ok, Err}
+use Rattle.std.specs.Global.{Vec}
 use Rattle.lms_book.specs.declared.store.ReadFault.{ReadFault}
 use Rattle.lms_book.specs.declared.store.ReadFault.TheVariants.{Device, OutOfMemory}
 
--- the same texts, before and after
-pub record HasSameStops (old new : List ℕ → Type 0) : Type 0 where
-  pub only : (left : List ℕ) → new left → old left
-  pub all : (left : List ℕ) → old left → new left
+-- the texts of which a stop leaves one, and none where there is none; `None` where it may be any text
+abbrev pub Texts : Type 0
+Texts = Option (List (List ℕ))
 
--- a stop leaves this text alone
-pub record IsOnlyStop (text : List ℕ) (may_leave : List ℕ → Type 0) : Type 0 where
-  pub only : (left : List ℕ) → may_leave left → left ≡ text
-  pub there : may_leave text
+abbrev pub IsAmong : Texts → List ℕ → Type 0
+IsAmong None text = Unit {0}
+IsAmong (Some texts) text = Contains texts text
 
--- at each moment from old to new a stop leaves what has P
-pub record AtEachMoment {S : Type 0} (moment : S → ℕ) (left_since : S → ℕ → List ℕ → Type 0) (old new : S) (P : List ℕ → Type 0) : Type 0 where
-  pub later : moment old ≤ moment new
-  pub each : (left : List ℕ) → left_since new (moment old) left → P left
-  -- for a run of calls that began earlier
-  pub before : (since : ℕ) (left : List ℕ) → since ≤ moment old → left_since new since left → left_since old since left ⊎ P left
-  -- nothing is forgotten
-  pub keeps : (since : ℕ) (left : List ℕ) → since ≤ moment old → left_since old since left → left_since new since left
+-- this text alone
+abbrev pub only : List ℕ → Texts
+only text = Some (text ∷ [])
+
+-- this text, or one of those
+abbrev pub or_else : List ℕ → Texts → Texts
+or_else text None = None
+or_else text (Some texts) = Some (text ∷ texts)
+
+-- what contracts see of a store: the texts that a stop could leave now, those that it could leave at each moment before, the first
+-- moment first, and how many calls failed
+pub record StoreView : Type 0 where
+  pub now : Texts
+  pub past : List Texts
+  pub failures : ℕ
+
+-- a stop now could leave this text
+abbrev pub MayLeave : StoreView → List ℕ → Type 0
+MayLeave store text = IsAmong store.now text
 
 -- one failure more; at 2^64 - 1 the count stays
 abbrev pub raised : ℕ → ℕ
 raised n = max n (min (n + 1) (2 ^ 64 - 1))
 
--- a read counts a failure exactly where the device failed
-abbrev pub CountsRead : {T : Type 0} → ℕ → ℕ → Result T ReadFault → Type 0
-CountsRead old new (Ok text) = new ≡ old
-CountsRead old new (Err Device) = new ≡ raised old
-CountsRead old new (Err OutOfMemory) = new ≡ old
+-- a moment later a stop leaves one of these
+abbrev pub moved : Texts → StoreView → StoreView
+moved texts store = record store { now = texts; past = store.past ++ store.now ∷ [] }
+
+-- this text was stored for certain
+abbrev pub after_write : List ℕ → StoreView → StoreView
+after_write text store = moved (only text) store
+
+-- a failure is counted
+abbrev pub after_failure : StoreView → StoreView
+after_failure store = record store { failures = raised store.failures }
+
+-- what a stop leaves once a write of this text began and failed: the text, or the text or what it left before
+abbrev pub IsLeftBy : List ℕ → Texts → Texts → Type 0
+IsLeftBy text before after = (after ≡ only text) ⊎ (after ≡ or_else text before)
+
+-- a write of this text failed, before it began or later
+abbrev pub FailsToWrite : List ℕ → StoreView → StoreView → Type 0
+FailsToWrite text old new =
+    (new ≡ after_failure old) ⊎ ((texts : Texts) × IsLeftBy text old.now texts × (new ≡ after_failure (moved texts old)))
+
+-- what a write of this text answers and leaves
+abbrev pub WritesStore : {T E : Type 0} → List ℕ → StoreView → Result T E → StoreView → Type 0
+WritesStore text old (Ok done) new = new ≡ after_write text old
+WritesStore text old (Err fault) new = FailsToWrite text old new
+
+-- what a read answers and leaves, where the device may fail or may not
+abbrev pub ReadsStore : Type 0 → StoreView → Result (Vec ℕ) ReadFault → StoreView → Type 0
+ReadsStore may_fail old (Ok text) new = MayLeave old text.items × (new ≡ old)
+ReadsStore may_fail old (Err Device) new = may_fail × (new ≡ after_failure old)
+ReadsStore may_fail old (Err OutOfMemory) new = new ≡ old
+
+-- the moments of a call, from what the store was to what it is: those that the call put behind the earlier ones, and the one now
+abbrev pub moments_since : StoreView → StoreView → List Texts
+moments_since old new = drop (length old.past) new.past ++ new.now ∷ []
+
+-- a stop at some moment of a call could leave this text
+abbrev pub LeavesWithin : StoreView → StoreView → List ℕ → Type 0
+LeavesWithin old new text = (texts : Texts) × Contains (moments_since old new) texts × IsAmong texts text

@@ -1,15 +1,17 @@
 //! Reservations one after another, each stored before its lease is given.
-ghost use Rattle.std.specs.Prelude.{◌≡◌, ◌⊎◌, ◌+◌, ◌≤◌, ◌↔◌, [], List, ℕ, IfOk, IfErr, IsTrue, Contains};
+ghost use Rattle.std.specs.Prelude.{◌≡◌, ◌+◌, ◌≤◌, ◌↔◌, [], IfOk, IfErr, IsTrue, Contains};
 ghost use Rattle.lms_spec.specs.Hss.{capacity_of};
 ghost use Rattle.lms_hss.specs.Keys.{hss_key_of};
 
-use crate::history::Entry;
-use crate::image::{Image, decode_image, encode_image};
+use crate::history::is_given;
 use crate::refusals::{BookFault, OpenFault};
+use crate::reservations::Reservations;
 use crate::store::{ReadFault, StateStore, StoreFault};
-use lms_hss::HssKey;
+use lms_hss::{HssKey, same_key};
+use lms_image::{Image, decode_image, encode_image};
 use std::alloc::Global;
 use std::marker::Model;
+use std::ops::Deref;
 
 /// Indices of a key that were given, 1 to 1024 of them, and are never given again. A lease can't be copied, and can't
 /// be let go: it has to be spent, by `give_back` of its book or by `end`. `Book::reserve` alone makes one.
@@ -64,42 +66,49 @@ impl Lease {
     }
 }
 
-/// The key and the counter that a store holds, with the reservations since it was opened. Contracts see the key, the
-/// counter that was read, the reservations and the store.
+/// What was reserved since a store was opened, and the store. Contracts see the key, the counter that was read, the
+/// reservations, and what a stop leaves in the store.
+///
+/// `key`, `base`, `history`, `counter`, `stored` and `knows` are those of its `Reservations`.
 #[derive(Drop)]
 pub struct Book<S: StateStore> {
     store: S,
-    key: HssKey,
-    base: u64,
-    counter: u64,
-    stored: u64,
-    history: Vec<Entry>,
+    reservations: Reservations,
 }
 
 impl<S: StateStore> Model for Book<S> {
-    ghost use Rattle.lms_book.specs.Lives.{IsOpened, opening_of};
-    ghost use Rattle.lms_book.specs.States.{BookState, IsKept};
+    ghost use Rattle.lms_book.specs.States.{BookState, IsBackedBy};
 
-    ghost Value = { BookState S };
+    ghost Value = { BookState };
 
     ghost view = { λ book. record {
-      key = book.key;
-      base = book.base;
-      history = book.history.items;
-      store = book.store;
+      key = book.reservations.key;
+      base = book.reservations.base;
+      history = book.reservations.history;
+      store = S.seen book.store;
     } };
 
-    ghost invariant = { λ book.
-        IsKept book.key book.base book.counter book.stored book.history.items (S.may_leave book.store)
-        × ((opened : S) × IsOpened S.may_leave (opening_of opened book.key book.base book.history.items) book.store) };
+    ghost invariant = { λ book. IsBackedBy book.reservations (S.seen book.store) };
+}
+
+impl<S: StateStore> Deref for Book<S> {
+    type Target = Reservations;
+
+    ghost use Rattle.lms_book.specs.States.{reservations_of};
+
+    ghost deref_gives = { λ book reservations. reservations ≡ reservations_of book };
+
+    fn deref(&self) -> &Reservations {
+        &self.reservations
+    }
 }
 
 impl<S: StateStore> Book<S> {
-    ghost use Rattle.lms_book.specs.History.{leases, range_of, stored_of};
-    ghost use Rattle.lms_book.specs.Image.{image_of, HasImage};
-    ghost use Rattle.lms_book.specs.Stops.{HasSameStops, AtEachMoment};
-    ghost use Rattle.lms_book.specs.States.{IsOpenedFrom, IsSafe};
-    ghost use Rattle.lms_book.specs.Books.{counter, Reserves, HasCause};
+    ghost use Rattle.lms_image.specs.Image.{image_of, HasImage};
+    ghost use Rattle.lms_book.specs.History.{leases, range_of};
+    ghost use Rattle.lms_book.specs.Stops.{Texts, MayLeave};
+    ghost use Rattle.lms_book.specs.States.{IsOpenedFrom, reservations_of};
+    ghost use Rattle.lms_book.specs.Books.{Reserves, HasCause, IsInOrder};
 
     /// Opens a store by the image that it holds, which it only reads: a stop at any moment leaves what it could leave
     /// before.
@@ -107,17 +116,12 @@ impl<S: StateStore> Book<S> {
     /// An `Err` hands the store back: `Store` where it failed, `Image` with the first fault of its text, `OutOfMemory`
     /// where memory for the text is refused.
     pub fn open(alloc: Global, store: S) -> Result<Self, (OpenFault, S)>
-        ensures opened { IfOk result (IsOpenedFrom S.may_leave store) }
+        ensures opened { IfOk result (IsOpenedFrom (S.seen store).now) }
         ensures fresh { IfOk result (λ book. book.history ≡ []) }
-        ensures found { IfOk result (λ book. S.may_leave store (image_of book.key book.base)) }
+        ensures found { IfOk result (λ book. MayLeave (S.seen store) (image_of book.key book.base)) }
         ensures counted { IfOk result (λ book. HasImage book.key book.base) }
-        ensures failures { IfOk result (λ book. S.failures book.store ≡ S.failures store) }
-        ensures stops { IfOk result (λ book. HasSameStops (S.may_leave store) (S.may_leave book.store)) }
-        ensures moments { IfOk result (λ book.
-            AtEachMoment S.moment S.left_since store book.store (S.may_leave store)) }
-        ensures err { IfErr result (λ e. HasCause S.may_leave S.may_fail S.failures store e.0 e.1) }
-        ensures err_stops { IfErr result (λ e. HasSameStops (S.may_leave store) (S.may_leave e.1)) }
-        ensures err_moments { IfErr result (λ e. AtEachMoment S.moment S.left_since store e.1 (S.may_leave store)) }
+        ensures store { IfOk result (λ book. book.store ≡ S.seen store) }
+        ensures err { IfErr result (λ e. HasCause (S.may_fail store) (S.seen store) e.0 (S.seen e.1)) }
     {
         let mut store = store;
         let text = match store.read(alloc) {
@@ -128,61 +132,21 @@ impl<S: StateStore> Book<S> {
         match decode_image(&text) {
             Ok(image) => Ok(Book {
                 store,
-                key: image.key,
-                base: image.counter,
-                counter: image.counter,
-                stored: image.counter,
-                history: Vec::new(alloc),
+                reservations: Reservations::none_since(alloc, image.key, image.counter),
             }),
             Err(fault) => Err((OpenFault::Image(fault), store)),
         }
     }
 
-    /// The key whose indices are given.
-    pub fn key(&self) -> HssKey
-        ensures key { result ≡ self.now.key }
+    /// What it has reserved. Its counter is within the key's capacity, and its leases are disjoint and below each counter
+    /// that a stop could leave stored.
+    pub fn reservations(&self) -> &Reservations
+        ensures all { result.now ≡ reservations_of self.now }
+        ensures in_order { IsInOrder self.now }
     {
-        self.key
-    }
-
-    /// The counter that was read at the opening.
-    pub fn base(&self) -> u64
-        ensures { result ≡ self.now.base }
-    {
-        self.base
-    }
-
-    /// The reservations since the opening.
-    pub fn history(&self) -> &[Entry]
-        ensures { result.now ≡ self.now.history }
-    {
-        &self.history
-    }
-
-    /// How many of the key's indices are used: the base and the lengths of all reservations.
-    pub fn counter(&self) -> u64
-        ensures counter { result ≡ counter self.now }
-        ensures within { result ≤ capacity_of (hss_key_of self.now.key) }
-        ensures counted { HasImage self.now.key result }
-    {
-        self.counter
-    }
-
-    /// The counter of the last image that the store took for certain, the base before any. What a stop leaves is never
-    /// behind a lease.
-    pub fn stored(&self) -> u64
-        ensures stored { result ≡ stored_of self.now.base self.now.history }
-        ensures safe { IsSafe self.now.key (leases self.now.base self.now.history) (S.may_leave self.now.store) }
-    {
-        self.stored
-    }
-
-    /// Whether the lease is of this key and its range was given since the opening.
-    pub fn knows(&self, lease: &Lease) -> bool
-        ensures { IsTrue result ↔ ((lease.now.key ≡ self.now.key)
-            × Contains (leases self.now.base self.now.history) (range_of lease.now.start lease.now.len)) }
-    {
-        self.reservations().knows(lease)
+        // Its clauses bound the counter.
+        let _counter = self.reservations.counter();
+        &self.reservations
     }
 
     /// Reserves the next n indices, 1 to 1024. An image that counts them is stored before the lease is given.
@@ -196,41 +160,28 @@ impl<S: StateStore> Book<S> {
         requires at_most { n ≤ 1024 }
         ensures key { self.new.key ≡ self.old.key }
         ensures base { self.new.base ≡ self.old.base }
-        ensures opened { (opened : S) → IsOpenedFrom S.may_leave opened self.old → IsOpenedFrom S.may_leave opened self.new }
-        ensures reserves { Reserves S.may_leave S.failures n self.old result self.new }
-        ensures moments { AtEachMoment S.moment S.left_since self.old.store self.new.store
-            (λ left. S.may_leave self.old.store left ⊎ (left ≡ image_of self.old.key (counter self.old + n))) }
+        ensures opened { (held : Texts) → IsOpenedFrom held self.old → IsOpenedFrom held self.new }
+        ensures reserves { Reserves n self.old result self.new }
     {
-        let left = self.key.capacity() - self.counter;
+        let key = self.reservations.key();
+        let start = self.reservations.counter();
+        let left = key.capacity() - start;
         if n > left {
             return Err(BookFault::Exhausted { left });
         }
-        if self.history.reserve(1).is_err() {
+        let Ok(()) = self.reservations.burn(n) else {
             return Err(BookFault::OutOfMemory);
-        }
-        let start = self.counter;
-        let image = Image {
-            key: self.key,
-            counter: start + n,
         };
-        let encoded = encode_image(&image);
-        let text = encoded.as_slice();
-        match self.store.replace(text) {
+        let image = encode_image(&Image {
+            key,
+            counter: start + n,
+        });
+        match self.store.replace(image.as_slice()) {
             Ok(()) => {
-                self.history.push_reserved(Entry::Given { len: n });
-                self.counter = start + n;
-                self.stored = start + n;
-                Ok(Lease {
-                    key: self.key,
-                    start,
-                    len: n,
-                })
+                self.reservations.confirm();
+                Ok(Lease { key, start, len: n })
             }
-            Err(StoreFault) => {
-                self.history.push_reserved(Entry::Burnt { len: n });
-                self.counter = start + n;
-                Err(BookFault::Store { start, len: n })
-            }
+            Err(StoreFault) => Err(BookFault::Store { start, len: n }),
         }
     }
 
@@ -240,22 +191,31 @@ impl<S: StateStore> Book<S> {
     }
 
     /// Ends the book, and hands the store back as it is: a stop at any moment leaves what it could leave before. What the
-    /// book did is an opening of which the law `leases_never_overlap` speaks; that it is one of the store that was opened,
+    /// book did is an opening of which the law `leases_never_overlap` speaks; that it began with what the store held,
     /// `open` and `reserve` say.
     pub fn close(self) -> S
-        ensures store { result ≡ self.store }
-        ensures opening { (opened : S) × IsOpenedFrom S.may_leave opened self }
-        ensures moments { AtEachMoment S.moment S.left_since self.store result (S.may_leave self.store) }
+        ensures store { S.seen result ≡ self.store }
+        ensures opening { (held : Texts) × IsOpenedFrom held self }
     {
         let Book {
             store,
-            key: _,
-            base: _,
-            counter: _,
-            stored: _,
-            history,
+            reservations: _,
         } = self;
-        drop(history);
         store
+    }
+}
+
+impl Reservations {
+    ghost use Rattle.lms_book.specs.History.{leases, range_of};
+
+    /// Whether the lease is of this key and its range was given since the opening.
+    pub fn knows(&self, lease: &Lease) -> bool
+        ensures { IsTrue result ↔ ((lease.now.key ≡ self.now.key)
+            × Contains (leases self.now.base self.now.history) (range_of lease.now.start lease.now.len)) }
+    {
+        // Its clauses bound the counter.
+        let _counter = self.counter();
+        same_key(&lease.key(), &self.key())
+            && is_given(self.history(), self.base(), lease.start(), lease.len())
     }
 }

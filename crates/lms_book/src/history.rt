@@ -1,16 +1,26 @@
 //! The reservations of a book, one after another.
 ghost use Rattle.std.specs.Prelude.{◌≡◌, ◌<◌, ◌^◌};
-ghost use Rattle.lms_book.specs.History.{counter_of, leases, has_range, range_of};
-ghost use Rattle.lms_book.specs.Desks.{given_of, burnt_of};
+ghost use Rattle.lms_book.specs.History.{counter_of, leases, len_of, has_range, range_of};
 
 /// One reservation of `len` indices.
 #[derive(Clone, Copy, Debug, PartialEq, Eq)]
 pub enum Entry {
     /// Given as a lease.
     Given { len: u64 },
-    /// Given to nobody by this book, since their write failed. A later opening may give them, where the store kept an
-    /// older image.
+    /// Given to nobody by this book: their image was not stored for certain. A later opening may give them, where the store
+    /// kept an older image.
     Burnt { len: u64 },
+}
+
+impl Entry {
+    /// How many indices were reserved.
+    pub(crate) fn len(&self) -> u64
+        ensures { result ≡ len_of self.now }
+    {
+        match *self {
+            Entry::Given { len } | Entry::Burnt { len } => len,
+        }
+    }
 }
 
 /// Whether one of the leases has this range, where the reservations begin at `base`.
@@ -31,22 +41,4 @@ pub(crate) fn is_given(history: &[Entry], base: u64, start: u64, len: u64) -> bo
         }
     }
     false
-}
-
-/// How many indices the reservations gave, and how many they burnt.
-pub(crate) fn sums_in(history: &[Entry]) -> (u64, u64)
-    requires given { given_of history.now < 2 ^ 64 }
-    requires burnt { burnt_of history.now < 2 ^ 64 }
-    ensures given { result.0 ≡ given_of history.now }
-    ensures burnt { result.1 ≡ burnt_of history.now }
-{
-    let mut given = 0;
-    let mut burnt = 0;
-    for entry in history {
-        match *entry {
-            Entry::Given { len } => given += len,
-            Entry::Burnt { len } => burnt += len,
-        }
-    }
-    (given, burnt)
 }

@@ -179,32 +179,16 @@ impl MemoryStore {
 }
 
 impl StateStore for MemoryStore {
-    ghost use Rattle.std.specs.Prelude.{◌⊎◌, IfErr, List, ℕ};
-    ghost use Rattle.std.proofs.Common.{inl};
-    ghost use Rattle.lms_book.specs.Memory.{Holds, MayFail, writes_made, HeldSince, only_text, Reads, Replaces};
-    ghost use Rattle.lms_book.specs.Stops.{HasSameStops, IsOnlyStop, AtEachMoment, raised, CountsRead};
+    ghost use Rattle.lms_book.specs.Memory.{MayFail, view_of, Reads, Replaces};
+    ghost use Rattle.lms_book.specs.Stops.{ReadsStore, WritesStore};
 
-    ghost may_leave = { Holds };
-
-    ghost moment = { writes_made };
-
-    ghost left_since = { HeldSince };
-
-    ghost failures = { λ store. store.failures };
+    ghost seen = { view_of };
 
     ghost may_fail = { MayFail };
 
-    ghost counts_now = { λ store since left le now. inl now };
-
-    ghost only_now = { λ store left was. only_text store.past store.text left was };
-
     /// Fails where it is told to, where the program stopped, and while it holds no text.
     fn read(&mut self, alloc: Global) -> Result<Vec<u8>, ReadFault>
-        ensures text { IfOk result (λ text. Holds self.old text.items) }
-        ensures stops { HasSameStops (Holds self.old) (Holds self.new) }
-        ensures moments { AtEachMoment writes_made HeldSince self.old self.new (Holds self.old) }
-        ensures failures { CountsRead self.old.failures self.new.failures result }
-        ensures cause { IfErr result (λ fault. fault ≡ ReadFault.Device → MayFail self.old) }
+        ensures reads { ReadsStore (MayFail self.old) (view_of self.old) result (view_of self.new) }
         ensures planned { Reads self.old result self.new }
     {
         let fails = self.next_read();
@@ -221,12 +205,7 @@ impl StateStore for MemoryStore {
     /// Takes no memory. Fails where it is told to and where the program stopped; and, with the old text left, where its
     /// record is full and at a text of over 256 bytes.
     fn replace(&mut self, text: &[u8]) -> Result<(), StoreFault>
-        ensures ok { OnOk result (IsOnlyStop text.now (Holds self.new)) }
-        ensures err { OnErr result ((left : List ℕ) → Holds self.new left → Holds self.old left ⊎ (left ≡ text.now)) }
-        ensures moments { AtEachMoment writes_made HeldSince self.old self.new
-            (λ left. Holds self.old left ⊎ (left ≡ text.now)) }
-        ensures ok_failures { OnOk result (self.new.failures ≡ self.old.failures) }
-        ensures err_failures { OnErr result (self.new.failures ≡ raised self.old.failures) }
+        ensures writes { WritesStore text.now (view_of self.old) result (view_of self.new) }
         ensures planned { Replaces self.old text.now result self.new }
     {
         let takes = self.takes(text);

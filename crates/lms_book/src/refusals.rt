@@ -1,8 +1,8 @@
-//! Why a store was not opened, why no lease was given, and why a shared book was not settled.
+//! Why a store was not opened, and why no lease was given.
 ghost use Rattle.std.specs.Prelude.{◌≡◌, Some};
-ghost use Rattle.lms_book.specs.Refusals.{last_index as last_index_of, text_of, text_of_missing};
+ghost use Rattle.lms_book.specs.Refusals.{last_index as last_index_of, text_of};
 
-use crate::image::ImageFault;
+use lms_image::ImageFault;
 use std::{error, fmt};
 use thiserror::Error;
 
@@ -47,24 +47,6 @@ impl fmt::Display for BookFault {
 }
 
 impl error::Error for BookFault {}
-
-/// Not all desks of a shared book came to be settled.
-#[derive(Clone, Copy, Debug, PartialEq, Eq)]
-pub struct MissingDesks {
-    /// How many came.
-    pub present: usize,
-}
-
-impl fmt::Display for MissingDesks {
-    ghost output = { λ missing. Some (text_of_missing missing) };
-
-    fn fmt<W: fmt::Write>(&self, f: &mut fmt::Formatter<W>) -> fmt::Result {
-        let present = self.present;
-        write!(f, "desks are missing: {present} came")
-    }
-}
-
-impl error::Error for MissingDesks {}
 
 /// The last of `len` indices from `start` on, at most 2^64 - 1.
 fn last_index(start: u64, len: u64) -> u64

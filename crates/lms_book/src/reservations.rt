@@ -1,38 +1,52 @@
-//! What a book has reserved, without its store.
-ghost use Rattle.std.specs.Prelude.{◌≡◌, ◌≤◌, ◌↔◌, IsTrue, Contains};
+//! What a book has reserved, apart from its store.
+ghost use Rattle.std.specs.Prelude.{◌≡◌, ◌+◌, ◌-◌, ◌≤◌, [], ◌∷◌, ◌++◌, OnOk, OnErr};
 ghost use Rattle.lms_spec.specs.Hss.{capacity_of};
 ghost use Rattle.lms_hss.specs.Keys.{hss_key_of};
-ghost use Rattle.lms_book.specs.History.{counter_of, leases, range_of, stored_of};
-ghost use Rattle.lms_book.specs.Image.{HasImage};
+ghost use Rattle.lms_image.specs.Image.{HasImage};
+ghost use Rattle.lms_book.specs.declared.history.Entry.TheVariants.{Burnt};
+ghost use Rattle.lms_book.specs.History.{counter_of, confirmed, stored_of};
 
-use crate::book::{Book, Lease};
-use crate::history::{Entry, is_given};
-use crate::store::StateStore;
-use lms_hss::{HssKey, same_key};
+use crate::history::Entry;
+use lms_hss::HssKey;
+use lms_params::OutOfMemory;
+use std::alloc::Global;
 use std::marker::Model;
 
-/// A book's key, the counter that it read and its reservations since, without its store, so that `SharedBook::with` can
-/// lend it.
+/// A key, the counter that was read when its store was opened, and the reservations since. Contracts see these three.
 #[derive(Drop)]
-pub struct Reservations<'b> {
+pub struct Reservations {
     key: HssKey,
     base: u64,
     counter: u64,
     stored: u64,
-    history: &'b [Entry],
+    history: Vec<Entry>,
 }
 
-impl<'b> Model for Reservations<'b> {
-    ghost use Rattle.lms_book.specs.Reservations.{ReservationsState, IsReserved};
+impl Model for Reservations {
+    ghost use Rattle.lms_book.specs.States.{ReservationsState, IsKept};
 
     ghost Value = { ReservationsState };
 
-    ghost view = { λ r. record { key = r.key; base = r.base; history = r.history.now } };
+    ghost view = { λ r. record { key = r.key; base = r.base; history = r.history.items } };
 
-    ghost invariant = { λ r. IsReserved r.key r.base r.counter r.stored r.history.now };
+    ghost invariant = { λ r. IsKept r.key r.base r.counter r.stored r.history.items };
 }
 
-impl<'b> Reservations<'b> {
+impl Reservations {
+    /// None yet of this key, with so many indices used before.
+    pub(crate) fn none_since(alloc: Global, key: HssKey, base: u64) -> Self
+        requires { HasImage key base }
+        ensures { result ≡ record { key = key; base = base; history = [] } }
+    {
+        Reservations {
+            key,
+            base,
+            counter: base,
+            stored: base,
+            history: Vec::new(alloc),
+        }
+    }
+
     /// The key whose indices are given.
     pub fn key(&self) -> HssKey
         ensures { result ≡ self.now.key }
@@ -51,7 +65,7 @@ impl<'b> Reservations<'b> {
     pub fn history(&self) -> &[Entry]
         ensures { result.now ≡ self.now.history }
     {
-        self.history
+        &self.history
     }
 
     /// How many of the key's indices are used: the base and the lengths of all reservations.
@@ -70,30 +84,25 @@ impl<'b> Reservations<'b> {
         self.stored
     }
 
-    /// Whether the lease is of this key and its range was given since the opening.
-    pub fn knows(&self, lease: &Lease) -> bool
-        ensures { IsTrue result ↔ ((lease.now.key ≡ self.now.key)
-            × Contains (leases self.now.base self.now.history) (range_of lease.now.start lease.now.len)) }
+    /// Reserves the next n indices as burnt, which they are until their image is stored. `OutOfMemory` where memory for
+    /// the entry is refused; then nothing changes.
+    pub(crate) fn burn(&mut self, n: u64) -> Result<(), OutOfMemory>
+        requires { counter_of self.old.base self.old.history + n ≤ capacity_of (hss_key_of self.old.key) }
+        ensures ok { OnOk result (self.new ≡ record self.old { history = self.old.history ++ Burnt n ∷ [] }) }
+        ensures err { OnErr result (self.new ≡ self.old) }
     {
-        same_key(&lease.key(), &self.key)
-            && is_given(self.history, self.base, lease.start(), lease.len())
+        self.history.push(Entry::Burnt { len: n })?;
+        self.counter += n;
+        Ok(())
     }
-}
 
-impl<S: StateStore> Book<S> {
-    ghost use Rattle.lms_book.specs.Reservations.{reservations_of, IsInOrder};
-
-    /// What it has reserved, without its store.
-    pub fn reservations(&self) -> Reservations<'_>
-        ensures all { result ≡ reservations_of self.now }
-        ensures in_order { IsInOrder S.may_leave self.now }
+    /// The indices that were burnt last are given, now that their image is stored.
+    pub(crate) fn confirm(&mut self)
+        ensures { self.new ≡ record self.old { history = confirmed self.old.history } }
     {
-        Reservations {
-            key: self.key(),
-            base: self.base(),
-            counter: self.counter(),
-            stored: self.stored(),
-            history: self.history(),
+        if let Some(last) = self.history.last_mut() {
+            *last = Entry::Given { len: last.len() };
+            self.stored = self.counter;
         }
     }
 }

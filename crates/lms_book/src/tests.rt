@@ -1,10 +1,8 @@
 ghost use Rattle.std.specs.Prelude.{◌≡◌, ◌≤◌, [], IfOk};
 
-use crate::{
-    Book, BookFault, Entry, Image, ImageFault, Left, MemoryStore, OpenFault, ReadFault, StoreFault,
-    encode_image,
-};
+use crate::{Book, BookFault, Entry, Left, MemoryStore, OpenFault, ReadFault, StoreFault};
 use lms_hss::{HssKey, Levels};
+use lms_image::{Image, ImageFault, encode_image};
 use lms_params::{LmsType, OtsType};
 use std::alloc::Global;
 use std::test::Fail;
@@ -43,16 +41,11 @@ fn store_at(alloc: Global, key: HssKey, counter: u64) -> Result<MemoryStore, Fai
 }
 
 /// A store that holds the image of 5/8 and this counter.
-pub(crate) fn small_store(alloc: Global, counter: u64) -> Result<MemoryStore, Fail> {
+fn small_store(alloc: Global, counter: u64) -> Result<MemoryStore, Fail> {
     store_at(alloc, key_of(&LEVELS, 0x11)?, counter)
 }
 
-/// A store that holds the image of an unused key of 10/8.
-pub(crate) fn tall_store(alloc: Global) -> Result<MemoryStore, Fail> {
-    store_at(alloc, key_of(&[(LmsType::H10, OtsType::W8)], 0x11)?, 0)
-}
-
-pub(crate) fn opened(alloc: Global, store: MemoryStore) -> Result<Book<MemoryStore>, Fail>
+fn opened(alloc: Global, store: MemoryStore) -> Result<Book<MemoryStore>, Fail>
     ensures { IfOk result (λ book. book.history ≡ []) }
 {
     match Book::open(alloc, store) {
@@ -70,7 +63,7 @@ fn reopened(alloc: Global, book: Book<MemoryStore>) -> Result<Book<MemoryStore>,
 }
 
 /// Reserves, and gives the lease back: the first index and the number of indices.
-pub(crate) fn reserved(book: &mut Book<MemoryStore>, n: u64) -> Result<(u64, u64), BookFault>
+fn reserved(book: &mut Book<MemoryStore>, n: u64) -> Result<(u64, u64), BookFault>
     requires some { 1 ≤ n }
     requires at_most { n ≤ 1024 }
 {

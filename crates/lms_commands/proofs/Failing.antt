@@ -5,7 +5,7 @@ use Rattle.hex.specs.Hex.{decode_of}
 use Rattle.lms_spec.specs.Hss.{hss_public_key}
 use Rattle.lms_hss.specs.Keys.{hss_key_of}
 use Rattle.lms_hss.specs.declared.key.HssKey.{HssKey as KeyOfCode}
-use Rattle.lms_book.specs.Image.{image_of}
+use Rattle.lms_image.specs.Image.{image_of}
 use Rattle.lms_commands.specs.Keygen.{FailsToMakeKey}
 use Rattle.lms_commands.specs.Known.{IsPrintedLast, Known, Stays, Text}
 use Rattle.lms_commands.specs.Signing.{FailsToSign, SignsNext}

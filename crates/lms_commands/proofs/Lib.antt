@@ -1,3 +1,4 @@
 pub mod Failing
 pub mod LevelTexts
 pub mod SizedTexts
+pub mod Signings

@@ -2,7 +2,7 @@
 use Rattle.std.specs.Prelude.{ℕ, List, ◌++◌, codes, decimal}
 use Rattle.lms_hss.specs.declared.levels.KeyFault.{KeyFault}
 use Rattle.lms_hss.specs.declared.levels.KeyFault.TheVariants as key
-use Rattle.lms_book.specs.Image.{name_of}
+use Rattle.lms_image.specs.Image.{name_of}
 use Rattle.lms_book.specs.Refusals.{text_of as book_text}
 use Rattle.lms_book.specs.declared.refusals.BookFault.{BookFault}
 use Rattle.lms_book.specs.declared.refusals.BookFault.TheVariants as book

@@ -10,7 +10,7 @@ use Rattle.lms_hss.specs.Levels.{IsAdmitted, Judges}
 use Rattle.lms_hss.specs.declared.key.HssKey.{HssKey as KeyOfCode}
 use Rattle.lms_hss.specs.declared.levels.KeyFault.{KeyFault}
 use Rattle.lms_hss.specs.declared.levels.KeyFault.TheVariants as refused
-use Rattle.lms_book.specs.Image.{image_of}
+use Rattle.lms_image.specs.Image.{image_of}
 use Rattle.lms_commands.specs.Descriptions.{number_line}
 use Rattle.lms_commands.specs.Known.{Exists, IsOldOr, IsPrintedLast, Known, Stays, Text}
 use Rattle.lms_commands.specs.Options.{IsLevelsText}

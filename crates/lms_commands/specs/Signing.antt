@@ -6,9 +6,9 @@ use Rattle.lms_spec.specs.Hss.{capacity_of, hss_public_key, hss_signature, HssAc
 use Rattle.lms_hss.specs.Keys.{hss_key_of}
 use Rattle.lms_hss.specs.declared.key.HssKey.{HssKey as KeyOfCode}
 use Rattle.lms_book.specs.Books.{Reserves, capacity, counter}
-use Rattle.lms_book.specs.Image.{fault_of, image_of, HasImage}
+use Rattle.lms_image.specs.Image.{fault_of, image_of, HasImage}
 use Rattle.lms_book.specs.States.{BookState}
-use Rattle.lms_book.specs.Stops.{IsOnlyStop}
+use Rattle.lms_book.specs.Stops.{after_write}
 use Rattle.lms_book.specs.declared.history.Entry.TheVariants.{Given as Gave}
 use Rattle.lms_commands.specs.Descriptions.{info_text, number_line}
 use Rattle.lms_commands.specs.Keygen.{IsHexOf}
@@ -20,15 +20,15 @@ use Rattle.lms_commands.specs.declared.signing.SignFault.TheVariants as unsigned
 use Rattle.lms_commands.specs.declared.world.WorldFault.TheVariants as world
 
 -- a book's next index is given, once the image that counts it is all that a stop leaves
-pub record GivesOne {S : Type 0} (may_leave : S → List ℕ → Type 0) (old new : BookState S) : Type 0 where
+pub record GivesOne (old new : BookState) : Type 0 where
   pub within : counter old + 1 ≤ capacity old
   pub given : new.history ≡ old.history ++ Gave 1 ∷ []
-  pub stored : IsOnlyStop (image_of old.key (counter old + 1)) (may_leave new.store)
+  pub stored : new.store ≡ after_write (image_of old.key (counter old + 1)) old.store
 
 -- why a book's next index signed nothing: it was not given, or it was and memory ran out
-abbrev pub SignsNothing : {S : Type 0} → (S → List ℕ → Type 0) → (S → ℕ) → BookState S → SignFault → BookState S → Type 0
-SignsNothing may_leave failures old (unsigned.Book fault) new = Reserves may_leave failures 1 old (Err fault) new
-SignsNothing may_leave failures old unsigned.OutOfMemory new = GivesOne may_leave old new
+abbrev pub SignsNothing : BookState → SignFault → BookState → Type 0
+SignsNothing old (unsigned.Book fault) new = Reserves 1 old (Err fault) new
+SignsNothing old unsigned.OutOfMemory new = GivesOne old new
 
 -- the state of the name may be that of this key with this many indices used
 abbrev pub IsAt : Known → Text → KeyOfCode → ℕ → Type 0

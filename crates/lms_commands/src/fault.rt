@@ -6,8 +6,9 @@ ghost use Rattle.lms_commands.specs.Faults.{fault_line, of_book, of_key, of_open
 use crate::line::print_line;
 use crate::options::LevelsTextFault;
 use crate::status::Status;
-use lms_book::{BookFault, ImageFault, OpenFault};
+use lms_book::{BookFault, OpenFault};
 use lms_hss::KeyFault;
+use lms_image::ImageFault;
 use lms_params::OutOfMemory;
 use std::error::Error;
 use std::io::Write;

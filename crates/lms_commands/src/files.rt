@@ -1,6 +1,7 @@
 //! What every command does with files and states.
 ghost use Rattle.std.specs.Prelude.{[], ◌≡◌, ◌⊎◌, ◌↔◌, ℕ, List, IfErr, IfOk, OnOk};
-ghost use Rattle.lms_book.specs.Image.{image_of, HasImage};
+ghost use Rattle.lms_image.specs.Image.{image_of, HasImage};
+ghost use Rattle.lms_book.specs.Stops.{MayLeave};
 ghost use Rattle.lms_commands.specs.Known.{SameFiles, SameFilesBut, Stays};
 ghost use Rattle.lms_commands.specs.Signing.{FailsToOpen};
 ghost use Rattle.lms_commands.specs.Verifying.{RefusedAt};
@@ -62,7 +63,7 @@ pub(crate) fn open_state<W: World>(
     ensures counted { IfOk result (λ book. HasImage book.key book.base) }
     ensures fresh { IfOk result (λ book. book.history ≡ []) }
     ensures taken { IfOk result (λ book. (text : List ℕ)
-        → W.Store.may_leave book.store text ↔ (W.known world.old).keeps state.now text) }
+        → MayLeave book.store text ↔ (W.known world.old).keeps state.now text) }
     ensures failed { IfErr result (FailsToOpen (W.known world.old) state.now) }
     ensures stays { IfErr result (λ _. Stays (W.known world.old) (W.known world.new) state.now) }
     ensures files { SameFiles (W.known world.old) (W.known world.new) }

@@ -1,8 +1,8 @@
 //! `keygen`: a new key's state, and its public key.
 ghost use Rattle.std.specs.Prelude.{◌≡◌, ◌≢◌, ◌⊎◌, ℕ, List, IfErr, IfOk, OnErr, OnOk, codes};
 ghost use Rattle.std.specs.Io.KnownBytes.{Appends};
-ghost use Rattle.lms_book.specs.Image.{image_of};
-ghost use Rattle.lms_book.specs.Stops.{AtEachMoment, IsOnlyStop};
+ghost use Rattle.lms_image.specs.Image.{image_of};
+ghost use Rattle.lms_book.specs.Stops.{WritesStore};
 ghost use Rattle.lms_commands.specs.Keygen.{FailsToMakeKey, FailsToStore, IsKeyOf, IsNoKey, IsTaken, MakesKey};
 ghost use Rattle.lms_commands.specs.Descriptions.{number_line};
 ghost use Rattle.lms_commands.specs.Known.{IsPrintedLast, SameFiles, SameFilesBut, Stays};
@@ -12,8 +12,9 @@ use crate::fault::Fault;
 use crate::files::{lock_state, write_file};
 use crate::options::{read_bytes, read_levels};
 use crate::world::World;
-use lms_book::{Image, StateStore, StoreFault, encode_image};
+use lms_book::{StateStore, StoreFault};
 use lms_hss::{HssKey, Levels};
+use lms_image::{Image, encode_image};
 use std::alloc::Global;
 use std::io::Write;
 use std::thread::Threads;
@@ -116,11 +117,7 @@ fn store_key<W: World>(alloc: Global, world: &mut W, key: HssKey, state: &str) -
 
 /// Stores a key's image with no index used. A stop at any moment leaves what it could leave before, or that image.
 fn store_unused<S: StateStore>(store: &mut S, key: HssKey) -> Result<(), StoreFault>
-    ensures stored { OnOk result (IsOnlyStop (image_of key 0) (S.may_leave store.new)) }
-    ensures failed { OnErr result ((left : List ℕ)
-        → S.may_leave store.new left → S.may_leave store.old left ⊎ (left ≡ image_of key 0)) }
-    ensures moments { AtEachMoment S.moment S.left_since store.old store.new
-        (λ left. S.may_leave store.old left ⊎ (left ≡ image_of key 0)) }
+    ensures { WritesStore (image_of key 0) (S.seen store.old) result (S.seen store.new) }
 {
     let image = encode_image(&Image { key, counter: 0 });
     store.replace(image.as_slice())

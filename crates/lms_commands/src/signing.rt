@@ -5,9 +5,9 @@ ghost use Rattle.hex.specs.Hex.{decode_of};
 ghost use Rattle.lms_spec.specs.Hss.{hss_signature, hss_public_key, HssAccepts};
 ghost use Rattle.lms_hss.specs.Keys.{hss_key_of};
 ghost use Rattle.lms_book.specs.Books.{counter};
-ghost use Rattle.lms_book.specs.Image.{image_of};
+ghost use Rattle.lms_image.specs.Image.{image_of};
 ghost use Rattle.lms_book.specs.States.{IsOpenedFrom};
-ghost use Rattle.lms_book.specs.Stops.{AtEachMoment};
+ghost use Rattle.lms_book.specs.Stops.{Texts};
 ghost use Rattle.lms_commands.specs.Faults.{of_signing, text_of};
 ghost use Rattle.lms_commands.specs.Descriptions.{number_line};
 ghost use Rattle.lms_commands.specs.Keygen.{IsHexOf};
@@ -152,7 +152,10 @@ fn sign_by_state<W: World>(
     let mut book = open_state(alloc, world, state)?;
     let signed = sign_next(rt, alloc, &mut book, c, msg);
     world.put_back(state, book.close());
-    signed.map_err(|fault| Fault::from(fault))
+    match signed {
+        Ok(signed) => Ok(signed),
+        Err(fault) => Err(Fault::from(fault)),
+    }
 }
 
 /// Signs a message with the next index of a book, under the randomizer `c` (RFC 8554, 6.2). The use of the index is stored
@@ -167,12 +170,10 @@ pub fn sign_next<S: StateStore>(
 ) -> Result<Signed, SignFault>
     ensures key { book.new.key ≡ book.old.key }
     ensures base { book.new.base ≡ book.old.base }
-    ensures opened { (opened : S) → IsOpenedFrom S.may_leave opened book.old → IsOpenedFrom S.may_leave opened book.new }
+    ensures opened { (held : Texts) → IsOpenedFrom held book.old → IsOpenedFrom held book.new }
     ensures index { IfOk result (λ signed. signed.index ≡ counter book.old) }
-    ensures reserved { IfOk result (λ _. GivesOne S.may_leave book.old book.new) }
-    ensures failed { IfErr result (λ fault. SignsNothing S.may_leave S.failures book.old fault book.new) }
-    ensures moments { AtEachMoment S.moment S.left_since book.old.store book.new.store
-        (λ left. S.may_leave book.old.store left ⊎ (left ≡ image_of book.old.key (counter book.old + 1))) }
+    ensures reserved { IfOk result (λ _. GivesOne book.old book.new) }
+    ensures failed { IfErr result (λ fault. SignsNothing book.old fault book.new) }
     ensures signature { IfOk result (λ signed. signed.signature.items
         ≡ hss_signature (hss_key_of book.old.key) signed.index c.now msg.now) }
     ensures accepted { IfOk result (λ signed.

@@ -1,5 +1,6 @@
 //! Where the program's files and states are.
 ghost use Rattle.std.specs.Prelude.{◌≡◌, ◌↔◌, ℕ, List, None, true, false, IfErr, IfOk, OnOk};
+ghost use Rattle.lms_book.specs.Stops.{MayLeave};
 ghost use Rattle.lms_commands.specs.Known.{Exists, Known, SameFiles, SameFilesBut, Stays};
 
 mod disk;
@@ -66,14 +67,14 @@ pub trait World {
     /// `OutOfMemory` where memory for it was refused.
     fn take_store(&mut self, alloc: Global, name: &str) -> Result<Self::Store, OutOfMemory>
         ensures taken { IfOk result (λ store. (text : List ℕ)
-            → Self.Store.may_leave store text ↔ (known self.old).keeps name.now text) }
+            → MayLeave (Self.Store.seen store) text ↔ (known self.old).keeps name.now text) }
         ensures fails { IfOk result (λ store. Self.Store.may_fail store → (known self.old).fails name.now) }
         ensures stays { IfErr result (λ _. Stays (known self.old) (known self.new) name.now) }
         ensures files { SameFiles (known self.old) (known self.new) };
 
     /// Puts it back: the state of this name is what it keeps. No file is changed.
     fn put_back(&mut self, name: &str, store: Self::Store)
-        ensures kept { (text : List ℕ) → Self.Store.may_leave store text → (known self.new).keeps name.now text }
-        ensures only { (text : List ℕ) → (known self.new).holds name.now text → Self.Store.may_leave store text }
+        ensures kept { (text : List ℕ) → MayLeave (Self.Store.seen store) text → (known self.new).keeps name.now text }
+        ensures only { (text : List ℕ) → (known self.new).holds name.now text → MayLeave (Self.Store.seen store) text }
         ensures files { SameFiles (known self.old) (known self.new) };
 }

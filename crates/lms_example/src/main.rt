@@ -7,8 +7,9 @@ mod one_text;
 
 use crate::one_text::OneText;
 use anyhow::Result;
-use lms_book::{Book, Image, Lease, StateStore, encode_image};
+use lms_book::{Book, Lease, StateStore};
 use lms_hss::{Forest, HssKey, Levels, verify};
+use lms_image::{Image, encode_image};
 use lms_params::{LmsType, OtsType, OutOfMemory};
 use std::alloc::Global;
 use std::thread::Threads;

@@ -58,22 +58,11 @@ impl OneText {
 }
 
 impl StateStore for OneText {
-    ghost use Rattle.std.proofs.Common.{inl};
-    ghost use Rattle.lms_example.specs.Kept.{Holds, writes_made, HeldSince, only_text};
+    ghost use Rattle.lms_example.specs.Kept.{view_of};
 
-    ghost may_leave = { Holds };
-
-    ghost moment = { writes_made };
-
-    ghost left_since = { HeldSince };
-
-    ghost failures = { λ store. store.failures };
+    ghost seen = { view_of };
 
     ghost may_fail = { λ store. store.text ≡ None };
-
-    ghost counts_now = { λ store since left le now. inl now };
-
-    ghost only_now = { only_text };
 
     /// Fails while there is no text.
     fn read(&mut self, alloc: Global) -> Result<Vec<u8>, ReadFault> {

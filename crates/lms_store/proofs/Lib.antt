@@ -1,2 +1,1 @@
-pub mod FileMoments
 pub mod LastWrites

@@ -1,12 +1,11 @@
 -- A store in a file of the disk: what it wrote since it was made, and what a stop leaves by that.
 use Rattle.std.specs.Prelude.{◌≡◌, ◌⊎◌, ℕ, ◌<◌, ◌≤◌, List, [], ◌∷◌, ◌++◌, codes, length, Bool, true, false, Result, Ok, Err, Option, Some, None}
 use Rattle.std.specs.Global.{Vec}
-use Rattle.std.proofs.Common.{inl, inr, arith}
 use Rattle.std.specs.Path.{dot, path_parent}
 use Rattle.lms_book.specs.declared.store.ReadFault.{ReadFault}
 use Rattle.lms_book.specs.declared.store.ReadFault.TheVariants.{Device, OutOfMemory}
 use Rattle.lms_book.specs.declared.store.StoreFault.{StoreFault}
-use Rattle.lms_book.specs.Stops.{raised}
+use Rattle.lms_book.specs.Stops.{Texts, IsAmong, only, or_else, StoreView, raised}
 
 -- a write: its text, and whether it was stored for certain
 pub record FileWrite : Type 0 where
@@ -18,28 +17,28 @@ pub record FileState : Type 0 where
   pub writes : List FileWrite
   pub failures : ℕ
 
--- a stop after these writes could leave this text: that of the newest, or where it failed, what could be left before it;
--- before any write any text
+-- the texts of which a stop leaves one after a write of this text, which was stored for certain or not, by those before it
+abbrev pub left_by : Bool → List ℕ → Texts → Texts
+left_by true text before = only text
+left_by false text before = or_else text before
+
+-- the texts of which a stop after these writes leaves one; before any write it may be any
+abbrev pub texts_now : List FileWrite → Texts
+texts_now [] = None
+texts_now (newest ∷ older) = left_by newest.stored newest.text (texts_now older)
+
+-- those before each of the writes, the first write first
+abbrev pub texts_before : List FileWrite → List Texts
+texts_before [] = []
+texts_before (newest ∷ older) = texts_before older ++ texts_now older ∷ []
+
+-- what contracts see of it, as of any store
+abbrev pub view_of : FileState → StoreView
+view_of store = record { now = texts_now store.writes; past = texts_before store.writes; failures = store.failures }
+
+-- a stop after these writes could leave this text
 abbrev pub Leaves : List FileWrite → List ℕ → Type 0
-Leaves [] left = Unit {0}
-Leaves (newest ∷ older) left = (left ≡ newest.text) ⊎ ((newest.stored ≡ false) × Leaves older left)
-
--- a stop after these writes, or before the later ones of them, from the moment after `since` writes on
-abbrev pub LeftSince : List FileWrite → ℕ → List ℕ → Type 0
-LeftSince [] since left = Leaves [] left
-LeftSince (newest ∷ older) since left = Leaves (newest ∷ older) left ⊎ ((since ≤ length older) × LeftSince older since left)
-
--- a stop now could leave this text
-abbrev pub MayLeave : FileState → List ℕ → Type 0
-MayLeave store left = Leaves store.writes left
-
--- how many writes are recorded
-abbrev pub writes_made : FileState → ℕ
-writes_made store = length store.writes
-
--- a stop could have left this text at some moment since
-abbrev pub HasLeftSince : FileState → ℕ → List ℕ → Type 0
-HasLeftSince store since left = LeftSince store.writes since left
+Leaves writes text = IsAmong (texts_now writes) text
 
 -- nothing written, no failure counted
 abbrev pub fresh : FileState
@@ -83,7 +82,7 @@ Replaces old text (Err fault) new =
 
 -- what a read answers and leaves
 abbrev pub Reads : FileState → Result (Vec ℕ) ReadFault → FileState → Type 0
-Reads old (Ok text) new = MayLeave old text.items × (new ≡ old)
+Reads old (Ok text) new = Leaves old.writes text.items × (new ≡ old)
 Reads old (Err Device) new = new ≡ failed old
 Reads old (Err OutOfMemory) new = new ≡ old
 
@@ -101,14 +100,3 @@ folder_of path = folder_by (path_parent path)
 pub record AreBeside (state draft folder : List ℕ) : Type 0 where
   pub draft_is : draft ≡ state ++ codes ".new"
   pub folder_is : folder ≡ folder_of state
-
--- this moment is one of those since an earlier one
-pub counts_now : (writes : List FileWrite) (since : ℕ) (left : List ℕ) → since ≤ length writes → Leaves writes left → LeftSince writes since left
-counts_now [] since left le now = now
-counts_now (newest ∷ older) since left le now = inl now
-
--- since this moment there is no other
-pub only_now : (writes : List FileWrite) (left : List ℕ) → LeftSince writes (length writes) left → Leaves writes left
-only_now [] left was = was
-only_now (newest ∷ older) left (inl now) = now
-only_now (newest ∷ older) left (inr (le, was)) = absurd (omega (arith, le))

@@ -1,5 +1,5 @@
 //! A store in a file.
-ghost use Rattle.std.specs.Prelude.{◌≡◌, ◌⊎◌, ◌≤◌, length, false, IfOk, OnOk, OnErr};
+ghost use Rattle.std.specs.Prelude.{◌≡◌, ◌≤◌, length, false, IfOk, OnOk, OnErr};
 ghost use Rattle.lms_store.specs.FileStores.{HasRoom, confirmed, fresh, most_bytes, written, failed};
 
 use crate::paths::{OWNER_ONLY, folder_of, resolve, sibling};
@@ -148,32 +148,17 @@ impl<'a, R: Files> FileStore<'a, R> {
 }
 
 impl<R: Files + Sync> StateStore for FileStore<'_, R> {
-    ghost use Rattle.std.specs.Prelude.{◌⊎◌, IfErr, List, ℕ};
-    ghost use Rattle.lms_store.specs.FileStores.{MayLeave, writes_made, HasLeftSince, Reads, Replaces, counts_now, only_now};
-    ghost use Rattle.lms_book.specs.Stops.{HasSameStops, IsOnlyStop, AtEachMoment, raised, CountsRead};
+    ghost use Rattle.lms_store.specs.FileStores.{view_of, Reads, Replaces};
+    ghost use Rattle.lms_book.specs.Stops.{ReadsStore, WritesStore};
 
-    ghost may_leave = { MayLeave };
-
-    ghost moment = { writes_made };
-
-    ghost left_since = { HasLeftSince };
-
-    ghost failures = { λ store. store.failures };
+    ghost seen = { view_of };
 
     ghost may_fail = { λ _. Unit {0} };
-
-    ghost counts_now = { λ store. counts_now store.writes };
-
-    ghost only_now = { λ store. only_now store.writes };
 
     /// The file whole. `Device` where that fails, and where the file holds a text that no stop could leave after the
     /// writes of the record, so that somebody else wrote it; `OutOfMemory` where memory for the text is refused.
     fn read(&mut self, alloc: Global) -> Result<Vec<u8>, ReadFault>
-        ensures text { IfOk result (λ text. MayLeave self.old text.items) }
-        ensures stops { HasSameStops (MayLeave self.old) (MayLeave self.new) }
-        ensures moments { AtEachMoment writes_made HasLeftSince self.old self.new (MayLeave self.old) }
-        ensures failures { CountsRead self.old.failures self.new.failures result }
-        ensures cause { IfErr result (λ fault. fault ≡ ReadFault.Device → Unit {0}) }
+        ensures seen { ReadsStore (Unit {0}) (view_of self.old) result (view_of self.new) }
         ensures reads { Reads self.old result self.new }
     {
         match self.fetch(alloc) {
@@ -191,12 +176,7 @@ impl<R: Files + Sync> StateStore for FileStore<'_, R> {
     /// `NAME.new`, which only the owner may read, is flushed, takes the place of the file, and the folder is flushed. A
     /// stop at any point leaves the file with the old text or with this one.
     fn replace(&mut self, text: &[u8]) -> Result<(), StoreFault>
-        ensures ok { OnOk result (IsOnlyStop text.now (MayLeave self.new)) }
-        ensures err { OnErr result ((left : List ℕ) → MayLeave self.new left → MayLeave self.old left ⊎ (left ≡ text.now)) }
-        ensures moments { AtEachMoment writes_made HasLeftSince self.old self.new
-            (λ left. MayLeave self.old left ⊎ (left ≡ text.now)) }
-        ensures ok_failures { OnOk result (self.new.failures ≡ self.old.failures) }
-        ensures err_failures { OnErr result (self.new.failures ≡ raised self.old.failures) }
+        ensures writes { WritesStore text.now (view_of self.old) result (view_of self.new) }
         ensures replaces { Replaces self.old text.now result self.new }
     {
         let Ok(()) = self.begin(text) else {

@@ -30,64 +30,110 @@ fn holds(rt: &HostRuntime, name: &str, text: &[u8]) -> Result<bool, Fail> {
     Ok(reads(rt, &mut store, text))
 }
 
+/// The store in a file.
+fn store_in<'a>(rt: &'a HostRuntime, name: &str) -> Result<FileStore<'a, HostRuntime>, Fail> {
+    Ok(FileStore::new(rt.alloc(), rt, name)?)
+}
+
+/// Whether a store takes this text.
+fn takes(store: &mut impl StateStore, text: &[u8]) -> bool {
+    store.replace(text).is_ok()
+}
+
+/// Whether a store fails to take this text.
+fn refuses(store: &mut impl StateStore, text: &[u8]) -> bool {
+    store.replace(text) == Err(StoreFault)
+}
+
+/// Whether a store fails so when it is read.
+fn reads_none(rt: &HostRuntime, store: &mut impl StateStore, fault: ReadFault) -> bool {
+    match store.read(rt.alloc()) {
+        Ok(_) => false,
+        Err(found) => found == fault,
+    }
+}
+
+/// Whether a store takes this text and reads it, and a new one in its file reads it, too.
+fn keeps(
+    rt: &HostRuntime,
+    store: &mut impl StateStore,
+    name: &str,
+    text: &[u8],
+) -> Result<bool, Fail> {
+    Ok(takes(store, text) && reads(rt, store, text) && holds(rt, name, text)?)
+}
+
 #[test]
 fn what_is_stored_is_read(rt: HostRuntime) -> Result<(), Fail> {
     empty_folder(&rt, "file_store_reads")?;
     let name = "file_store_reads/state";
-    let mut store = FileStore::new(rt.alloc(), &rt, name)?;
-    assert_eq!(rt; store.read(rt.alloc()).err(), Some(ReadFault::Device));
-    for text in [b"a".as_slice(), b"".as_slice(), [7; 256].as_slice()] {
-        assert_eq!(rt; store.replace(text), Ok(()));
-        assert!(rt; reads(&rt, &mut store, text));
-        assert!(rt; holds(&rt, name, text)?);
-    }
+    let mut store = store_in(&rt, name)?;
+    assert!(rt; reads_none(&rt, &mut store, ReadFault::Device));
+    assert!(rt; keeps(&rt, &mut store, name, b"a")?);
+    assert!(rt; keeps(&rt, &mut store, name, b"")?);
+    assert!(rt; keeps(&rt, &mut store, name, &[7; 256])?);
     fs::write(&rt, name, b"b".as_slice())?;
-    assert_eq!(rt; store.read(rt.alloc()).err(), Some(ReadFault::Device));
+    assert!(rt; reads_none(&rt, &mut store, ReadFault::Device));
     assert!(rt; holds(&rt, name, b"b")?);
     fs::remove_dir_all(&rt, "file_store_reads")?;
     Ok(())
 }
 
+/// Writes an older file that others may read.
+fn write_open_file(rt: &HostRuntime, name: &str) -> Result<(), Fail> {
+    fs::write(rt, name, b"older".as_slice())?;
+    fs::set_permissions(rt, name, Permissions::from_mode(0o644))?;
+    Ok(())
+}
+
+/// The permissions of a file.
+fn mode_of(rt: &HostRuntime, name: &str) -> Result<u32, Fail> {
+    Ok(fs::metadata(rt, name)?.mode() & 0o777)
+}
+
 #[test]
 fn the_owner_alone_reads_the_state(rt: HostRuntime) -> Result<(), Fail> {
     empty_folder(&rt, "file_store_modes")?;
-    for name in ["file_store_modes/state", "file_store_modes/state.new"] {
-        fs::write(&rt, name, b"older".as_slice())?;
-        fs::set_permissions(&rt, name, Permissions::from_mode(0o644))?;
-    }
-    let mut store = FileStore::new(rt.alloc(), &rt, "file_store_modes/state")?;
-    assert_eq!(rt; store.replace(b"a"), Ok(()));
+    write_open_file(&rt, "file_store_modes/state")?;
+    write_open_file(&rt, "file_store_modes/state.new")?;
+    let mut store = store_in(&rt, "file_store_modes/state")?;
+    assert!(rt; takes(&mut store, b"a"));
     assert!(rt; reads(&rt, &mut store, b"a"));
-    let mode = fs::metadata(&rt, "file_store_modes/state")?.mode();
-    assert_eq!(rt; mode & 0o777, 0o600);
+    assert!(rt; mode_of(&rt, "file_store_modes/state")? == 0o600);
     assert!(rt; !exists(&rt, "file_store_modes/state.new"));
     fs::remove_dir_all(&rt, "file_store_modes")?;
     Ok(())
 }
 
+/// Makes a folder, a link that leads nowhere, and a file, in an empty folder.
+fn make_obstacles(rt: &HostRuntime) -> Result<(), Fail> {
+    empty_folder(rt, "file_store_faults")?;
+    fs::create_dir(rt, "file_store_faults/folder")?;
+    symlink(rt, "nowhere", "file_store_faults/link")?;
+    fs::write(rt, "file_store_faults/file", b"a".as_slice())?;
+    Ok(())
+}
+
+/// Whether a state of this name can be neither written nor read.
+fn is_out_of_reach(rt: &HostRuntime, name: &str) -> Result<bool, Fail> {
+    let mut store = store_in(rt, name)?;
+    Ok(refuses(&mut store, b"b") && reads_none(rt, &mut store, ReadFault::Device))
+}
+
+/// Whether the lock on a state of this name can be had.
+fn can_be_locked(rt: &HostRuntime, name: &str) -> Result<bool, Fail> {
+    Ok(lock(rt, rt.alloc(), name)?.is_some())
+}
+
 #[test]
 fn what_can_not_be_reached_fails(rt: HostRuntime) -> Result<(), Fail> {
-    empty_folder(&rt, "file_store_faults")?;
-    fs::create_dir(&rt, "file_store_faults/folder")?;
-    symlink(&rt, "nowhere", "file_store_faults/link")?;
-    fs::write(&rt, "file_store_faults/file", b"a".as_slice())?;
-    let names = [
-        "file_store_faults/folder",
-        "file_store_faults/file/state",
-        "file_store_faults/none/state",
-        "file_store_faults/link",
-    ];
-    for name in names {
-        let mut store = FileStore::new(rt.alloc(), &rt, name)?;
-        assert_eq!(rt; store.replace(b"b"), Err(StoreFault), "{name}");
-        assert_eq!(rt;
-            store.read(rt.alloc()).err(),
-            Some(ReadFault::Device),
-            "{name}"
-        );
-    }
+    make_obstacles(&rt)?;
+    assert!(rt; is_out_of_reach(&rt, "file_store_faults/folder")?);
+    assert!(rt; is_out_of_reach(&rt, "file_store_faults/file/state")?);
+    assert!(rt; is_out_of_reach(&rt, "file_store_faults/none/state")?);
+    assert!(rt; is_out_of_reach(&rt, "file_store_faults/link")?);
     assert!(rt; holds(&rt, "file_store_faults/file", b"a")?);
-    assert!(rt; lock(&rt, rt.alloc(), "file_store_faults/link")?.is_none());
+    assert!(rt; !can_be_locked(&rt, "file_store_faults/link")?);
     fs::remove_dir_all(&rt, "file_store_faults")?;
     Ok(())
 }
@@ -95,8 +141,8 @@ fn what_can_not_be_reached_fails(rt: HostRuntime) -> Result<(), Fail> {
 #[test]
 fn a_long_text_touches_no_file(rt: HostRuntime) -> Result<(), Fail> {
     empty_folder(&rt, "file_store_long")?;
-    let mut store = FileStore::new(rt.alloc(), &rt, "file_store_long/state")?;
-    assert_eq!(rt; store.replace(&[7; 257]), Err(StoreFault));
+    let mut store = store_in(&rt, "file_store_long/state")?;
+    assert!(rt; refuses(&mut store, &[7; 257]));
     assert!(rt; !exists(&rt, "file_store_long/state"));
     assert!(rt; !exists(&rt, "file_store_long/state.new"));
     fs::remove_dir_all(&rt, "file_store_long")?;
@@ -107,9 +153,9 @@ fn a_long_text_touches_no_file(rt: HostRuntime) -> Result<(), Fail> {
 #[test]
 fn a_store_takes_many_writes(rt: HostRuntime) -> Result<(), Fail> {
     empty_folder(&rt, "file_store_many")?;
-    let mut store = FileStore::new(rt.alloc(), &rt, "file_store_many/state")?;
+    let mut store = store_in(&rt, "file_store_many/state")?;
     for n in 0..100_u8 {
-        assert_eq!(rt; store.replace(&[n]), Ok(()));
+        assert!(rt; takes(&mut store, &[n]));
         assert!(rt; reads(&rt, &mut store, &[n]));
     }
     fs::remove_dir_all(&rt, "file_store_many")?;
@@ -127,6 +173,11 @@ fn second_try<'a>(
     FileStore::new(rt.alloc(), rt, name)
 }
 
+/// Whether a store that failed to take the text of `n` reads the one before, and takes it then.
+fn recovers(rt: &HostRuntime, store: &mut impl StateStore, n: u8) -> bool {
+    n >= 8 && reads(rt, store, &[n - 1]) && takes(store, &[n])
+}
+
 /// With one request for memory refused, as by `tests/refused`: what needs it fails once. After a write that fails the store
 /// holds the text from before it.
 #[test]
@@ -135,10 +186,9 @@ fn a_store_works_after_refused_memory(rt: HostRuntime) -> Result<(), Fail> {
     let mut store = second_try(&rt, "file_store_memory/state")?;
     let mut failures = 0_u8;
     for n in 0..20_u8 {
-        if store.replace(&[n]).is_err() {
+        if !takes(&mut store, &[n]) {
             failures = failures.saturating_add(1);
-            assert!(rt; n >= 8 && reads(&rt, &mut store, &[n - 1]));
-            assert_eq!(rt; store.replace(&[n]), Ok(()));
+            assert!(rt; recovers(&rt, &mut store, n));
         }
     }
     assert!(rt; failures <= 1);
@@ -147,21 +197,37 @@ fn a_store_works_after_refused_memory(rt: HostRuntime) -> Result<(), Fail> {
     Ok(())
 }
 
+/// Makes a state, and a link beside its folder that leads to it.
+fn make_link(rt: &HostRuntime) -> Result<(), Fail> {
+    empty_folder(rt, "file_store_links")?;
+    fs::create_dir(rt, "file_store_links/real")?;
+    fs::write(rt, "file_store_links/real/state", b"a".as_slice())?;
+    symlink(rt, "real/state", "file_store_links/link")?;
+    Ok(())
+}
+
 #[test]
 fn a_link_is_followed(rt: HostRuntime) -> Result<(), Fail> {
-    empty_folder(&rt, "file_store_links")?;
-    fs::create_dir(&rt, "file_store_links/real")?;
-    fs::write(&rt, "file_store_links/real/state", b"a".as_slice())?;
-    symlink(&rt, "real/state", "file_store_links/link")?;
-    let mut store = FileStore::new(rt.alloc(), &rt, "file_store_links/link")?;
+    make_link(&rt)?;
+    let mut store = store_in(&rt, "file_store_links/link")?;
     assert!(rt; reads(&rt, &mut store, b"a"));
-    assert_eq!(rt; store.replace(b"b"), Ok(()));
+    assert!(rt; takes(&mut store, b"b"));
     assert!(rt; holds(&rt, "file_store_links/real/state", b"b")?);
     assert!(rt; fs::read_link(&rt, "file_store_links/link").is_ok());
-    let locked = lock(&rt, rt.alloc(), "file_store_links/link")?;
-    assert!(rt; locked.is_some());
-    assert!(rt; lock(&rt, rt.alloc(), "file_store_links/real/state")?.is_none());
-    drop(locked);
+    fs::remove_dir_all(&rt, "file_store_links")?;
+    Ok(())
+}
+
+/// Whether the lock on a state can be had by one name, and while it is held, not by another.
+fn locks_both(rt: &HostRuntime, name: &str, other: &str) -> Result<bool, Fail> {
+    let held = lock(rt, rt.alloc(), name)?;
+    Ok(held.is_some() && !can_be_locked(rt, other)?)
+}
+
+#[test]
+fn a_link_is_locked_as_its_state(rt: HostRuntime) -> Result<(), Fail> {
+    make_link(&rt)?;
+    assert!(rt; locks_both(&rt, "file_store_links/link", "file_store_links/real/state")?);
     fs::remove_dir_all(&rt, "file_store_links")?;
     Ok(())
 }
@@ -171,33 +237,33 @@ fn one_holds_the_lock(rt: HostRuntime) -> Result<(), Fail> {
     empty_folder(&rt, "file_store_lock")?;
     let first = lock(&rt, rt.alloc(), "file_store_lock/state")?;
     assert!(rt; first.is_some());
-    assert!(rt; lock(&rt, rt.alloc(), "file_store_lock/state")?.is_none());
-    assert!(rt; lock(&rt, rt.alloc(), "file_store_lock/other")?.is_some());
-    assert!(rt; lock(&rt, rt.alloc(), "file_store_lock/none/state")?.is_none());
+    assert!(rt; !can_be_locked(&rt, "file_store_lock/state")?);
+    assert!(rt; can_be_locked(&rt, "file_store_lock/other")?);
+    assert!(rt; !can_be_locked(&rt, "file_store_lock/none/state")?);
     drop(first);
-    assert!(rt; lock(&rt, rt.alloc(), "file_store_lock/state")?.is_some());
-    let mode = fs::metadata(&rt, "file_store_lock/state.lock")?.mode();
-    assert_eq!(rt; mode & 0o777, 0o600);
+    assert!(rt; can_be_locked(&rt, "file_store_lock/state")?);
+    assert!(rt; mode_of(&rt, "file_store_lock/state.lock")? == 0o600);
     fs::remove_dir_all(&rt, "file_store_lock")?;
+    Ok(())
+}
+
+/// Makes a file, and a link that leads nowhere, in an empty folder.
+fn make_names(rt: &HostRuntime) -> Result<(), Fail> {
+    empty_folder(rt, "file_store_names")?;
+    fs::write(rt, "file_store_names/file", b"".as_slice())?;
+    symlink(rt, "nowhere", "file_store_names/link")?;
     Ok(())
 }
 
 #[test]
 fn what_can_not_be_told_exists(rt: HostRuntime) -> Result<(), Fail> {
-    empty_folder(&rt, "file_store_names")?;
-    fs::write(&rt, "file_store_names/file", b"".as_slice())?;
-    symlink(&rt, "nowhere", "file_store_names/link")?;
-    let names = [
-        ("file_store_names", true),
-        ("file_store_names/file", true),
-        ("file_store_names/file/state", true),
-        ("file_store_names/link", true),
-        ("file_store_names/state", false),
-        ("file_store_names/none/state", false),
-    ];
-    for (name, known) in names {
-        assert_eq!(rt; exists(&rt, name), known, "{name}");
-    }
+    make_names(&rt)?;
+    assert!(rt; exists(&rt, "file_store_names"));
+    assert!(rt; exists(&rt, "file_store_names/file"));
+    assert!(rt; exists(&rt, "file_store_names/file/state"));
+    assert!(rt; exists(&rt, "file_store_names/link"));
+    assert!(rt; !exists(&rt, "file_store_names/state"));
+    assert!(rt; !exists(&rt, "file_store_names/none/state"));
     fs::remove_dir_all(&rt, "file_store_names")?;
     Ok(())
 }

@@ -1,6 +1,6 @@
 use super::{LevelsTextFault, read_bytes, read_levels};
 use lms_params::{LmsType, OtsType};
-use std::test::Fail;
+use std::alloc::Global;
 
 /// Texts that are those of no levels.
 const BAD: [&str; 14] = [
@@ -8,20 +8,29 @@ const BAD: [&str; 14] = [
     "8/5",
 ];
 
-#[test]
-fn reads_one_level(rt: HostRuntime) -> Result<(), Fail> {
-    let Ok(levels) = read_levels(rt.alloc(), "5/8") else {
-        return Err(Fail::from("not read"));
-    };
-    assert!(rt; levels.as_slice() == [(LmsType::H5, OtsType::W8)].as_slice());
-    Ok(())
+/// Whether the levels of a text are read as these.
+fn is_read(alloc: Global, text: &str, expected: &[(LmsType, OtsType)]) -> bool {
+    match read_levels(alloc, text) {
+        Ok(levels) => levels.as_slice() == expected,
+        Err(_) => false,
+    }
+}
+
+/// Whether a text is refused as that of no levels.
+fn is_bad(alloc: Global, text: &str) -> bool {
+    match read_levels(alloc, text) {
+        Ok(_) => false,
+        Err(fault) => fault == LevelsTextFault::Bad,
+    }
 }
 
 #[test]
-fn reads_each_height_and_width(rt: HostRuntime) -> Result<(), Fail> {
-    let Ok(levels) = read_levels(rt.alloc(), "5/8,10/4,15/2,20/1,25/8") else {
-        return Err(Fail::from("not read"));
-    };
+fn reads_one_level(rt: HostRuntime) {
+    assert!(rt; is_read(rt.alloc(), "5/8", &[(LmsType::H5, OtsType::W8)]));
+}
+
+#[test]
+fn reads_each_height_and_width(rt: HostRuntime) {
     let expected = [
         (LmsType::H5, OtsType::W8),
         (LmsType::H10, OtsType::W4),
@@ -29,27 +38,38 @@ fn reads_each_height_and_width(rt: HostRuntime) -> Result<(), Fail> {
         (LmsType::H20, OtsType::W1),
         (LmsType::H25, OtsType::W8),
     ];
-    assert!(rt; levels.as_slice() == expected.as_slice());
-    Ok(())
+    assert!(rt; is_read(rt.alloc(), "5/8,10/4,15/2,20/1,25/8", &expected));
 }
 
 #[test]
-fn refuses_other_texts(rt: HostRuntime) -> Result<(), Fail> {
+fn refuses_other_texts(rt: HostRuntime) {
     for text in BAD {
-        match read_levels(rt.alloc(), text) {
-            Ok(_) => return Err(Fail::from("read")),
-            Err(fault) => assert_eq!(rt; fault, LevelsTextFault::Bad),
-        }
+        assert!(rt; is_bad(rt.alloc(), text), "{text}");
     }
-    Ok(())
+}
+
+/// Whether a text is read as these three bytes.
+fn has_bytes(text: &str, bytes: [u8; 3]) -> bool {
+    match read_bytes::<3>(text) {
+        Some(found) => found == bytes,
+        None => false,
+    }
 }
 
 #[test]
 fn reads_digits_in_either_case(rt: HostRuntime) {
-    let expected = Some([0xab, 0x09, 0xfe]);
-    assert!(rt; read_bytes::<3>("ab09fe") == expected);
-    assert!(rt; read_bytes::<3>("AB09FE") == expected);
-    assert!(rt; read_bytes::<3>("aB09Fe") == expected);
+    let expected = [0xab, 0x09, 0xfe];
+    assert!(rt; has_bytes("ab09fe", expected));
+    assert!(rt; has_bytes("AB09FE", expected));
+    assert!(rt; has_bytes("aB09Fe", expected));
+}
+
+/// Whether a text is read as this seed.
+fn is_seed(text: &str, seed: [u8; 32]) -> bool {
+    match read_bytes::<32>(text) {
+        Some(found) => found == seed,
+        None => false,
+    }
 }
 
 #[test]
@@ -60,18 +80,35 @@ fn reads_a_seed(rt: HostRuntime) {
         0, 1, 2, 3, 4, 5, 6, 7, 8, 9, 10, 11, 12, 13, 14, 15, 16, 17, 18, 19, 20, 21, 22, 23, 24,
         25, 26, 27, 28, 29, 30, 31,
     ];
-    assert!(rt; read_bytes::<32>(lower) == Some(seed));
-    assert!(rt; read_bytes::<32>(upper) == Some(seed));
+    assert!(rt; is_seed(lower, seed));
+    assert!(rt; is_seed(upper, seed));
+}
+
+/// Whether the first bytes of a text are read as no seed.
+fn is_no_seed(text: &str, count: usize) -> bool {
+    match text.get(..count) {
+        Some(part) => read_bytes::<32>(part).is_none(),
+        None => false,
+    }
+}
+
+/// Whether a text is read as no two bytes.
+fn is_no_pair(text: &str) -> bool {
+    read_bytes::<2>(text).is_none()
 }
 
 #[test]
-fn refuses_other_lengths_and_digits(rt: HostRuntime) {
+fn refuses_other_lengths(rt: HostRuntime) {
     let digits = "000102030405060708090a0b0c0d0e0f101112131415161718191a1b1c1d1e1f2";
-    assert!(rt; read_bytes::<32>(&digits[..62]).is_none());
-    assert!(rt; read_bytes::<32>(&digits[..63]).is_none());
-    assert!(rt; read_bytes::<32>(digits).is_none());
-    assert!(rt; read_bytes::<2>("0001ff").is_none());
-    assert!(rt; read_bytes::<2>("000g").is_none());
-    assert!(rt; read_bytes::<2>("00 1").is_none());
-    assert!(rt; read_bytes::<2>("0001 ").is_none());
+    assert!(rt; is_no_seed(digits, 62));
+    assert!(rt; is_no_seed(digits, 63));
+    assert!(rt; is_no_seed(digits, 65));
+    assert!(rt; is_no_pair("0001ff"));
+}
+
+#[test]
+fn refuses_other_digits(rt: HostRuntime) {
+    assert!(rt; is_no_pair("000g"));
+    assert!(rt; is_no_pair("00 1"));
+    assert!(rt; is_no_pair("0001 "));
 }

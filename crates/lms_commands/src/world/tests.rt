@@ -2,12 +2,13 @@ use super::{DiskWorld, World};
 use crate::fault::Fault;
 use crate::keygen::{key_from, make_key};
 use lms_store::TryLock;
-use std::alloc::Allocator;
+use std::alloc::{Allocator, Global};
 use std::fs::{Metadata, OpenFile, OpenOptions};
 use std::io::{ErrorKind, Read, Seek, SeekFrom, Write};
 use std::path::PathBuf;
 use std::rt::Files;
 use std::test::Fail;
+use std::thread::Threads;
 use std::{fs, io};
 
 /// The seed of a key, and its identifier.
@@ -131,23 +132,54 @@ impl<'a, R: Files> Files for PoorFiles<'a, R> {
     }
 }
 
-/// Three times 1 MiB and some bytes more, read and written whole, also where few bytes go at once.
+/// Makes an empty folder, in place of one that an earlier run left.
+fn empty_folder(rt: &HostRuntime, folder: &str) -> Result<(), Fail> {
+    let _ = fs::remove_dir_all(rt, folder);
+    fs::create_dir(rt, folder)?;
+    Ok(())
+}
+
+/// Whether a world reads these bytes from the file of a name.
+fn reads<W: World>(alloc: Global, world: &W, name: &str, bytes: &[u8]) -> bool {
+    match world.read(alloc, name) {
+        Ok(found) => found.as_slice() == bytes,
+        Err(_) => false,
+    }
+}
+
+/// Whether a world writes these bytes to the file of a name.
+fn writes<W: World>(world: &mut W, name: &str, bytes: &[u8]) -> bool {
+    world.write(name, bytes).is_ok()
+}
+
+/// Whether the file of a name holds these bytes.
+fn holds(rt: &HostRuntime, name: &str, bytes: &[u8]) -> bool {
+    match fs::read(rt, name) {
+        Ok(found) => found.as_slice() == bytes,
+        Err(_) => false,
+    }
+}
+
+/// Three times 1 MiB and some bytes more.
+fn large_text(alloc: Global) -> Result<String, Fail> {
+    Ok("pattern".repeat(alloc, 449_391)?)
+}
+
+const LARGE: &str = "disk_world_large/text";
+
+/// A large text is read and written whole.
 #[test]
 fn a_large_file_is_whole(rt: HostRuntime) -> Result<(), Fail> {
-    let _ = fs::remove_dir_all(&rt, "disk_world_large");
-    fs::create_dir(&rt, "disk_world_large")?;
-    let text = "pattern".repeat(rt.alloc(), 449_391)?;
-    let name = "disk_world_large/text";
-    let mut world = DiskWorld::new(&rt);
-    world.write(name, text.as_bytes())?;
-    assert!(rt; fs::read(&rt, name)?.as_slice() == text.as_bytes());
-    assert!(rt; world.read(rt.alloc(), name)?.as_slice() == text.as_bytes());
+    empty_folder(&rt, "disk_world_large")?;
+    let text = large_text(rt.alloc())?;
+    assert!(rt; writes(&mut DiskWorld::new(&rt), LARGE, text.as_bytes()));
+    assert!(rt; holds(&rt, LARGE, text.as_bytes()));
+    assert!(rt; reads(rt.alloc(), &DiskWorld::new(&rt), LARGE, text.as_bytes()));
     let poor = PoorFiles { files: &rt };
-    let mut world = DiskWorld::new(&poor);
-    assert!(rt; world.read(rt.alloc(), name)?.as_slice() == text.as_bytes());
-    fs::remove_file(&rt, name)?;
-    world.write(name, text.as_bytes())?;
-    assert!(rt; fs::read(&rt, name)?.as_slice() == text.as_bytes());
+    assert!(rt; reads(rt.alloc(), &DiskWorld::new(&poor), LARGE, text.as_bytes()));
+    fs::remove_file(&rt, LARGE)?;
+    assert!(rt; writes(&mut DiskWorld::new(&poor), LARGE, text.as_bytes()));
+    assert!(rt; holds(&rt, LARGE, text.as_bytes()));
     fs::remove_dir_all(&rt, "disk_world_large")?;
     Ok(())
 }
@@ -156,56 +188,55 @@ fn a_large_file_is_whole(rt: HostRuntime) -> Result<(), Fail> {
 #[test]
 fn a_file_that_tells_no_size_is_whole(rt: HostRuntime) -> Result<(), Fail> {
     let name = "/proc/self/stat";
-    assert_eq!(rt; fs::metadata(&rt, name)?.len(), 0);
-    let world = DiskWorld::new(&rt);
-    assert!(rt; !world.read(rt.alloc(), name)?.is_empty());
+    assert!(rt; fs::metadata(&rt, name)?.len() == 0);
+    assert!(rt; !DiskWorld::new(&rt).read(rt.alloc(), name)?.is_empty());
     Ok(())
+}
+
+/// Whether a name exists for the files of the disk.
+fn is_there(rt: &HostRuntime, name: &str) -> bool {
+    DiskWorld::new(rt).exists(name)
 }
 
 #[test]
 fn what_can_not_be_told_exists(rt: HostRuntime) -> Result<(), Fail> {
-    let _ = fs::remove_dir_all(&rt, "disk_world_names");
-    fs::create_dir(&rt, "disk_world_names")?;
+    empty_folder(&rt, "disk_world_names")?;
     fs::write(&rt, "disk_world_names/file", b"".as_slice())?;
     let long = "n".repeat(rt.alloc(), 5000)?;
-    let world = DiskWorld::new(&rt);
-    assert!(rt; !world.exists("disk_world_names/state"));
-    let names = [
-        "disk_world_names/file",
-        "disk_world_names/file/state",
-        long.as_str(),
-    ];
-    for name in names {
-        assert!(rt; world.exists(name), "{name}");
-    }
+    assert!(rt; !is_there(&rt, "disk_world_names/state"));
+    assert!(rt; is_there(&rt, "disk_world_names/file"));
+    assert!(rt; is_there(&rt, "disk_world_names/file/state"));
+    assert!(rt; is_there(&rt, long.as_str()));
     let poor = PoorFiles { files: &rt };
     assert!(rt; DiskWorld::new(&poor).exists("disk_world_names/state"));
     fs::remove_dir_all(&rt, "disk_world_names")?;
     Ok(())
 }
 
+const KEPT: &str = "disk_world_kept/state";
+
+const PUBLIC: &str = "disk_world_kept/public";
+
+/// Whether no key is made in a world, since there is a state.
+fn finds_a_state<W: World>(
+    rt: &(impl Threads + AllocGlobal + Sync),
+    world: &mut W,
+) -> Result<bool, Fail> {
+    let key = key_from(rt.alloc(), "5/1", SEED, ID)?;
+    let mut output = Vec::new(rt.alloc());
+    let made = make_key(rt, rt.alloc(), world, key, KEPT, PUBLIC, &mut output);
+    Ok(made == Err(Fault::StateExists))
+}
+
 /// A state that can't be looked up is taken for one that is there, and stays as it is.
 #[test]
 fn a_state_that_can_not_be_told_is_kept(rt: HostRuntime) -> Result<(), Fail> {
-    let _ = fs::remove_dir_all(&rt, "disk_world_kept");
-    fs::create_dir(&rt, "disk_world_kept")?;
-    fs::write(&rt, "disk_world_kept/state", b"as it was".as_slice())?;
+    empty_folder(&rt, "disk_world_kept")?;
+    fs::write(&rt, KEPT, b"as it was".as_slice())?;
     let poor = PoorFiles { files: &rt };
-    let key = key_from(rt.alloc(), "5/1", SEED, ID)?;
-    let mut output = Vec::new(rt.alloc());
-    let made = make_key(
-        &rt,
-        rt.alloc(),
-        &mut DiskWorld::new(&poor),
-        key,
-        "disk_world_kept/state",
-        "disk_world_kept/public",
-        &mut output,
-    );
-    assert_eq!(rt; made, Err(Fault::StateExists));
-    let left = fs::read(&rt, "disk_world_kept/state")?;
-    assert_eq!(rt; left.as_slice(), b"as it was".as_slice());
-    assert!(rt; fs::metadata(&rt, "disk_world_kept/public").is_err());
+    assert!(rt; finds_a_state(&rt, &mut DiskWorld::new(&poor))?);
+    assert!(rt; holds(&rt, KEPT, b"as it was"));
+    assert!(rt; fs::metadata(&rt, PUBLIC).is_err());
     fs::remove_dir_all(&rt, "disk_world_kept")?;
     Ok(())
 }

@@ -1,12 +1,13 @@
 //! What a store asks of its files, in which order, and what a failure of one operation leaves.
 use super::recording::{Journal, RecordingFiles};
-use super::{empty_folder, holds, reads};
-use crate::{FileStore, lock};
-use lms_book::{ReadFault, StateStore, StoreFault};
+use super::{empty_folder, holds, reads, reads_none, refuses, takes};
+use crate::{FileStore, TryLock, lock};
+use lms_book::{ReadFault, StateStore};
 use std::alloc::Global;
 use std::fs;
 use std::io::ErrorKind;
 use std::os::unix::fs::symlink;
+use std::rt::Files;
 use std::test::Fail;
 
 const STATE: &str = "file_store_steps/state";
@@ -40,50 +41,83 @@ fn first_steps(alloc: Global, count: usize) -> Result<String, Fail> {
     Ok(lines)
 }
 
+/// Whether a store that writes `new` over `old`, where after `k` operations one alone fails, succeeds where none fails alone,
+/// and does nothing behind the one that fails.
+fn stops_after(
+    rt: &HostRuntime,
+    store: &mut impl StateStore,
+    journal: &Journal,
+    k: usize,
+) -> Result<bool, Fail> {
+    let began = takes(store, b"old");
+    journal.fail(k, ErrorKind::Other)?;
+    let stored = takes(store, b"new");
+    let steps = first_steps(rt.alloc(), k.saturating_add(1))?;
+    Ok(began && stored == (k == STEPS.len()) && journal.lines()? == steps)
+}
+
+/// Whether a store and its file hold this text, and `next` after the next write.
+fn goes_on(rt: &HostRuntime, store: &mut impl StateStore, left: &[u8]) -> Result<bool, Fail> {
+    let left_is_held = holds(rt, STATE, left)? && reads(rt, store, left);
+    Ok(
+        left_is_held
+            && takes(store, b"next")
+            && reads(rt, store, b"next")
+            && holds(rt, STATE, b"next")?,
+    )
+}
+
+/// Whether after `k` operations a write stops, the file holds one of both texts whole, and the store goes on with it.
+fn stops_and_goes_on(rt: &HostRuntime, k: usize) -> Result<bool, Fail> {
+    empty_folder(rt, "file_store_steps")?;
+    let journal = Journal::new(rt.alloc())?;
+    let files = RecordingFiles::new(rt.alloc(), rt, &journal)?;
+    let mut store = FileStore::new(rt.alloc(), &files, STATE)?;
+    let stops = stops_after(rt, &mut store, &journal, k)?;
+    journal.fail(usize::MAX, ErrorKind::Other)?;
+    let left = if k < PLACED { b"old" } else { b"new" };
+    Ok(stops && goes_on(rt, &mut store, left)?)
+}
+
 /// A store writes `new` over `old`, where after `k` operations one alone fails. No operation follows the one that fails, the
 /// file holds one of both texts whole, and the next write succeeds.
 #[test]
 fn a_write_stops_where_a_step_fails(rt: HostRuntime) -> Result<(), Fail> {
     for k in 0..=STEPS.len() {
-        empty_folder(&rt, "file_store_steps")?;
-        let journal = Journal::new(rt.alloc())?;
-        let files = RecordingFiles::new(rt.alloc(), &rt, &journal)?;
-        let mut store = FileStore::new(rt.alloc(), &files, STATE)?;
-        assert_eq!(rt; store.replace(b"old"), Ok(()));
-        journal.fail(k, ErrorKind::Other)?;
-        assert_eq!(rt; store.replace(b"new").is_ok(), k == STEPS.len(), "{k}");
-        assert_eq!(rt;
-            journal.lines()?,
-            first_steps(rt.alloc(), k.saturating_add(1))?
-        );
-        let left = if k < PLACED { b"old" } else { b"new" };
-        assert!(rt; holds(&rt, STATE, left)?, "{k}");
-        journal.fail(usize::MAX, ErrorKind::Other)?;
-        assert!(rt; reads(&rt, &mut store, left), "{k}");
-        assert_eq!(rt; store.replace(b"next"), Ok(()), "{k}");
-        assert!(rt; reads(&rt, &mut store, b"next"), "{k}");
-        assert!(rt; holds(&rt, STATE, b"next")?, "{k}");
+        assert!(rt; stops_and_goes_on(&rt, k)?, "{k}");
     }
     fs::remove_dir_all(&rt, "file_store_steps")?;
     Ok(())
+}
+
+const WAY: &str = "file_store_way/state";
+
+const OTHER: &str = "file_store_way/other";
+
+/// Whether a write of `new` over `old` fails where a link to another file comes to stand in its way.
+fn meets_a_link(
+    rt: &HostRuntime,
+    store: &mut impl StateStore,
+    journal: &Journal,
+) -> Result<bool, Fail> {
+    let began = takes(store, b"old");
+    symlink(rt, "other", "file_store_way/state.new")?;
+    journal.fail(REMOVED, ErrorKind::NotFound)?;
+    Ok(began && refuses(store, b"new") && holds(rt, WAY, b"old")?)
 }
 
 /// Where a link comes to stand in the way of the new text after the older one was removed, nothing is written through it.
 #[test]
 fn a_link_in_the_way_is_not_followed(rt: HostRuntime) -> Result<(), Fail> {
     empty_folder(&rt, "file_store_way")?;
-    fs::write(&rt, "file_store_way/other", b"other".as_slice())?;
+    fs::write(&rt, OTHER, b"other".as_slice())?;
     let journal = Journal::new(rt.alloc())?;
     let files = RecordingFiles::new(rt.alloc(), &rt, &journal)?;
-    let mut store = FileStore::new(rt.alloc(), &files, "file_store_way/state")?;
-    assert_eq!(rt; store.replace(b"old"), Ok(()));
-    symlink(&rt, "other", "file_store_way/state.new")?;
-    journal.fail(REMOVED, ErrorKind::NotFound)?;
-    assert_eq!(rt; store.replace(b"new"), Err(StoreFault));
-    assert!(rt; holds(&rt, "file_store_way/state", b"old")?);
-    assert_eq!(rt; store.replace(b"new"), Ok(()));
-    assert!(rt; holds(&rt, "file_store_way/state", b"new")?);
-    assert!(rt; holds(&rt, "file_store_way/other", b"other")?);
+    let mut store = FileStore::new(rt.alloc(), &files, WAY)?;
+    assert!(rt; meets_a_link(&rt, &mut store, &journal)?);
+    assert!(rt; takes(&mut store, b"new"));
+    assert!(rt; holds(&rt, WAY, b"new")?);
+    assert!(rt; holds(&rt, OTHER, b"other")?);
     fs::remove_dir_all(&rt, "file_store_way")?;
     Ok(())
 }
@@ -91,23 +125,40 @@ fn a_link_in_the_way_is_not_followed(rt: HostRuntime) -> Result<(), Fail> {
 /// How many operations a read of `old` takes: the file is opened, its bytes are read one by one, and its end is found.
 const READS: usize = 5;
 
+/// Whether a read that fails so after `k` operations has this fault, and the next one reads `old`.
+fn tells(
+    rt: &HostRuntime,
+    store: &mut impl StateStore,
+    journal: &Journal,
+    k: usize,
+    kind: ErrorKind,
+    fault: ReadFault,
+) -> Result<bool, Fail> {
+    journal.fail(k, kind)?;
+    Ok(reads_none(rt, store, fault) && reads(rt, store, b"old"))
+}
+
+/// Whether a read that fails after `k` operations tells want of memory from another failure.
+fn tells_both(
+    rt: &HostRuntime,
+    store: &mut impl StateStore,
+    journal: &Journal,
+    k: usize,
+) -> Result<bool, Fail> {
+    let device = tells(rt, store, journal, k, ErrorKind::Other, ReadFault::Device)?;
+    let (kind, fault) = (ErrorKind::OutOfMemory, ReadFault::OutOfMemory);
+    Ok(device && tells(rt, store, journal, k, kind, fault)?)
+}
+
 #[test]
 fn a_read_tells_want_of_memory(rt: HostRuntime) -> Result<(), Fail> {
     empty_folder(&rt, "file_store_wants")?;
     let journal = Journal::new(rt.alloc())?;
     let files = RecordingFiles::new(rt.alloc(), &rt, &journal)?;
     let mut store = FileStore::new(rt.alloc(), &files, "file_store_wants/state")?;
-    assert_eq!(rt; store.replace(b"old"), Ok(()));
-    let rows = [
-        (ErrorKind::Other, ReadFault::Device),
-        (ErrorKind::OutOfMemory, ReadFault::OutOfMemory),
-    ];
+    assert!(rt; takes(&mut store, b"old"));
     for k in 0..READS {
-        for (kind, fault) in rows {
-            journal.fail(k, kind)?;
-            assert_eq!(rt; store.read(rt.alloc()).err(), Some(fault), "{k}");
-            assert!(rt; reads(&rt, &mut store, b"old"), "{k}");
-        }
+        assert!(rt; tells_both(&rt, &mut store, &journal, k)?, "{k}");
     }
     journal.fail(READS, ErrorKind::Other)?;
     assert!(rt; reads(&rt, &mut store, b"old"));
@@ -115,25 +166,34 @@ fn a_read_tells_want_of_memory(rt: HostRuntime) -> Result<(), Fail> {
     Ok(())
 }
 
+const NAME: &str = "file_store_resolves/state";
+
+/// Whether want of memory while the name is resolved is told, by a store and by a lock, and another failure gives no lock.
+fn tells_of_a_name<R: Files>(alloc: Global, files: &R, journal: &Journal) -> Result<bool, Fail>
+where
+    R::File: TryLock,
+{
+    journal.fail(0, ErrorKind::OutOfMemory)?;
+    let store_wants = FileStore::new(alloc, files, NAME).is_err();
+    journal.fail(0, ErrorKind::OutOfMemory)?;
+    let lock_wants = lock(files, alloc, NAME).is_err();
+    journal.fail(0, ErrorKind::Other)?;
+    Ok(store_wants && lock_wants && lock(files, alloc, NAME)?.is_none())
+}
+
 /// The same of the name, which is resolved first.
 #[test]
 fn a_name_tells_want_of_memory(rt: HostRuntime) -> Result<(), Fail> {
     empty_folder(&rt, "file_store_resolves")?;
+    fs::write(&rt, NAME, b"old".as_slice())?;
     let journal = Journal::new(rt.alloc())?;
     let files = RecordingFiles::new(rt.alloc(), &rt, &journal)?;
-    let name = "file_store_resolves/state";
-    fs::write(&rt, name, b"old".as_slice())?;
-    journal.fail(0, ErrorKind::OutOfMemory)?;
-    assert!(rt; FileStore::new(rt.alloc(), &files, name).is_err());
-    journal.fail(0, ErrorKind::OutOfMemory)?;
-    assert!(rt; lock(&files, rt.alloc(), name).is_err());
+    assert!(rt; tells_of_a_name(rt.alloc(), &files, &journal)?);
     journal.fail(0, ErrorKind::Other)?;
-    assert!(rt; lock(&files, rt.alloc(), name)?.is_none());
-    journal.fail(0, ErrorKind::Other)?;
-    let mut store = FileStore::new(rt.alloc(), &files, name)?;
-    assert_eq!(rt; store.read(rt.alloc()).err(), Some(ReadFault::Device));
-    assert_eq!(rt; store.replace(b"new"), Err(StoreFault));
-    assert!(rt; holds(&rt, name, b"old")?);
+    let mut store = FileStore::new(rt.alloc(), &files, NAME)?;
+    assert!(rt; reads_none(&rt, &mut store, ReadFault::Device));
+    assert!(rt; refuses(&mut store, b"new"));
+    assert!(rt; holds(&rt, NAME, b"old")?);
     fs::remove_dir_all(&rt, "file_store_resolves")?;
     Ok(())
 }

@@ -1,6 +1,6 @@
 //! As many levels as there may be, long names and long texts.
-use super::end_of;
-use super::state::{ID, INFO, RANDOM, SEED, keygen, says};
+use super::says;
+use super::state::{ID, INFO, RANDOM, SEED, keygen};
 use lms_commands::{MemoryWorld, World};
 use std::test::Fail;
 
@@ -38,12 +38,12 @@ const VERIFY: [&str; 8] = [
 fn eight_levels_go_a_whole_round(rt: HostRuntime) -> Result<(), Fail> {
     let mut world = MemoryWorld::new(rt.alloc());
     world.write("text", [7; 70_000].as_slice())?;
-    let end = end_of(&rt, &keygen(LEVELS, SEED, ID), &mut world)?;
-    assert!(rt; says(&end, 0, "capacity 35184372088832\n"));
-    assert!(rt; says(&end_of(&rt, &SIGN, &mut world)?, 0, "index 0\n"));
-    assert!(rt; says(&end_of(&rt, &VERIFY, &mut world)?, 0, "valid\n"));
+    let words = keygen(LEVELS, SEED, ID);
+    assert!(rt; says(&rt, &words, &mut world, 0, "capacity 35184372088832\n"));
+    assert!(rt; says(&rt, &SIGN, &mut world, 0, "index 0\n"));
+    assert!(rt; says(&rt, &VERIFY, &mut world, 0, "valid\n"));
     let lines = "levels 5/1,5/1,5/1,5/2,5/2,5/2,5/4,10/1\ncounter 1\n\
         capacity 35184372088832\nleft 35184372088831\n";
-    assert!(rt; says(&end_of(&rt, &INFO, &mut world)?, 0, lines));
+    assert!(rt; says(&rt, &INFO, &mut world, 0, lines));
     Ok(())
 }

@@ -1,6 +1,6 @@
 //! Each line is printed by one write, and passed on.
 use super::state::{INFO, image_of, keyed, keygen_one, sign_text, store_of};
-use super::{VERIFY, run};
+use super::{VERIFY, status_of};
 use lms_commands::{Fault, MemoryWorld, World, print_fault};
 use lms_params::{LmsType, OtsType};
 use std::io;
@@ -45,18 +45,9 @@ fn prints(
     output: &str,
     errors: &str,
 ) -> bool {
-    let mut input: &[u8] = &[];
     let mut printed = Marked(Vec::new(rt.alloc()));
     let mut complained = Marked(Vec::new(rt.alloc()));
-    run(
-        rt,
-        rt.alloc(),
-        words,
-        world,
-        &mut input,
-        &mut printed,
-        &mut complained,
-    );
+    status_of(rt, words, world, &mut printed, &mut complained);
     printed.0.as_slice() == output.as_bytes() && complained.0.as_slice() == errors.as_bytes()
 }
 
@@ -83,29 +74,20 @@ fn each_line_is_one_write(rt: HostRuntime) -> Result<(), Fail> {
     Ok(())
 }
 
+/// Whether a run prints its output or its errors as a whole, and passes them on.
+fn passes_on(rt: &(impl Threads + AllocGlobal + Sync), words: &[&str]) -> bool {
+    let mut output = Marked(Vec::new(rt.alloc()));
+    let mut errors = Marked(Vec::new(rt.alloc()));
+    let mut world = MemoryWorld::new(rt.alloc());
+    status_of(rt, words, &mut world, &mut output, &mut errors);
+    output.0.ends_with(b"\n|!") != errors.0.ends_with(b"\n|!")
+}
+
 /// Help and a mistake in the words have many lines, and are passed on as a whole.
 #[test]
 fn texts_of_clap_are_passed_on(rt: HostRuntime) {
-    let rows: [&[&str]; 2] = [&["lms_tool", "--help"], &["lms_tool", "sign"]];
-    for words in rows {
-        let mut input: &[u8] = &[];
-        let mut world = MemoryWorld::new(rt.alloc());
-        let mut output = Marked(Vec::new(rt.alloc()));
-        let mut errors = Marked(Vec::new(rt.alloc()));
-        run(
-            &rt,
-            rt.alloc(),
-            words,
-            &mut world,
-            &mut input,
-            &mut output,
-            &mut errors,
-        );
-        assert!(rt;
-            output.0.ends_with(b"\n|!") != errors.0.ends_with(b"\n|!"),
-            "{words:?}"
-        );
-    }
+    assert!(rt; passes_on(&rt, &["lms_tool", "--help"]));
+    assert!(rt; passes_on(&rt, &["lms_tool", "sign"]));
 }
 
 #[test]
@@ -114,15 +96,18 @@ fn the_longest_lines_have_room(rt: HostRuntime) -> Result<(), Fail> {
     let lines = "levels 10/8,10/8,10/8,10/8,5/8,5/8,5/8,5/8\n|!\
         counter 1152921504606846976\n|!capacity 1152921504606846976\n|!left 0\n|!";
     assert!(rt; prints(&rt, &INFO, &mut world, lines, ""));
+    Ok(())
+}
+
+#[test]
+fn the_longest_fault_has_room(rt: HostRuntime) -> Result<(), Fail> {
     let mut errors = Marked(Vec::new(rt.alloc()));
     let fault = Fault::WriteStateBurnt {
         start: u64::MAX,
         len: 1,
     };
     print_fault(&mut errors, fault)?;
-    assert_eq!(rt;
-        errors.0.as_slice(),
-        b"error: cannot write state: 18446744073709551615 to 18446744073709551615 burnt\n|!".as_slice()
-    );
+    let line = b"error: cannot write state: 18446744073709551615 to 18446744073709551615 burnt\n|!";
+    assert!(rt; errors.0.as_slice() == line.as_slice());
     Ok(())
 }

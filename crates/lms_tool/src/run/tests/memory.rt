@@ -86,24 +86,31 @@ fn is_published(alloc: Global, world: &MemoryWorld) -> bool {
     world.read(alloc, "key.pub").is_ok() || world.read(alloc, "key.pub").is_ok()
 }
 
+/// Files with a message, written at the first or at the second try.
+fn with_text(alloc: Global) -> Result<MemoryWorld, Fail> {
+    let mut world = MemoryWorld::new(alloc);
+    if world.write("text", b"abc").is_err() {
+        world.write("text", b"abc")?;
+    }
+    Ok(world)
+}
+
+/// The status of a `verify`, by whether there is a public key.
+fn verified(alloc: Global, world: &MemoryWorld) -> u8 {
+    if is_published(alloc, world) { 0 } else { 6 }
+}
+
 /// `rt test` refuses no memory. At the top of the workspace,
 /// `tests/refused lms_tool run::tests::memory::refused_memory_is_said` refuses each request in turn.
 #[test]
 fn refused_memory_is_said(rt: HostRuntime) -> Result<(), Fail> {
-    let mut world = MemoryWorld::new(rt.alloc());
-    if world.write("text", b"abc").is_err() {
-        world.write("text", b"abc")?;
-    }
+    let mut world = with_text(rt.alloc())?;
     assert!(rt; makes_a_key(&rt, &mut world)?);
     assert!(rt; signs(&rt, &mut world)?);
     let before = used(&world)?;
     assert!(rt; ends_once(&rt, &INFO, &mut world, 0)?);
-    let verified = if is_published(rt.alloc(), &world) {
-        0
-    } else {
-        6
-    };
-    assert!(rt; ends_once(&rt, &VERIFY, &mut world, verified)?);
-    assert_eq!(rt; used(&world)?, before);
+    let status = verified(rt.alloc(), &world);
+    assert!(rt; ends_once(&rt, &VERIFY, &mut world, status)?);
+    assert!(rt; used(&world)? == before);
     Ok(())
 }

@@ -1,9 +1,10 @@
 ghost use Rattle.std.specs.Prelude.{◌≡◌, ◌<◌};
 
-use super::{Ended, VERIFY, end_of};
-use lms_book::{Image, MemoryStore, encode_image};
+use super::{VERIFY, fails_with, says};
+use lms_book::MemoryStore;
 use lms_commands::{MemoryWorld, World};
 use lms_hss::{HssKey, Levels};
+use lms_image::{Image, encode_image};
 use lms_params::{LmsType, OtsType};
 use lms_slow::{SlowKey, slow_public, slow_sign};
 use std::alloc::Global;
@@ -76,7 +77,7 @@ fn slow_key(levels: &[(LmsType, OtsType)]) -> SlowKey<'_>
 pub(super) fn image_of(
     levels: &[(LmsType, OtsType)],
     counter: u64,
-) -> Result<lms_book::ImageBytes, Fail> {
+) -> Result<lms_image::ImageBytes, Fail> {
     let levels = Levels::new(levels)
         .ok()
         .ok_or("the signer takes the levels")?;
@@ -100,6 +101,16 @@ pub(super) fn store_of(alloc: Global, text: Option<&[u8]>) -> Result<MemoryStore
     )
 }
 
+/// A store with the state of these levels and this counter.
+pub(super) fn store_at(
+    alloc: Global,
+    levels: &[(LmsType, OtsType)],
+    counter: u64,
+) -> Result<MemoryStore, Fail> {
+    let image = image_of(levels, counter)?;
+    store_of(alloc, Some(image.as_slice()))
+}
+
 /// A message, and the state with these levels and this counter.
 pub(super) fn keyed(
     alloc: Global,
@@ -108,8 +119,7 @@ pub(super) fn keyed(
 ) -> Result<MemoryWorld, Fail> {
     let mut world = MemoryWorld::new(alloc);
     world.write("text", b"abc")?;
-    let image = image_of(levels, counter)?;
-    world.set_state(store_of(alloc, Some(image.as_slice()))?);
+    world.set_state(store_at(alloc, levels, counter)?);
     Ok(world)
 }
 
@@ -126,42 +136,35 @@ pub(super) fn is_at(
     })
 }
 
-pub(super) fn fails_with(end: &Ended, status: u8, line: &str) -> bool {
-    end.status == status && end.errors.as_str() == line && end.output.is_empty()
-}
-
-pub(super) fn says(end: &Ended, status: u8, output: &str) -> bool {
-    end.status == status && end.output.as_str() == output && end.errors.is_empty()
+/// Whether a key of 5/8 is made, with the slow signer's public key.
+fn makes_a_key(
+    rt: &(impl Threads + AllocGlobal + Sync),
+    world: &mut MemoryWorld,
+) -> Result<bool, Fail> {
+    let made = says(rt, &keygen_one(), world, 0, "capacity 32\n");
+    let public = world.read(rt.alloc(), "key.pub")?;
+    Ok(made && public == slow_public(rt.alloc(), &slow_key(&ONE))?)
 }
 
 #[test]
 fn makes_a_key_and_signs(rt: HostRuntime) -> Result<(), Fail> {
     let mut world = MemoryWorld::new(rt.alloc());
     world.write("text", b"abc")?;
-    let end = end_of(&rt, &keygen("5/8", SEED, ID), &mut world)?;
-    assert!(rt; says(&end, 0, "capacity 32\n"));
+    assert!(rt; makes_a_key(&rt, &mut world)?);
     assert!(rt; is_at(&world, &ONE, 0)?);
-    let public = world.read(rt.alloc(), "key.pub")?;
-    assert_eq!(rt; public, slow_public(rt.alloc(), &slow_key(&ONE))?);
-    let end = end_of(&rt, &sign(RANDOM, "text"), &mut world)?;
-    assert!(rt; says(&end, 0, "index 0\n"));
-    assert!(rt; says(&end_of(&rt, &VERIFY, &mut world)?, 0, "valid\n"));
+    assert!(rt; says(&rt, &sign_text(), &mut world, 0, "index 0\n"));
+    assert!(rt; says(&rt, &VERIFY, &mut world, 0, "valid\n"));
     let lines = "levels 5/8\ncounter 1\ncapacity 32\nleft 31\n";
-    assert!(rt; says(&end_of(&rt, &INFO, &mut world)?, 0, lines));
-    let end = end_of(&rt, &sign(RANDOM, "text"), &mut world)?;
-    assert!(rt; says(&end, 0, "index 1\n"));
+    assert!(rt; says(&rt, &INFO, &mut world, 0, lines));
+    assert!(rt; says(&rt, &sign_text(), &mut world, 0, "index 1\n"));
     Ok(())
 }
 
 #[test]
 fn describes_two_levels(rt: HostRuntime) -> Result<(), Fail> {
     let mut world = keyed(rt.alloc(), &TWO, 12)?;
-    let end = end_of(&rt, &INFO, &mut world)?;
-    assert_eq!(rt; end.status, 0);
-    assert_eq!(rt;
-        end.output.as_str(),
-        "levels 5/8,5/8\ncounter 12\ncapacity 1024\nleft 1012\n"
-    );
+    let lines = "levels 5/8,5/8\ncounter 12\ncapacity 1024\nleft 1012\n";
+    assert!(rt; says(&rt, &INFO, &mut world, 0, lines));
     assert!(rt; is_at(&world, &TWO, 12)?);
     Ok(())
 }
@@ -174,11 +177,11 @@ fn signs_slowly(
 ) -> Result<bool, Fail>
     requires { g < 1024 }
 {
-    let end = end_of(rt, &sign(RANDOM, "text"), world)?;
     let line = format!(in rt.alloc(); "index {g}\n")?;
+    let signed = says(rt, &sign_text(), world, 0, line.as_str());
     let slow = slow_sign(rt.alloc(), &slow_key(&TWO), g, &[0x33; 32], b"abc")?;
     let signature = world.read(rt.alloc(), "text.sig")?;
-    Ok(end.status == 0 && end.output == line && signature == slow && is_at(world, &TWO, g + 1)?)
+    Ok(signed && signature == slow)
 }
 
 /// Over the end of a bottom tree.
@@ -187,12 +190,26 @@ fn signs_as_the_slow_signer(rt: HostRuntime) -> Result<(), Fail> {
     let mut world = keyed(rt.alloc(), &TWO, 30)?;
     for g in 30..34 {
         assert!(rt; signs_slowly(&rt, &mut world, g)?, "{g}");
+        assert!(rt; is_at(&world, &TWO, g + 1)?, "{g}");
     }
     Ok(())
 }
 
+/// Whether no key is made by these options, with this line, also where the state is in use.
+fn makes_no_key(
+    rt: &(impl Threads + AllocGlobal + Sync),
+    levels: &str,
+    seed: &str,
+    id: &str,
+    line: &str,
+) -> bool {
+    let mut world = MemoryWorld::new(rt.alloc());
+    world.use_elsewhere();
+    fails_with(rt, &keygen(levels, seed, id), &mut world, 2, line) && world.state().is_none()
+}
+
 #[test]
-fn refuses_bad_options(rt: HostRuntime) -> Result<(), Fail> {
+fn refuses_bad_options(rt: HostRuntime) {
     let rows: [(&str, &str, &str, &str); 9] = [
         ("5/3", "", "", "error: bad levels\n"),
         (
@@ -210,15 +227,18 @@ fn refuses_bad_options(rt: HostRuntime) -> Result<(), Fail> {
         ("", SEED, ID, "error: bad levels\n"),
     ];
     for (levels, seed, id, line) in rows {
-        let mut world = MemoryWorld::new(rt.alloc());
-        world.use_elsewhere();
-        let end = end_of(&rt, &keygen(levels, seed, id), &mut world)?;
-        assert!(rt; fails_with(&end, 2, line), "{levels} {seed} {id}");
-        assert!(rt; world.state().is_none());
+        assert!(rt;
+            makes_no_key(&rt, levels, seed, id, line),
+            "{levels} {seed} {id}"
+        );
     }
+}
+
+#[test]
+fn refuses_a_bad_random(rt: HostRuntime) -> Result<(), Fail> {
     let mut world = keyed(rt.alloc(), &ONE, 5)?;
-    let end = end_of(&rt, &sign("33", "none"), &mut world)?;
-    assert!(rt; fails_with(&end, 2, "error: bad random\n"));
+    let words = sign("33", "none");
+    assert!(rt; fails_with(&rt, &words, &mut world, 2, "error: bad random\n"));
     assert!(rt; is_at(&world, &ONE, 5)?);
     Ok(())
 }
@@ -227,47 +247,66 @@ fn refuses_bad_options(rt: HostRuntime) -> Result<(), Fail> {
 fn keeps_a_state_that_exists(rt: HostRuntime) -> Result<(), Fail> {
     let mut world = keyed(rt.alloc(), &ONE, 5)?;
     world.write("key.pub", b"as it was")?;
-    let end = end_of(&rt, &keygen("5/8,5/8", SEED, ID), &mut world)?;
-    assert!(rt; fails_with(&end, 3, "error: state exists\n"));
+    let words = keygen("5/8,5/8", SEED, ID);
+    assert!(rt; fails_with(&rt, &words, &mut world, 3, "error: state exists\n"));
     assert!(rt; is_at(&world, &ONE, 5)?);
-    assert_eq!(rt;
-        world.read(rt.alloc(), "key.pub")?.as_slice(),
-        b"as it was".as_slice()
-    );
+    let public = world.read(rt.alloc(), "key.pub")?;
+    assert!(rt; public.as_slice() == b"as it was".as_slice());
     Ok(())
 }
 
-/// A state that another program has is not read, and a message is read before.
+/// A message, and a state of index 5 that another program has.
+fn in_use(alloc: Global) -> Result<MemoryWorld, Fail> {
+    let mut world = keyed(alloc, &ONE, 5)?;
+    world.use_elsewhere();
+    Ok(world)
+}
+
+/// Whether a command leaves a state that another program has.
+fn is_left(rt: &(impl Threads + AllocGlobal + Sync), words: &[&str]) -> Result<bool, Fail> {
+    let mut world = in_use(rt.alloc())?;
+    let left = fails_with(rt, words, &mut world, 3, "error: state in use\n");
+    Ok(left && is_at(&world, &ONE, 5)?)
+}
+
+/// A state that another program has is not read.
 #[test]
 fn leaves_a_state_in_use(rt: HostRuntime) -> Result<(), Fail> {
-    let commands: [&[&str]; 3] = [&INFO, &sign(RANDOM, "text"), &keygen("5/8", SEED, ID)];
-    for words in commands {
-        let mut world = keyed(rt.alloc(), &ONE, 5)?;
-        world.use_elsewhere();
-        let end = end_of(&rt, words, &mut world)?;
-        assert!(rt; fails_with(&end, 3, "error: state in use\n"), "{words:?}");
-        assert!(rt; is_at(&world, &ONE, 5)?);
-    }
-    let mut world = keyed(rt.alloc(), &ONE, 5)?;
-    world.use_elsewhere();
-    let end = end_of(&rt, &sign(RANDOM, "none"), &mut world)?;
-    assert!(rt; fails_with(&end, 6, "error: cannot read input\n"));
+    assert!(rt; is_left(&rt, &INFO)?);
+    assert!(rt; is_left(&rt, &sign_text())?);
+    assert!(rt; is_left(&rt, &keygen_one())?);
     Ok(())
+}
+
+#[test]
+fn reads_a_message_before_a_state_in_use(rt: HostRuntime) -> Result<(), Fail> {
+    let mut world = in_use(rt.alloc())?;
+    let words = sign(RANDOM, "none");
+    assert!(rt; fails_with(&rt, &words, &mut world, 6, "error: cannot read input\n"));
+    Ok(())
+}
+
+/// Whether `info` and `sign` end with status 3 and this line.
+fn is_not_used(
+    rt: &(impl Threads + AllocGlobal + Sync),
+    world: &mut MemoryWorld,
+    line: &str,
+) -> bool {
+    fails_with(rt, &INFO, world, 3, line) && fails_with(rt, &sign_text(), world, 3, line)
+}
+
+/// Whether a state with this text, which another program has, is in use and no more is known of it.
+fn is_unread(rt: &(impl Threads + AllocGlobal + Sync), text: Option<&[u8]>) -> Result<bool, Fail> {
+    let mut world = in_use(rt.alloc())?;
+    world.set_state(store_of(rt.alloc(), text)?);
+    Ok(is_not_used(rt, &mut world, "error: state in use\n"))
 }
 
 /// The lock is asked for before a state is read: where it is not got, a state that is none is in use, too.
 #[test]
 fn asks_for_the_lock_before_it_reads(rt: HostRuntime) -> Result<(), Fail> {
-    let texts: [Option<&[u8]>; 2] = [None, Some(b"HSSX00000000")];
-    for text in texts {
-        let mut world = keyed(rt.alloc(), &ONE, 5)?;
-        world.set_state(store_of(rt.alloc(), text)?);
-        world.use_elsewhere();
-        let described = end_of(&rt, &INFO, &mut world)?;
-        assert!(rt; fails_with(&described, 3, "error: state in use\n"));
-        let signed = end_of(&rt, &sign(RANDOM, "text"), &mut world)?;
-        assert!(rt; fails_with(&signed, 3, "error: state in use\n"));
-    }
+    assert!(rt; is_unread(&rt, None)?);
+    assert!(rt; is_unread(&rt, Some(b"HSSX00000000"))?);
     Ok(())
 }
 
@@ -279,9 +318,7 @@ fn is_refused(
 ) -> Result<bool, Fail> {
     let mut world = keyed(rt.alloc(), &ONE, 5)?;
     world.set_state(store_of(rt.alloc(), text)?);
-    let described = end_of(rt, &INFO, &mut world)?;
-    let signed = end_of(rt, &sign(RANDOM, "text"), &mut world)?;
-    Ok(fails_with(&described, 3, line) && fails_with(&signed, 3, line))
+    Ok(is_not_used(rt, &mut world, line))
 }
 
 #[test]
@@ -298,11 +335,17 @@ fn refuses_a_bad_state(rt: HostRuntime) -> Result<(), Fail> {
     Ok(())
 }
 
+/// The image of a state, with its last byte apart.
+fn cut_image(alloc: Global) -> Result<(Vec<u8>, u8), Fail> {
+    let mut image = Vec::from_slice(alloc, image_of(&ONE, 5)?.as_slice())?;
+    let last = image.pop().ok_or("an image has bytes")?;
+    Ok((image, last))
+}
+
 /// An image without its last byte, and one with that byte changed.
 #[test]
 fn refuses_a_changed_state(rt: HostRuntime) -> Result<(), Fail> {
-    let mut image = Vec::from_slice(rt.alloc(), image_of(&ONE, 5)?.as_slice())?;
-    let last = image.pop().ok_or("an image has bytes")?;
+    let (mut image, last) = cut_image(rt.alloc())?;
     assert!(rt; is_refused(&rt, Some(&image), "error: bad state: WrongLength\n")?);
     image.push(last ^ 1)?;
     assert!(rt; is_refused(&rt, Some(&image), "error: bad state: Damaged\n")?);

@@ -1,7 +1,8 @@
 //! A program that stops in a write of its state.
 use super::stopping::{StoppingFiles, counter};
-use lms_book::{Book, Image, StateStore, encode_image};
+use lms_book::{Book, StateStore};
 use lms_hss::{HssKey, Levels};
+use lms_image::{Image, encode_image};
 use lms_params::{LmsType, OtsType};
 use lms_store::FileStore;
 use std::alloc::Global;
@@ -49,24 +50,43 @@ fn next_index<S: StateStore>(book: &mut Book<S>) -> Option<u64> {
     Some(start)
 }
 
+/// The index that a program gives which begins with this store.
+fn begins<S: StateStore + Drop>(alloc: Global, store: S) -> Result<Option<u64>, Fail> {
+    let mut book = opened(alloc, store)?;
+    Ok(next_index(&mut book))
+}
+
 /// The index that the true files give after the program starts again.
 fn next_life(rt: &HostRuntime) -> Result<Option<u64>, Fail> {
-    let mut book = opened(rt.alloc(), FileStore::new(rt.alloc(), rt, STATE)?)?;
-    Ok(next_index(&mut book))
+    begins(rt.alloc(), FileStore::new(rt.alloc(), rt, STATE)?)
+}
+
+/// The indices that a program gives which begins with this store: one, and one for which its files stop after `k` operations.
+fn begins_and_stops<S: StateStore + Drop>(
+    alloc: Global,
+    store: S,
+    left: &AtomicUsize,
+    k: usize,
+) -> Result<[Option<u64>; 2], Fail> {
+    let mut book = opened(alloc, store)?;
+    let first = next_index(&mut book);
+    left.store(k, Ordering::SeqCst);
+    Ok([first, next_index(&mut book)])
+}
+
+/// The same over the files of the disk.
+fn stopped_life(rt: &HostRuntime, k: usize) -> Result<[Option<u64>; 2], Fail> {
+    let left = counter(rt.alloc(), usize::MAX)?;
+    let files = StoppingFiles::new(rt, left.clone()?);
+    let store = FileStore::new(rt.alloc(), &files, STATE)?;
+    begins_and_stops(rt.alloc(), store, &left, k)
 }
 
 /// What three reservations of 1 give: one that is done, one in which the program stops after `k` operations, and one
 /// after it started again.
 fn lives(rt: &HostRuntime, k: usize) -> Result<[Option<u64>; 3], Fail> {
     begin(rt)?;
-    let left = counter(rt.alloc(), usize::MAX)?;
-    let files = StoppingFiles::new(rt, left.clone()?);
-    let store = FileStore::new(rt.alloc(), &files, STATE)?;
-    let mut book = opened(rt.alloc(), store)?;
-    let first = next_index(&mut book);
-    left.store(k, Ordering::SeqCst);
-    let stopped = next_index(&mut book);
-    drop(book);
+    let [first, stopped] = stopped_life(rt, k)?;
     Ok([first, stopped, next_life(rt)?])
 }
 
@@ -76,7 +96,7 @@ fn no_stop_gives_an_index_twice(rt: HostRuntime) -> Result<(), Fail> {
     for k in 0..=OPERATIONS {
         let stopped = if k < OPERATIONS { None } else { Some(1) };
         let next = if k < PLACED { 1 } else { 2 };
-        assert_eq!(rt; lives(&rt, k)?, [Some(0), stopped, Some(next)], "{k}");
+        assert!(rt; lives(&rt, k)? == [Some(0), stopped, Some(next)], "{k}");
     }
     fs::remove_dir_all(&rt, "file_store_stops")?;
     Ok(())
@@ -101,8 +121,7 @@ fn read_after(rt: &HostRuntime, k: usize) -> Result<Vec<u8>, Fail> {
     let left = counter(rt.alloc(), usize::MAX)?;
     let files = StoppingFiles::new(rt, left.clone()?);
     let store = FileStore::new(rt.alloc(), &files, "file_store_fails/state")?;
-    let text = text_after(rt.alloc(), store, &left, k);
-    Ok(text.ok_or("the second write alone fails")?)
+    Ok(text_after(rt.alloc(), store, &left, k).ok_or("the second write alone fails")?)
 }
 
 #[test]
@@ -110,7 +129,7 @@ fn after_a_failed_write_both_texts_are_read(rt: HostRuntime) -> Result<(), Fail>
     empty_folder(&rt, "file_store_fails")?;
     for k in 0..OPERATIONS {
         let left = if k < PLACED { b"a" } else { b"b" };
-        assert_eq!(rt; read_after(&rt, k)?.as_slice(), left.as_slice(), "{k}");
+        assert!(rt; read_after(&rt, k)?.as_slice() == left.as_slice(), "{k}");
     }
     fs::remove_dir_all(&rt, "file_store_fails")?;
     Ok(())

@@ -1,6 +1,7 @@
-use super::end_of;
+use super::{fails_with, says};
 use lms_commands::MemoryWorld;
 use std::test::Fail;
+use std::thread::Threads;
 
 const HELP: &str = "Makes keys, signs and verifies with HSS/LMS (RFC 8554)
 
@@ -85,27 +86,27 @@ Arguments:
   [COMMAND]...  Print help for the subcommand(s)
 ";
 
+/// Whether a run with these words shows this text and nothing else.
+fn shows(rt: &(impl Threads + AllocGlobal + Sync), words: &[&str], text: &str) -> bool {
+    says(rt, words, &mut MemoryWorld::new(rt.alloc()), 0, text)
+}
+
 #[test]
-fn shows_help(rt: HostRuntime) -> Result<(), Fail> {
-    let rows: [(&[&str], &str); 10] = [
-        (&["lms_tool", "--help"], HELP),
-        (&["lms_tool", "-h"], HELP),
-        (&["lms_tool", "help"], HELP),
-        (&["lms_tool", "keygen", "--help"], KEYGEN_HELP),
-        (&["lms_tool", "info", "--help"], INFO_HELP),
-        (&["lms_tool", "sign", "--help"], SIGN_HELP),
-        (&["lms_tool", "verify", "--help"], VERIFY_HELP),
-        (&["lms_tool", "verify", "-h"], VERIFY_HELP),
-        (&["lms_tool", "help", "verify"], VERIFY_HELP),
-        (&["lms_tool", "help", "help"], HELP_HELP),
-    ];
-    for (words, text) in rows {
-        let end = end_of(&rt, words, &mut MemoryWorld::new(rt.alloc()))?;
-        assert_eq!(rt; end.status, 0, "{words:?}");
-        assert_eq!(rt; end.output.as_str(), text, "{words:?}");
-        assert_eq!(rt; end.errors.as_str(), "");
-    }
-    Ok(())
+fn shows_help(rt: HostRuntime) {
+    assert!(rt; shows(&rt, &["lms_tool", "--help"], HELP));
+    assert!(rt; shows(&rt, &["lms_tool", "-h"], HELP));
+    assert!(rt; shows(&rt, &["lms_tool", "help"], HELP));
+}
+
+#[test]
+fn shows_help_of_a_command(rt: HostRuntime) {
+    assert!(rt; shows(&rt, &["lms_tool", "keygen", "--help"], KEYGEN_HELP));
+    assert!(rt; shows(&rt, &["lms_tool", "info", "--help"], INFO_HELP));
+    assert!(rt; shows(&rt, &["lms_tool", "sign", "--help"], SIGN_HELP));
+    assert!(rt; shows(&rt, &["lms_tool", "verify", "--help"], VERIFY_HELP));
+    assert!(rt; shows(&rt, &["lms_tool", "verify", "-h"], VERIFY_HELP));
+    assert!(rt; shows(&rt, &["lms_tool", "help", "verify"], VERIFY_HELP));
+    assert!(rt; shows(&rt, &["lms_tool", "help", "help"], HELP_HELP));
 }
 
 const HINT: &str = "
@@ -127,68 +128,105 @@ const BARE_HINT: &str = "
 For more information, try '--help'.
 ";
 
+/// Whether a run with these words says this of them, and nothing else.
+fn is_mistaken(
+    rt: &(impl Threads + AllocGlobal + Sync),
+    words: &[&str],
+    text: &str,
+    hint: &str,
+) -> Result<bool, Fail> {
+    let expected = format!(in rt.alloc(); "{text}{hint}")?;
+    let mut world = MemoryWorld::new(rt.alloc());
+    Ok(fails_with(rt, words, &mut world, 2, expected.as_str()))
+}
+
 /// Words that are no command, what clap says of them first and how it goes on.
-const MISTAKES: [(&[&str], &str, &str); 10] = [
-    (
-        &["lms_tool"],
-        "error: 'lms_tool' requires a subcommand but one was not provided\n  [subcommands: keygen, info, sign, verify, help]",
-        HINT,
-    ),
-    (
-        &["lms_tool", "stray"],
-        "error: unrecognized subcommand 'stray'",
-        HINT,
-    ),
-    (
-        &["lms_tool", "help", "stray"],
-        "error: unrecognized subcommand 'stray'",
-        HINT,
-    ),
-    (
-        &["lms_tool", "--stray"],
-        "error: unexpected argument '--stray' found",
-        HINT,
-    ),
-    (
-        &["lms_tool", "verify", "stray"],
-        "error: unexpected argument 'stray' found",
-        VERIFY_HINT,
-    ),
-    (
-        &["lms_tool", "verify", "--public", "k", "--signature", "s"],
-        "error: the following required arguments were not provided:\n  --message <FILE>",
-        VERIFY_HINT,
-    ),
-    (
-        &["lms_tool", "verify", "--public", "k", "--public", "k"],
-        "error: the argument '--public <FILE>' cannot be used multiple times",
-        VERIFY_HINT,
-    ),
-    (
-        &["lms_tool", "verify", "--public"],
-        "error: a value is required for '--public <FILE>' but none was supplied",
-        BARE_HINT,
-    ),
-    (
-        &["lms_tool", "--", "verify"],
-        "error: unexpected argument 'verify' found\n\n  tip: subcommand 'verify' exists; to use it, remove the '--' before it",
-        HINT,
-    ),
-    (
-        &["lms_tool", "help", "--help"],
-        "error: unrecognized subcommand '--help'",
-        HINT,
-    ),
-];
+#[test]
+fn reports_words_that_are_no_command(rt: HostRuntime) -> Result<(), Fail> {
+    assert!(rt;
+        is_mistaken(
+            &rt,
+            &["lms_tool"],
+            "error: 'lms_tool' requires a subcommand but one was not provided\n  [subcommands: keygen, info, sign, verify, help]",
+            HINT
+        )?
+    );
+    assert!(rt;
+        is_mistaken(
+            &rt,
+            &["lms_tool", "stray"],
+            "error: unrecognized subcommand 'stray'",
+            HINT
+        )?
+    );
+    assert!(rt;
+        is_mistaken(
+            &rt,
+            &["lms_tool", "help", "stray"],
+            "error: unrecognized subcommand 'stray'",
+            HINT
+        )?
+    );
+    assert!(rt;
+        is_mistaken(
+            &rt,
+            &["lms_tool", "--stray"],
+            "error: unexpected argument '--stray' found",
+            HINT
+        )?
+    );
+    assert!(rt;
+        is_mistaken(
+            &rt,
+            &["lms_tool", "--", "verify"],
+            "error: unexpected argument 'verify' found\n\n  tip: subcommand 'verify' exists; to use it, remove the '--' before it",
+            HINT
+        )?
+    );
+    assert!(rt;
+        is_mistaken(
+            &rt,
+            &["lms_tool", "help", "--help"],
+            "error: unrecognized subcommand '--help'",
+            HINT
+        )?
+    );
+    Ok(())
+}
 
 #[test]
-fn reports_a_mistake(rt: HostRuntime) -> Result<(), Fail> {
-    for (words, text, hint) in MISTAKES {
-        let end = end_of(&rt, words, &mut MemoryWorld::new(rt.alloc()))?;
-        assert_eq!(rt; end.status, 2, "{words:?}");
-        let expected = format!(in rt.alloc(); "{text}{hint}")?;
-        assert_eq!(rt; end.errors, expected, "{words:?}");
-        assert_eq!(rt; end.output.as_str(), "");
-    }
+fn reports_mistakes_in_a_command(rt: HostRuntime) -> Result<(), Fail> {
+    assert!(rt;
+        is_mistaken(
+            &rt,
+            &["lms_tool", "verify", "stray"],
+            "error: unexpected argument 'stray' found",
+            VERIFY_HINT
+        )?
+    );
+    assert!(rt;
+        is_mistaken(
+            &rt,
+            &["lms_tool", "verify", "--public", "k", "--signature", "s"],
+            "error: the following required arguments were not provided:\n  --message <FILE>",
+            VERIFY_HINT
+        )?
+    );
+    assert!(rt;
+        is_mistaken(
+            &rt,
+            &["lms_tool", "verify", "--public", "k", "--public", "k"],
+            "error: the argument '--public <FILE>' cannot be used multiple times",
+            VERIFY_HINT
+        )?
+    );
+    assert!(rt;
+        is_mistaken(
+            &rt,
+            &["lms_tool", "verify", "--public"],
+            "error: a value is required for '--public <FILE>' but none was supplied",
+            BARE_HINT
+        )?
+    );
     Ok(())
 }

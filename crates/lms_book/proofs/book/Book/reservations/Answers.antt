@@ -1,7 +1,11 @@
-use Rattle.std.proofs.Common.{arith}
+use Rattle.std.proofs.Common.{ℕ, subst}
+use Rattle.lms_image.specs.Image.{HasImage}
+use Rattle.lms_book.specs.States.{BookState}
+use Rattle.lms_book.specs.Books.{IsInOrder}
 use Rattle.lms_book.proofs.InOrder.{in_order}
 use Rattle.lms_book.proofs.book.Book.reservations.Goals as goal
 
 pub returns-clause-in_order : goal.returns-clause-in_order
 returns-clause-in_order g c =
-    in_order g.S.StateStore.may_leave c.args.self.now (omega (arith, c.counter.ensures.counter, c.counter.ensures.within)) c.stored.ensures.safe
+    let counted = subst (λ (at : ℕ). HasImage c.self.inside.reservations.key at) c.counter-counter.ensures.counter c.counter-counter.ensures.counted in
+    subst (λ (book : BookState). IsInOrder book) c.self.view_is (in_order _ counted c.self.invariant.safe)

@@ -1,5 +1,0 @@
-use Rattle.lms_book.proofs.Images.{image-same}
-use Rattle.lms_book.proofs.laws.images_are_told_apart.Goals as goal
-
-pub returns : goal.returns
-returns c = image-same

@@ -1,5 +1,0 @@
-use Rattle.lms_book.proofs.Images.{image-has-no-fault}
-use Rattle.lms_book.proofs.laws.images_have_no_fault.Goals as goal
-
-pub returns : goal.returns
-returns c = image-has-no-fault

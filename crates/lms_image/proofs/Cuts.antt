@@ -1,0 +1,103 @@
+-- A text of bytes, cut into the parts of an image.
+use Rattle.std.proofs.Common.{ℕ, zero, suc, ◌≡◌, ◌+◌, ◌*◌, ◌^◌, ◌<◌, ◌≤◌, List, ◌++◌, length, take, drop, get_or, All, ⊎_elim, refl, sym, ◌∙◌, ap, ap₂, arith, subst, length-take, length-drop, take-append-drop}
+use Rattle.std.specs.List.{concat}
+use Rattle.std.specs.Simd.{first_chunks}
+use Rattle.std.specs.Int.{w32, w64, from_be_bytes}
+use Rattle.std.proofs.lemmas.Bool.{cases_lt}
+use Rattle.std.proofs.lemmas.List.{length-take-le, get_or-take, get_or-drop, get_or_past, nil_from_length}
+use Rattle.std.proofs.lemmas.List.Elements.{All-nil, All-cons, All-from_get_or}
+use Rattle.std.proofs.lemmas.Nat.{be_bytes_4, be_bytes_8}
+use Rattle.lms_spec.specs.Bytes.{u32str, number_of}
+use Rattle.lms_spec.proofs.Numbers.{number_of-u32}
+use Rattle.lms_image.specs.Image.{u64str}
+use Rattle.lms_image.specs.Reading.{IsCut}
+use Rattle.lms_image.proofs.LevelTexts.{Is8}
+
+abbrev pub IsBytes : List ℕ → Type 0
+IsBytes bytes = (i : ℕ) → get_or bytes i 0 < 256
+
+pub bytes-take : (k : ℕ) (bytes : List ℕ) → IsBytes bytes → IsBytes (take k bytes)
+bytes-take k bytes small i =
+    ⊎_elim
+    (λ (lt : i < k). omega (arith, small i, get_or-take k bytes i 0 lt))
+    (λ (ge : k ≤ i). let past : get_or (take k bytes) i 0 ≡ 0 = get_or_past (take k bytes) i 0 (omega (arith, length-take k bytes)) in omega arith)
+    (cases_lt i k)
+
+pub bytes-drop : (k : ℕ) (bytes : List ℕ) → IsBytes bytes → IsBytes (drop k bytes)
+bytes-drop k bytes small i = omega (arith, small (k + i), get_or-drop k bytes i 0)
+
+pub all-bytes : (bytes : List ℕ) → IsBytes bytes → All (λ b. b < 256) bytes
+all-bytes bytes small = All-from_get_or (λ b. b < 256) bytes 0 (λ i h. small i)
+
+pub four-fit : (bytes : List ℕ) → IsBytes bytes → from_be_bytes w32 bytes < 2 ^ 32
+four-fit bytes small = omega (arith, small 0, small 1, small 2, small 3)
+
+pub eight-fit : (bytes : List ℕ) → IsBytes bytes → from_be_bytes w64 bytes < 2 ^ 64
+eight-fit bytes small = omega (arith, small 0, small 1, small 2, small 3, small 4, small 5, small 6, small 7)
+
+-- four bytes are their number
+pub number-back : (bytes : List ℕ) → length bytes ≡ 4 → IsBytes bytes → bytes ≡ u32str (number_of bytes)
+number-back bytes four small =
+    let v = from_be_bytes w32 bytes in
+    let e : u32str v ≡ bytes = be_bytes_4 bytes v four small refl in
+    let n : number_of bytes ≡ v = ap number_of (sym e) ∙ number_of-u32 v (four-fit bytes small) in
+    sym e ∙ ap u32str (sym n)
+
+length-chunks : (n : ℕ) (bytes : List ℕ) → length (first_chunks 8 n bytes) ≡ n
+length-chunks zero bytes = refl
+length-chunks (suc n) bytes = ap suc (length-chunks n (drop 8 bytes))
+
+pub chunks-are-8 : (n : ℕ) (bytes : List ℕ) → 8 * n ≤ length bytes → All Is8 (first_chunks 8 n bytes)
+chunks-are-8 zero bytes h = All-nil Is8
+chunks-are-8 (suc n) bytes h =
+    All-cons Is8 (take 8 bytes) (first_chunks 8 n (drop 8 bytes)) (length-take-le 8 bytes (omega arith))
+    (chunks-are-8 n (drop 8 bytes) (omega (arith, length-drop 8 bytes)))
+
+pub chunks-are-bytes : (n : ℕ) (bytes : List ℕ) → IsBytes bytes → All IsBytes (first_chunks 8 n bytes)
+chunks-are-bytes zero bytes small = All-nil IsBytes
+chunks-are-bytes (suc n) bytes small =
+    All-cons IsBytes (take 8 bytes) (first_chunks 8 n (drop 8 bytes)) (bytes-take 8 bytes small)
+    (chunks-are-bytes n (drop 8 bytes) (bytes-drop 8 bytes small))
+
+concat-chunks : (n : ℕ) (bytes : List ℕ) → length bytes ≡ 8 * n → concat (first_chunks 8 n bytes) ≡ bytes
+concat-chunks zero bytes h = sym (nil_from_length bytes (omega arith))
+concat-chunks (suc n) bytes h =
+    ap (λ rest. take 8 bytes ++ rest) (concat-chunks n (drop 8 bytes) (omega (arith, length-drop 8 bytes)))
+    ∙ take-append-drop 8 bytes
+
+-- what follows a count of levels, cut at their length
+pub cut-parts : (count : ℕ) (rest front after seed after_seed id after_id number digest : List ℕ) (levels : List (List ℕ)) (counter : ℕ)
+    → IsBytes rest → length rest ≡ 88 + 8 * count
+    → front ≡ take (8 * count) rest → after ≡ drop (8 * count) rest
+    → seed ≡ take 32 after → after_seed ≡ drop 32 after
+    → id ≡ take 16 after_seed → after_id ≡ drop 16 after_seed
+    → number ≡ take 8 after_id → digest ≡ drop 8 after_id
+    → levels ≡ first_chunks 8 count front → counter ≡ from_be_bytes w64 number
+    → IsCut count rest levels seed id counter digest
+cut-parts count rest front after seed after_seed id after_id number digest levels counter small long ef ea es eas ei eai en ed el ec =
+    let k = 8 * count in
+    let after_small : IsBytes after = subst IsBytes (sym ea) (bytes-drop k rest small) in
+    let after_seed_small : IsBytes after_seed = subst IsBytes (sym eas) (bytes-drop 32 after after_small) in
+    let after_id_small : IsBytes after_id = subst IsBytes (sym eai) (bytes-drop 16 after_seed after_seed_small) in
+    let number_small : IsBytes number = subst IsBytes (sym en) (bytes-take 8 after_id after_id_small) in
+    let front_long : length front ≡ k = ap length ef ∙ length-take-le k rest (omega arith) in
+    let after_long : length after ≡ 88 = ap length ea ∙ omega (arith, length-drop k rest) in
+    let after_seed_long : length after_seed ≡ 56 = ap length eas ∙ omega (arith, length-drop 32 after) in
+    let after_id_long : length after_id ≡ 40 = ap length eai ∙ omega (arith, length-drop 16 after_seed) in
+    let number_long : length number ≡ 8 = ap length en ∙ length-take-le 8 after_id (omega arith) in
+    let word : u64str counter ≡ number = be_bytes_8 number counter number_long number_small ec in
+    let pieces : concat levels ≡ front = ap concat el ∙ concat-chunks count front front_long in
+    let last : u64str counter ++ digest ≡ after_id = ap₂ (λ x y. x ++ y) (word ∙ en) ed ∙ take-append-drop 8 after_id in
+    let behind_seed : id ++ (u64str counter ++ digest) ≡ after_seed = ap₂ (λ x y. x ++ y) ei (last ∙ eai) ∙ take-append-drop 16 after_seed in
+    let behind : seed ++ (id ++ (u64str counter ++ digest)) ≡ after = ap₂ (λ x y. x ++ y) es (behind_seed ∙ eas) ∙ take-append-drop 32 after in
+    record {
+      level_count = ap length el ∙ length-chunks count front;
+      level_lengths = subst (All Is8) (sym el) (chunks-are-8 count front (omega arith));
+      seed_length = ap length es ∙ length-take-le 32 after (omega arith);
+      seed_bytes = all-bytes seed (subst IsBytes (sym es) (bytes-take 32 after after_small));
+      id_length = ap length ei ∙ length-take-le 16 after_seed (omega arith);
+      id_bytes = all-bytes id (subst IsBytes (sym ei) (bytes-take 16 after_seed after_seed_small));
+      counter_fits = omega (arith, eight-fit number number_small);
+      digest_length = ap length ed ∙ omega (arith, length-drop 8 after_id);
+      parts = sym (ap₂ (λ x y. x ++ y) (pieces ∙ ef) (behind ∙ ea) ∙ take-append-drop k rest);
+    }

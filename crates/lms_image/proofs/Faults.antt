@@ -1,0 +1,132 @@
+-- The first fault of a text, fault by fault.
+use Rattle.std.proofs.Common.{ℕ, ◌≡◌, ◌+◌, ◌^◌, ◌<◌, ◌⊎◌, List, [], ◌∷◌, ◌++◌, length, take, drop, true, false, find, Option, Some, not, ⊎_elim, refl, sym, ◌∙◌, ap, subst, arith, append_assoc, length-append}
+use Rattle.std.proofs.lemmas.Bool.{cond-true, cond-false, lt-ltb, le-ltb, eq-eqb, ne_eqb, or_left, or_right, or_from, not_from_true, not_from_false, not-false}
+use Rattle.std.proofs.lemmas.Slice.Eq.{bytes_eq-Decides}
+use Rattle.std.specs.Str.{bytes_eq}
+use Rattle.lms_spec.specs.Bytes.{u32str}
+use Rattle.lms_image.specs.declared.image.ImageFault.{ImageFault}
+use Rattle.lms_image.specs.declared.image.ImageFault.TheVariants.{Truncated, NotAnImage, UnknownVersion, BadLevels}
+use Rattle.lms_image.specs.Image.{magic, count_in, has_fault, faults, fault_of, number_at}
+use Rattle.lms_image.specs.Reading.{IsHeaded}
+use Rattle.lms_image.proofs.Fields.{part-at, u32-at}
+
+-- the first of these faults that a text has
+abbrev pub first_among : List ImageFault → List ℕ → Option ImageFault
+first_among fs text = find (λ fault. has_fault fault text) fs
+
+pub fault-of : (text : List ℕ) → fault_of text ≡ first_among faults text
+unfolding fault_of
+fault-of text = refl
+
+pub found : (text : List ℕ) (f : ImageFault) (fs : List ImageFault) → has_fault f text ≡ true → first_among (f ∷ fs) text ≡ Some f
+found text f fs e = cond-true (has_fault f text) (Some f) (first_among fs text) e
+
+pub missed : (text : List ℕ) (f : ImageFault) (fs : List ImageFault) → has_fault f text ≡ false → first_among (f ∷ fs) text ≡ first_among fs text
+missed text f fs e = cond-false (has_fault f text) (Some f) (first_among fs text) e
+
+-- the first 12 bytes, cut into magic, version and count
+pub record IsFront (text start rest : List ℕ) (version count : ℕ) : Type 0 where
+  pub start_length : length start ≡ 4
+  pub version_fits : version < 2 ^ 32
+  pub count_fits : count < 2 ^ 32
+  pub parts : text ≡ start ++ (u32str version ++ (u32str count ++ rest))
+
+pub front-length : (text start rest : List ℕ) (version count : ℕ) → IsFront text start rest version count → length text ≡ 12 + length rest
+front-length text start rest version count is =
+    let four = is.start_length in
+    ap length is.parts ∙ (length-append start (u32str version ++ (u32str count ++ rest)) ∙ omega arith)
+
+pub start-of : (text start rest : List ℕ) (version count : ℕ) → IsFront text start rest version count → take 4 text ≡ start
+start-of text start rest version count is =
+    part-at 0 4 text [] start (u32str version ++ (u32str count ++ rest)) refl is.start_length is.parts
+
+pub version-of : (text start rest : List ℕ) (version count : ℕ) → IsFront text start rest version count → number_at 4 4 text ≡ version
+version-of text start rest version count is =
+    u32-at 4 version text start (u32str count ++ rest) is.start_length is.version_fits is.parts
+
+pub count-of : (text start rest : List ℕ) (version count : ℕ) → IsFront text start rest version count → count_in text ≡ count
+count-of text start rest version count is =
+    let four = is.start_length in
+    u32-at 8 count text (start ++ u32str version) rest (length-append start (u32str version) ∙ omega arith) is.count_fits
+    (is.parts ∙ sym (append_assoc start (u32str version) (u32str count ++ rest)))
+
+pub truncated : (text : List ℕ) → length text < 12 → fault_of text ≡ Some Truncated
+unfolding has_fault
+truncated text short = fault-of text ∙ found text Truncated (drop 1 faults) (lt-ltb (length text) 12 short)
+
+long-enough : (text start rest : List ℕ) (version count : ℕ) → IsFront text start rest version count
+    → fault_of text ≡ first_among (drop 1 faults) text
+unfolding has_fault
+long-enough text start rest version count is =
+    let long = front-length text start rest version count is in
+    fault-of text ∙ missed text Truncated (drop 1 faults) (le-ltb (length text) 12 (omega arith))
+
+pub not-an-image : (text start rest : List ℕ) (version count : ℕ) → IsFront text start rest version count
+    → not (bytes_eq start magic) ≡ true → fault_of text ≡ Some NotAnImage
+unfolding has_fault
+not-an-image text start rest version count is other =
+    long-enough text start rest version count is
+    ∙ found text NotAnImage (drop 2 faults) (ap (λ t. not (bytes_eq t magic)) (start-of text start rest version count is) ∙ other)
+
+an-image : (text rest : List ℕ) (version count : ℕ) → IsFront text magic rest version count
+    → fault_of text ≡ first_among (drop 2 faults) text
+unfolding has_fault
+an-image text rest version count is =
+    long-enough text magic rest version count is
+    ∙ missed text NotAnImage (drop 2 faults) (ap (λ t. not (bytes_eq t magic)) (start-of text magic rest version count is))
+
+pub unknown-version : (text rest : List ℕ) (version count : ℕ) → IsFront text magic rest version count → (version ≡ 1 → ⊥)
+    → fault_of text ≡ Some UnknownVersion
+unfolding has_fault
+unknown-version text rest version count is other =
+    an-image text rest version count is
+    ∙ found text UnknownVersion (drop 3 faults)
+    (not_from_false _ (ne_eqb _ 1 (λ e. other (sym (version-of text magic rest version count is) ∙ e))))
+
+known-version : (text rest : List ℕ) (count : ℕ) → IsFront text magic rest 1 count → fault_of text ≡ first_among (drop 3 faults) text
+unfolding has_fault
+known-version text rest count is =
+    an-image text rest 1 count is
+    ∙ missed text UnknownVersion (drop 3 faults) (not_from_true _ (eq-eqb _ 1 (version-of text magic rest 1 count is)))
+
+pub bad-levels : (text rest : List ℕ) (count : ℕ) → IsFront text magic rest 1 count → (count ≡ 0) ⊎ (8 < count)
+    → fault_of text ≡ Some BadLevels
+unfolding has_fault
+bad-levels text rest count is bad =
+    let is_count = count-of text magic rest 1 count is in
+    known-version text rest count is
+    ∙ found text BadLevels (drop 4 faults)
+    (⊎_elim (λ (e : count ≡ 0). or_left _ _ (eq-eqb _ 0 (is_count ∙ e)))
+    (λ (h : 8 < count). or_right _ _ (lt-ltb 8 (count_in text) (omega arith))) bad)
+
+-- what is known of a text that begins as an image
+pub front-of : (text rest : List ℕ) (count : ℕ) → IsHeaded text rest count → IsFront text magic rest 1 count
+front-of text rest count is =
+    let most = is.eight_at_most in
+    record { start_length = refl; version_fits = omega arith; count_fits = omega arith; parts = is.parts }
+
+pub clear-head : (text rest : List ℕ) (count : ℕ) → IsHeaded text rest count → fault_of text ≡ first_among (drop 4 faults) text
+unfolding has_fault
+clear-head text rest count is =
+    let front = front-of text rest count is in
+    let is_count = count-of text magic rest 1 count front in
+    let some = is.some_level in
+    let most = is.eight_at_most in
+    known-version text rest count front
+    ∙ missed text BadLevels (drop 4 faults) (or_from _ _ (ne_eqb (count_in text) 0 (λ (e : count_in text ≡ 0). absurd (omega arith))) (le-ltb 8 (count_in text) (omega arith)))
+
+-- the first four bytes are those of an image
+pub headed : (text start rest : List ℕ) (version count : ℕ) → IsFront text start rest version count
+    → not (bytes_eq start magic) ≡ false → IsFront text magic rest version count
+headed text start rest version count is same =
+    let e : start ≡ magic = (bytes_eq-Decides start magic).0 (not-false _ same) in
+    record {
+      start_length = refl;
+      version_fits = is.version_fits;
+      count_fits = is.count_fits;
+      parts = is.parts ∙ ap (λ s. s ++ (u32str version ++ (u32str count ++ rest))) e;
+    }
+
+-- the version is the one that is read
+pub versioned : (text rest : List ℕ) (version count : ℕ) → IsFront text magic rest version count → version ≡ 1 → IsFront text magic rest 1 count
+versioned text rest version count is one = subst (λ v. IsFront text magic rest v count) one is

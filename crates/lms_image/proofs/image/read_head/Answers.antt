@@ -1,0 +1,48 @@
+use Rattle.std.proofs.Common.{◌≡◌, ◌<◌, ◌⊎◌, inl, inr, sym, ◌∙◌, arith}
+use Rattle.lms_image.proofs.Faults.{truncated, not-an-image, unknown-version, bad-levels, headed, versioned}
+use Rattle.lms_image.proofs.image.read_head.Goals as goal
+use Rattle.lms_image.proofs.image.read_head.Goals.{then-head-eq0-via-then-head-eq0, then-head-eq0-via-else-head-eq0+then-head-gt8}
+
+pub returns-in_default-clause-err : goal.returns-in_default-clause-err
+returns-in_default-clause-err c = truncated c.args.text.now c.in_default.ensures.none
+
+pub returns-then-ne-clause-err : goal.returns-then-ne-clause-err
+returns-then-ne-clause-err c =
+    let head = c.in-Some.head in
+    let is = c.in-Some.ensures in
+    not-an-image c.args.text.now head.magic.now head.rest.now head.version head.levels
+    (record { start_length = is.magic; version_fits = is.version; count_fits = is.levels; parts = is.parts })
+    (sym c.ne.ensures ∙ c.if-ne.true)
+
+pub returns-then-head-ne-VERSION-clause-err : goal.returns-then-head-ne-VERSION-clause-err
+returns-then-head-ne-VERSION-clause-err c =
+    let head = c.in-Some.head in
+    let is = c.in-Some.ensures in
+    unknown-version c.args.text.now head.rest.now head.version head.levels
+    (headed c.args.text.now head.magic.now head.rest.now head.version head.levels
+    (record { start_length = is.magic; version_fits = is.version; count_fits = is.levels; parts = is.parts })
+    (sym c.ne.ensures ∙ c.if-ne.false))
+    c.if-head-ne-VERSION.true
+
+pub returns-then-head-eq0-clause-err : goal.returns-then-head-eq0-clause-err
+returns-then-head-eq0-clause-err c =
+    let head = c.in-Some.head in
+    let is = c.in-Some.ensures in
+    let bad : (head.levels ≡ 0) ⊎ (8 < head.levels) =
+    elim c.then-head-eq0.either [ inl e ↦ inl e | inr h ↦ inr h.1 ] in
+    bad-levels c.args.text.now head.rest.now head.levels
+    (versioned c.args.text.now head.rest.now head.version head.levels
+    (headed c.args.text.now head.magic.now head.rest.now head.version head.levels
+    (record { start_length = is.magic; version_fits = is.version; count_fits = is.levels; parts = is.parts })
+    (sym c.ne.ensures ∙ c.if-ne.false)) c.if-head-ne-VERSION.false)
+    bad
+
+pub returns-clause-ok : goal.returns-clause-ok
+returns-clause-ok c =
+    let head = c.in-Some.head in
+    let is = c.in-Some.ensures in
+    let front = versioned c.args.text.now head.rest.now head.version head.levels
+    (headed c.args.text.now head.magic.now head.rest.now head.version head.levels
+    (record { start_length = is.magic; version_fits = is.version; count_fits = is.levels; parts = is.parts })
+    (sym c.ne.ensures ∙ c.if-ne.false)) c.if-head-ne-VERSION.false in
+    record { some_level = omega arith; eight_at_most = omega arith; parts = front.parts }

@@ -1,0 +1,63 @@
+//! The bytes of an image, put together without taking memory.
+ghost use Rattle.std.specs.Prelude.{◌≡◌, ◌+◌, ◌≤◌, ◌++◌, [], length};
+ghost use Rattle.lms_spec.specs.Bytes.{u32str};
+
+use arrayvec::ArrayVec;
+use std::marker::Model;
+
+/// The most bytes of an image: those of eight levels.
+pub(crate) const MOST_BYTES: usize = 164;
+
+/// The text of an image, at most 164 bytes. Contracts see the list of its bytes.
+#[derive(Drop)]
+pub struct ImageBytes {
+    bytes: ArrayVec<u8, MOST_BYTES>,
+}
+
+impl Model for ImageBytes {
+    ghost use Rattle.std.specs.Prelude.{ℕ, List, ◌≤◌, length};
+
+    ghost Value = { List ℕ };
+
+    ghost view = { λ a. a.bytes.items };
+
+    ghost invariant = { λ a. length a.bytes.items ≤ 164 };
+}
+
+impl ImageBytes {
+    /// The bytes.
+    pub fn as_slice(&self) -> &[u8]
+        ensures bytes { result.now ≡ self.now }
+        ensures short { length result.now ≤ 164 }
+    {
+        self.bytes.as_slice()
+    }
+
+    /// No bytes.
+    pub(crate) fn empty() -> Self
+        ensures { result ≡ [] }
+    {
+        ImageBytes {
+            bytes: ArrayVec::new(),
+        }
+    }
+
+    /// Puts a part behind what there is.
+    pub(crate) fn append(&mut self, part: &[u8])
+        requires { length self.old + length part.now ≤ 164 }
+        ensures { self.new ≡ self.old ++ part.now }
+    {
+        match self.bytes.try_extend_from_slice(part) {
+            Ok(()) => {}
+            Err(_) => unreachable!(),
+        }
+    }
+
+    /// Puts a number behind what there is, in four bytes.
+    pub(crate) fn append_u32(&mut self, number: u32)
+        requires { length self.old + 4 ≤ 164 }
+        ensures { self.new ≡ self.old ++ u32str number }
+    {
+        self.append(&number.to_be_bytes());
+    }
+}

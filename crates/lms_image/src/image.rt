@@ -1,0 +1,273 @@
+//! The state image: the text that a store keeps of a key and of how many of its indices are used.
+ghost use Rattle.std.specs.Prelude.{◌≡◌, ◌+◌, ◌*◌, ◌≤◌, ◌<◌, ◌^◌, ◌≢◌, ◌++◌, length, map, take, None, Some, IfOk, IfErr, IfSome, IfNone, MatchResult, IsFalse};
+ghost use Rattle.std.specs.List.{list_all};
+ghost use Rattle.sha2.specs.Sha256.{sha256};
+ghost use Rattle.lms_spec.specs.Bytes.{u32str};
+ghost use Rattle.lms_spec.specs.Hss.{capacity_of};
+ghost use Rattle.lms_hss.specs.Keys.{hss_key_of};
+ghost use Rattle.lms_image.specs.Image.{image_of, fault_of, head_text, level_text, is_level, HasImage};
+ghost use Rattle.lms_image.specs.Reading.{IsHeaded, IsCut, ReadsLevels, refused_as};
+
+use crate::bytes::ImageBytes;
+use lms_hss::{HssKey, KeyFault, Levels, NO_SETS};
+use lms_params::{LmsType, OtsType, split_u32};
+use sha2::{Digest, Sha256};
+use std::error::Error;
+use std::fmt;
+
+#[cfg(test)]
+mod tests;
+
+/// The first four bytes of every image.
+const MAGIC: [u8; 4] = *b"HSSK";
+
+/// The version that is written, and read.
+const VERSION: u32 = 1;
+
+/// The bytes of the digest at the end.
+const DIGEST_LEN: usize = 32;
+
+/// A key, and how many of its indices are used. There is no `Debug`, which would print the seed.
+#[derive(Clone, Copy, PartialEq, Eq)]
+pub struct Image {
+    pub key: HssKey,
+    pub counter: u64,
+}
+
+/// What is wrong with a text that should be an image: the first of these, in this order.
+#[derive(Clone, Copy, Debug, PartialEq, Eq)]
+pub enum ImageFault {
+    /// There are fewer than 12 bytes.
+    Truncated,
+    /// The first four bytes aren't `HSSK`.
+    NotAnImage,
+    /// The version isn't 1.
+    UnknownVersion,
+    /// The number of levels is 0 or over 8.
+    BadLevels,
+    /// The length isn't that of an image with so many levels.
+    WrongLength,
+    /// The last 32 bytes aren't the digest of those before.
+    Damaged,
+    /// A typecode is unknown, or the signer doesn't take its height.
+    BadType,
+    /// The heights sum to over 60.
+    TooTall,
+    /// The counter is over the key's capacity.
+    CounterTooHigh,
+}
+
+impl fmt::Display for ImageFault {
+    ghost use Rattle.lms_image.specs.Image.{name_of};
+
+    ghost output = { λ fault. Some (name_of fault) };
+
+    fn fmt<W: fmt::Write>(&self, f: &mut fmt::Formatter<W>) -> fmt::Result {
+        f.write_str(match self {
+            ImageFault::Truncated => "Truncated",
+            ImageFault::NotAnImage => "NotAnImage",
+            ImageFault::UnknownVersion => "UnknownVersion",
+            ImageFault::BadLevels => "BadLevels",
+            ImageFault::WrongLength => "WrongLength",
+            ImageFault::Damaged => "Damaged",
+            ImageFault::BadType => "BadType",
+            ImageFault::TooTall => "TooTall",
+            ImageFault::CounterTooHigh => "CounterTooHigh",
+        })
+    }
+}
+
+impl Error for ImageFault {}
+
+/// The image of a key and a counter, which is at most the key's capacity: `HSSK`, the version 1, the number of levels,
+/// the two typecodes of each level, the seed, the identifier I, the counter and the digest of all these, 100 bytes and 8
+/// for each level.
+pub fn encode_image(image: &Image) -> ImageBytes
+    requires { image.now.counter ≤ capacity_of (hss_key_of image.now.key) }
+    ensures { result ≡ image_of image.now.key image.now.counter }
+{
+    let mut text = encode_head(&image.key.levels);
+    text.append(&image.key.seed);
+    text.append(&image.key.i);
+    text.append(&image.counter.to_be_bytes());
+    let digest = Sha256::digest(text.as_slice());
+    text.append(&digest);
+    text
+}
+
+/// What stands before the seed.
+fn encode_head(levels: &Levels) -> ImageBytes
+    ensures text { result ≡ head_text (map level_text levels.now) }
+    ensures short { length result ≤ 76 }
+{
+    let levels = levels.as_slice();
+    let mut text = ImageBytes::empty();
+    text.append(&MAGIC);
+    text.append_u32(VERSION);
+    text.append_u32(levels.len() as u32);
+    for (lms, ots) in levels {
+        text.append_u32(lms.code());
+        text.append_u32(ots.code());
+    }
+    text
+}
+
+/// The image whose text this is, or the first fault of the text.
+pub fn decode_image(text: &[u8]) -> Result<Image, ImageFault>
+    ensures ok { IfOk result (λ image. (text.now ≡ image_of image.key image.counter) × HasImage image.key image.counter) }
+    ensures exact { MatchResult result (λ _. fault_of text.now ≡ None) (λ fault. fault_of text.now ≡ Some fault) }
+{
+    let (count, rest) = read_head(text)?;
+    let Some(parts) = Parts::cut(count, rest) else {
+        return Err(ImageFault::WrongLength);
+    };
+    let (body, _) = text.split_at(text.len() - DIGEST_LEN);
+    if *parts.digest != Sha256::digest(body) {
+        return Err(ImageFault::Damaged);
+    }
+    let levels = read_levels(parts.levels)?;
+    let key = HssKey::new(levels, *parts.seed, *parts.i);
+    if parts.counter > key.capacity() {
+        return Err(ImageFault::CounterTooHigh);
+    }
+    Ok(Image {
+        key,
+        counter: parts.counter,
+    })
+}
+
+/// The number of levels of an image, 1 to 8, and the bytes after it; or the fault of the first 12 bytes.
+fn read_head(text: &[u8]) -> Result<(usize, &[u8]), ImageFault>
+    ensures ok { IfOk result (λ head. IsHeaded text.now head.1.now head.0) }
+    ensures err { IfErr result (λ fault. fault_of text.now ≡ Some fault) }
+{
+    let Some(head) = Head::cut(text) else {
+        return Err(ImageFault::Truncated);
+    };
+    if *head.magic != MAGIC {
+        return Err(ImageFault::NotAnImage);
+    }
+    if head.version != VERSION {
+        return Err(ImageFault::UnknownVersion);
+    }
+    if head.levels == 0 || head.levels > 8 {
+        return Err(ImageFault::BadLevels);
+    }
+    Ok((head.levels as usize, head.rest))
+}
+
+/// The first 12 bytes of a text, and the bytes after them.
+#[derive(Clone, Copy)]
+struct Head<'a> {
+    magic: &'a [u8; 4],
+    version: u32,
+    levels: u32,
+    rest: &'a [u8],
+}
+
+impl<'a> Head<'a> {
+    /// Cuts a text. None exactly where it has fewer than 12 bytes.
+    fn cut(text: &'a [u8]) -> Option<Self>
+        ensures parts { IfSome result (λ h. text.now ≡ h.magic.now ++ (u32str h.version ++ (u32str h.levels ++ h.rest.now))) }
+        ensures magic { IfSome result (λ h. length h.magic.now ≡ 4) }
+        ensures version { IfSome result (λ h. h.version < 2 ^ 32) }
+        ensures levels { IfSome result (λ h. h.levels < 2 ^ 32) }
+        ensures none { IfNone result (length text.now < 12) }
+    {
+        let (magic, rest) = text.split_first_chunk::<4>()?;
+        let (version, rest) = split_u32(rest)?;
+        let (levels, rest) = split_u32(rest)?;
+        Some(Head {
+            magic,
+            version,
+            levels,
+            rest,
+        })
+    }
+}
+
+/// What follows an image's number of levels: the eight bytes of each level, the seed, the identifier, the counter and the
+/// digest.
+#[derive(Clone, Copy)]
+struct Parts<'a> {
+    levels: &'a [[u8; 8]],
+    seed: &'a [u8; 32],
+    i: &'a [u8; 16],
+    counter: u64,
+    digest: &'a [u8; 32],
+}
+
+impl<'a> Parts<'a> {
+    /// Cuts what follows a number of levels, 1 to 8. None exactly where its length isn't theirs.
+    fn cut(count: usize, rest: &'a [u8]) -> Option<Self>
+        requires { count ≤ 8 }
+        ensures parts { IfSome result (λ p. IsCut count rest.now p.levels.now p.seed.now p.i.now p.counter p.digest.now) }
+        ensures none { IfNone result (length rest.now ≢ 88 + 8 * count) }
+    {
+        let (levels, rest) = rest.split_at_checked(8 * count)?;
+        let (seed, rest) = rest.split_first_chunk::<32>()?;
+        let (i, rest) = rest.split_first_chunk::<16>()?;
+        let (counter, rest) = rest.split_first_chunk::<8>()?;
+        let digest = rest.as_array::<32>()?;
+        let (levels, _) = levels.as_chunks::<8>();
+        Some(Parts {
+            levels,
+            seed,
+            i,
+            counter: u64::from_be_bytes(*counter),
+            digest,
+        })
+    }
+}
+
+/// The levels that these bytes name; or `BadType` or `TooTall`, the first that holds.
+fn read_levels(texts: &[[u8; 8]]) -> Result<Levels, ImageFault>
+    requires some { 1 ≤ length texts.now }
+    requires at_most { length texts.now ≤ 8 }
+    ensures { ReadsLevels texts.now result }
+{
+    let Some(sets) = read_sets(texts) else {
+        return Err(ImageFault::BadType);
+    };
+    match Levels::new(&sets[..texts.len()]) {
+        Ok(levels) => Ok(levels),
+        Err(fault) => Err(refused(fault)),
+    }
+}
+
+/// What is wrong with an image whose levels the signer refuses.
+fn refused(fault: KeyFault) -> ImageFault
+    ensures { result ≡ refused_as fault }
+{
+    match fault {
+        KeyFault::TooTall => ImageFault::TooTall,
+        KeyFault::NoLevels | KeyFault::TooManyLevels | KeyFault::HeightNotSigned => {
+            ImageFault::BadType
+        }
+    }
+}
+
+/// The sets that these bytes name, in the first of eight places. None where a typecode is unknown.
+fn read_sets(texts: &[[u8; 8]]) -> Option<[(LmsType, OtsType); 8]>
+    requires { length texts.now ≤ 8 }
+    ensures some { IfSome result (λ sets. map level_text (take (length texts.now) sets) ≡ texts.now) }
+    ensures none { IfNone result (IsFalse (list_all is_level texts.now)) }
+{
+    let mut sets = NO_SETS;
+    for (k, text) in texts.iter().enumerate() {
+        sets[k] = read_level(text)?;
+    }
+    Some(sets)
+}
+
+/// The sets of one level. None where a typecode is unknown.
+fn read_level(text: &[u8; 8]) -> Option<(LmsType, OtsType)>
+    ensures some { IfSome result (λ sets. level_text sets ≡ text.now) }
+    ensures none { IfNone result (IsFalse (is_level text.now)) }
+{
+    let (lms_code, rest) = split_u32(text)?;
+    let (ots_code, _) = split_u32(rest)?;
+    let lms = LmsType::from_code(lms_code)?;
+    let ots = OtsType::from_code(ots_code)?;
+    Some((lms, ots))
+}

@@ -1,0 +1,116 @@
+//! Desks, which count what they got from a shared book.
+ghost use Rattle.std.specs.Prelude.{◌≡◌, ◌+◌, ◌<◌, ◌≤◌, ◌^◌, length, vec_len, vec_capacity, replicate};
+ghost use Rattle.lms_shared_book.specs.Desks.{Sums, sums, plus, total};
+
+use crate::tally::{Shares, Tally, Totals};
+use std::marker::Model;
+
+/// A caller's place at a shared book. It counts what the reservations made at it added to the book's history. Its
+/// ledgers are its book's, so a desk of another book does not fit.
+#[derive(Drop)]
+pub struct Desk<E: Tally, G: Tally, B: Tally> {
+    entries: u64,
+    received: u64,
+    burnt: u64,
+    shares: Shares<E, G, B>,
+}
+
+impl<E: Tally, G: Tally, B: Tally> Model for Desk<E, G, B> {
+    ghost use Rattle.std.specs.Prelude.{◌≡◌};
+    ghost use Rattle.lms_shared_book.specs.Desks.{Sums, sums};
+
+    ghost Value = { Sums };
+
+    ghost view = { λ desk. sums desk.entries desk.received desk.burnt };
+
+    ghost invariant = { λ desk.
+        (desk.shares.parts ≡ 1) × (desk.shares.counted ≡ sums desk.entries desk.received desk.burnt) };
+}
+
+impl<E: Tally, G: Tally, B: Tally> Desk<E, G, B> {
+    /// How many entries its reservations added to the history.
+    pub fn entries(&self) -> u64
+        ensures { result ≡ self.now.entries }
+    {
+        self.entries
+    }
+
+    /// How many indices it was given.
+    pub fn received(&self) -> u64
+        ensures { result ≡ self.now.received }
+    {
+        self.received
+    }
+
+    /// How many indices its reservations burnt.
+    pub fn burnt(&self) -> u64
+        ensures { result ≡ self.now.burnt }
+    {
+        self.burnt
+    }
+
+    /// Counts one entry more, with the indices that it gave and those that it burnt.
+    pub(crate) fn count(&mut self, totals: &mut Totals<E, G, B>, given: u64, burnt: u64)
+        requires entries { totals.old.entries + 1 < 2 ^ 64 }
+        requires given { totals.old.received + given < 2 ^ 64 }
+        requires burnt { totals.old.burnt + burnt < 2 ^ 64 }
+        ensures desk { self.new ≡ plus self.old (sums 1 given burnt) }
+        ensures totals { totals.new ≡ plus totals.old (sums 1 given burnt) }
+    {
+        // No number of a desk is past the total.
+        totals.audit(&mut self.shares);
+        totals.add(&mut self.shares, 1, given, burnt);
+        self.entries += 1;
+        self.received += given;
+        self.burnt += burnt;
+    }
+}
+
+/// Desks that have counted nothing, each with one part of the shares.
+pub(crate) fn new_desks<E: Tally, G: Tally, B: Tally>(
+    room: Vec<Desk<E, G, B>>,
+    shares: &mut Shares<E, G, B>,
+    count: usize,
+) -> Vec<Desk<E, G, B>>
+    requires empty { vec_len room ≡ 0 }
+    requires capacity { count ≤ vec_capacity room }
+    requires parts { shares.old.parts ≡ count + 1 }
+    ensures desks { result.items ≡ replicate count (sums 0 0 0) }
+    ensures shares { shares.new ≡ record { parts = 1; counted = shares.old.counted } }
+{
+    let mut desks = room;
+    for _ in 0..count {
+        let desk = Desk {
+            entries: 0,
+            received: 0,
+            burnt: 0,
+            shares: shares.split_off(),
+        };
+        desks.push_reserved(desk);
+    }
+    desks
+}
+
+/// These shares with those of all desks.
+pub(crate) fn all_shares<E: Tally, G: Tally, B: Tally>(
+    shares: Shares<E, G, B>,
+    desks: Vec<Desk<E, G, B>>,
+) -> Shares<E, G, B>
+    requires { shares.parts ≤ E.parts }
+    ensures parts { result.parts ≡ shares.parts + length desks.items }
+    ensures counted { result.counted ≡ plus shares.counted (total desks.items) }
+    ensures apart { result.parts ≤ E.parts }
+{
+    let mut all = shares;
+    let mut desks = desks;
+    while let Some(desk) = desks.pop() {
+        let Desk {
+            entries: _,
+            received: _,
+            burnt: _,
+            shares,
+        } = desk;
+        all.merge(shares);
+    }
+    all
+}

@@ -1,0 +1,16 @@
+//! A book that threads share, behind one lock, with a desk for each caller.
+#![tactic(auto)]
+
+mod counted;
+mod desk;
+#[cfg(test)]
+mod fixtures;
+mod missing;
+mod shared;
+mod sums;
+mod tally;
+
+pub use crate::desk::Desk;
+pub use crate::missing::MissingDesks;
+pub use crate::shared::SharedBook;
+pub use crate::tally::{Blanks, Tally};

@@ -1,0 +1,23 @@
+//! Why a shared book was not settled.
+ghost use Rattle.std.specs.Prelude.{Some};
+ghost use Rattle.lms_shared_book.specs.Missing.{text_of};
+
+use std::{error, fmt};
+
+/// Not all desks of a shared book came to be settled.
+#[derive(Clone, Copy, Debug, PartialEq, Eq)]
+pub struct MissingDesks {
+    /// How many came.
+    pub present: usize,
+}
+
+impl fmt::Display for MissingDesks {
+    ghost output = { λ missing. Some (text_of missing) };
+
+    fn fmt<W: fmt::Write>(&self, f: &mut fmt::Formatter<W>) -> fmt::Result {
+        let present = self.present;
+        write!(f, "desks are missing: {present} came")
+    }
+}
+
+impl error::Error for MissingDesks {}

@@ -1,0 +1,164 @@
+//! A book that threads share.
+ghost use Rattle.std.specs.Prelude.{◌≡◌, ◌+◌, ◌<◌, ◌≤◌, length, replicate, IfOk, IfErr, OnOk};
+ghost use Rattle.std.specs.Fn.{FnOnceReturnsAt};
+ghost use Rattle.lms_shared_book.specs.Desks.{sums, plus, total, sums_of, BlankFits, Counts};
+
+use crate::counted::CountedBook;
+use crate::desk::{Desk, new_desks};
+use crate::missing::MissingDesks;
+use crate::sums::sums_in;
+use crate::tally::{Blanks, Tally, Totals};
+use lms_book::{Book, BookFault, Lease, Reservations, StateStore};
+use lms_hss::HssKey;
+use lms_params::OutOfMemory;
+use std::alloc::Global;
+use std::marker::Model;
+use std::sync::{Mutex, Wait};
+
+#[cfg(test)]
+mod tests;
+
+/// A book behind a lock. Whoever gets the lock finds the counter within the key's capacity, and the leases disjoint and
+/// below each counter that a stop could leave stored. The three ledgers are those of the entries, of the indices given
+/// and of the indices burnt. Contracts see the key and the number of desks.
+#[derive(Drop)]
+pub struct SharedBook<S: StateStore, E: Tally, G: Tally, B: Tally> {
+    counted: Mutex<CountedBook<S, E, G, B>>,
+    key: HssKey,
+    desks: usize,
+}
+
+impl<S: StateStore, E: Tally, G: Tally, B: Tally> Model for SharedBook<S, E, G, B> {
+    ghost use Rattle.std.specs.Prelude.{◌≡◌, ◌+◌};
+    ghost use Rattle.lms_shared_book.specs.Desks.{SharedState};
+
+    ghost Value = { SharedState };
+
+    ghost view = { λ s. record { key = s.key; desks = s.desks } };
+
+    ghost invariant = { λ s.
+        (E.parts ≡ s.desks + 1) × (G.parts ≡ s.desks + 1) × (B.parts ≡ s.desks + 1) × (s.key ≡ E.key) };
+}
+
+impl<S: StateStore, E: Tally, G: Tally, B: Tally> SharedBook<S, E, G, B> {
+    ghost use Rattle.lms_book.specs.States.{BookState, reservations_of};
+    ghost use Rattle.lms_book.specs.Books.{IsInOrder, ReservesInOrder};
+
+    /// Puts a book behind a lock, with 1 to 64 desks that have counted nothing. Each blank is made by
+    /// `Blank::new(desks + 1)`: one part for each desk, and one for what the history counted before. The caller is a
+    /// function generic over three `Tally`s, called with `Brand` three times; the proof of that call picks name and parts
+    /// of each, what the history counted before, and the key.
+    ///
+    /// `OutOfMemory` where memory for the desks is refused, with the book and the blanks handed back as they were.
+    pub fn share(
+        alloc: Global,
+        book: Book<S>,
+        blanks: Blanks,
+        desks: usize,
+    ) -> Result<(Self, Vec<Desk<E, G, B>>), (OutOfMemory, Book<S>, Blanks)>
+        requires some { 1 ≤ desks }
+        requires at_most { desks ≤ 64 }
+        requires entries { BlankFits blanks.entries E.name E.parts (desks + 1) }
+        requires given { BlankFits blanks.given G.name G.parts (desks + 1) }
+        requires burnt { BlankFits blanks.burnt B.name B.parts (desks + 1) }
+        requires key { book.key ≡ E.key }
+        requires before { sums_of book.history ≡ sums E.before G.before B.before }
+        ensures shared { IfOk result (λ r. r.0 ≡ record { key = book.key; desks = desks }) }
+        ensures desks { IfOk result (λ r. r.1.items ≡ replicate desks (sums 0 0 0)) }
+        ensures err { IfErr result (λ e. (e.1 ≡ book) × (e.2 ≡ blanks)) }
+    {
+        let room = match Vec::with_capacity(alloc, desks) {
+            Ok(room) => room,
+            Err(_) => return Err((OutOfMemory, book, blanks)),
+        };
+        // Its clause says that the book is in order, which bounds the sums.
+        let reservations = book.reservations();
+        let key = reservations.key();
+        let history = reservations.history();
+        let entries = history.len() as u64;
+        let (given, burnt) = sums_in(history);
+        let (mut totals, mut shares) = Totals::<E, G, B>::open(blanks);
+        totals.add(&mut shares, entries, given, burnt);
+        let all_desks = new_desks(room, &mut shares, desks);
+        let counted = Mutex::new(CountedBook {
+            book,
+            totals,
+            shares,
+        });
+        let shared = SharedBook {
+            counted,
+            key,
+            desks,
+        };
+        Ok((shared, all_desks))
+    }
+
+    /// The key of the book that is shared.
+    pub fn key(&self) -> HssKey
+        ensures { result ≡ self.now.key }
+    {
+        self.key
+    }
+
+    /// Reserves the next n indices, 1 to 1024, under the lock. `Exhausted` and `OutOfMemory` as `Book::reserve`'s, and
+    /// the desk stays; `Store` burns them, and the desk counts an entry and n burnt; else an entry and n received. Waits
+    /// for the lock.
+    pub fn reserve<R: Wait>(
+        &self,
+        rt: &R,
+        desk: &mut Desk<E, G, B>,
+        n: u64,
+    ) -> Result<Lease, BookFault>
+        requires some { 1 ≤ n }
+        requires at_most { n ≤ 1024 }
+        ensures desk { Counts n desk.old result desk.new }
+        ensures key { IfOk result (λ lease. lease.key ≡ self.now.key) }
+        ensures reserves { (old new : BookState) × (old.key ≡ self.now.key) × ReservesInOrder n old result new }
+    {
+        self.counted.lock(rt).reserve(desk, n)
+    }
+
+    /// Spends a lease that is not needed. Its indices stay used.
+    pub fn give_back(&self, lease: Lease) {
+        lease.end()
+    }
+
+    /// Lends what the book has reserved to a closure, under the lock, and gives its answer. Waits for the lock; the
+    /// closure must not ask for it again.
+    pub fn with<T, F: FnOnce(&Reservations) -> T, R: Wait>(&self, rt: &R, f: F) -> T
+        requires { F.IsAlwaysCallable f }
+        ensures { (book : BookState) × (book.key ≡ self.now.key) × IsInOrder book
+            × FnOnceReturnsAt F.FnOnce f (reservations_of book) result }
+    {
+        let guard = self.counted.lock(rt);
+        let counted: &CountedBook<S, E, G, B> = &guard;
+        f(counted.book.reservations())
+    }
+
+    /// Takes the book back, once all desks have come. The entries, the indices given and the indices burnt that its
+    /// history gained since `share` are the sums over the desks.
+    ///
+    /// `MissingDesks` exactly where fewer desks came than were shared, with their number. All is handed back as it was.
+    pub fn settle(
+        self,
+        desks: Vec<Desk<E, G, B>>,
+    ) -> Result<Book<S>, (MissingDesks, Self, Vec<Desk<E, G, B>>)>
+        ensures key { IfOk result (λ book. book.key ≡ self.key) }
+        ensures settled { IfOk result (λ book.
+            sums_of book.history ≡ plus (sums E.before G.before B.before) (total desks.items)) }
+        ensures all { OnOk result (length desks.items ≡ self.desks) }
+        ensures missing { IfErr result (λ e. (e.0.present ≡ length desks.items) × (length desks.items < self.desks)) }
+        ensures back { IfErr result (λ e. (e.1 ≡ self) × (e.2.items ≡ desks.items)) }
+    {
+        if desks.len() < self.desks {
+            let present = desks.len();
+            return Err((MissingDesks { present }, self, desks));
+        }
+        let SharedBook {
+            counted,
+            key: _,
+            desks: _,
+        } = self;
+        Ok(counted.into_inner().into_book(desks))
+    }
+}
