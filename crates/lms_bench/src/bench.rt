@@ -1,5 +1,5 @@
 //! A case and what it works on.
-use crate::case::{Case, ID, MESSAGE, Operation, RANDOMIZER, SEED, key_of};
+use crate::case::{Case, ID, MESSAGE, Operation, RANDOMIZER, SEED, TREE, key_of};
 use anyhow::Result;
 use lms_ots::{candidate, public_hash, sign_into};
 
@@ -32,7 +32,7 @@ impl Bench {
             Operation::PublicHash => public_hash(self.case.ots, &given, ID),
             Operation::SignInto => self.sign(&given),
             Operation::Candidate => self.candidate(given),
-            Operation::SubtreeRoot => key_of(self.case.ots, given).subtree_root(1),
+            Operation::SubtreeRoot => key_of(TREE, self.case.ots, given).subtree_root(1),
         }
     }
 

@@ -1,35 +1,40 @@
 //! What all processors work out.
 ghost use Rattle.std.specs.Prelude.{◌^◌, ◌<◌, IfOk};
 
-use crate::case::{MESSAGE, SEED, TREE, key_of};
+use crate::case::{MESSAGE, SEED, key_of};
 use crate::compressions::tree_compressions;
 use crate::hierarchy::{COVERED, Hierarchy, signature};
 use crate::signed_level::{cover_compressions, signed_levels};
 use anyhow::Result;
-use lms_params::OtsType;
-use lms_tree::WholeTree;
+use lms_params::{LmsType, OtsType};
+use lms_tree::{BandTree, WholeTree};
 use std::alloc::Global;
 use std::fmt;
 use std::thread::Threads;
 
 /// Each build, in the order in which they are printed.
-pub const BUILDS: [Build; 3] = [
-    Build::Tree(OtsType::W8),
-    Build::Tree(OtsType::W4),
+pub const BUILDS: [Build; 5] = [
+    Build::Whole(LmsType::H10, OtsType::W8),
+    Build::Whole(LmsType::H10, OtsType::W4),
+    Build::Band(LmsType::H10, OtsType::W4),
+    Build::Band(LmsType::H15, OtsType::W4),
     Build::Cover(COVERED),
 ];
 
-/// A tree in `TREE` over a set of one-time keys, or the trees that the first index of a key of HSS goes through.
+/// A tree of these sets that is held whole, one that serves its first leaf alone, or the trees that the first index of a key of
+/// HSS goes through.
 #[derive(Clone, Copy)]
 pub enum Build {
-    Tree(OtsType),
+    Whole(LmsType, OtsType),
+    Band(LmsType, OtsType),
     Cover(Hierarchy),
 }
 
 impl fmt::Display for Build {
     fn fmt<W: fmt::Write>(&self, f: &mut fmt::Formatter<W>) -> fmt::Result {
         match self {
-            Build::Tree(ots) => write!(f, "WholeTree::build {}/{}", TREE.height(), ots.w()),
+            Build::Whole(lms, ots) => write!(f, "WholeTree::build {}/{}", lms.height(), ots.w()),
+            Build::Band(lms, ots) => write!(f, "BandTree::build {}/{}", lms.height(), ots.w()),
             Build::Cover(hierarchy) => write!(f, "Forest::cover {hierarchy}"),
         }
     }
@@ -41,7 +46,7 @@ impl Build {
         ensures { IfOk result (λ n. n < 2 ^ 53) }
     {
         match self {
-            Build::Tree(ots) => Ok(tree_compressions(TREE, ots)),
+            Build::Whole(lms, ots) | Build::Band(lms, ots) => Ok(tree_compressions(lms, ots)),
             Build::Cover(hierarchy) => {
                 let signature = signature(&hierarchy.forest(rt, alloc)?)?;
                 let levels = signed_levels(alloc, &hierarchy.key()?, &MESSAGE, &signature)?;
@@ -53,8 +58,11 @@ impl Build {
     /// Works it out once.
     pub fn run(self, rt: &(impl Threads + Sync), alloc: Global) -> Result<()> {
         match self {
-            Build::Tree(ots) => {
-                let _tree = WholeTree::build(rt, alloc, key_of(ots, SEED))?;
+            Build::Whole(lms, ots) => {
+                let _tree = WholeTree::build(rt, alloc, key_of(lms, ots, SEED))?;
+            }
+            Build::Band(lms, ots) => {
+                let _tree = BandTree::build(rt, alloc, key_of(lms, ots, SEED), 0, 0)?;
             }
             Build::Cover(hierarchy) => {
                 let _forest = hierarchy.forest(rt, alloc)?;

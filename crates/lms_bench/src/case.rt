@@ -19,21 +19,17 @@ pub const RANDOMIZER: [u8; 32] = [0x33; 32];
 
 pub const MESSAGE: [u8; 3] = *b"abc";
 
-/// The set of each tree.
+/// The set of the tree whose root is worked out.
 pub const TREE: LmsType = LmsType::H10;
 
 /// The key of a tree.
-pub fn key_of(ots: OtsType, seed: [u8; 32]) -> TreeKey
+pub fn key_of(lms: LmsType, ots: OtsType, seed: [u8; 32]) -> TreeKey
+    ensures lms { result.lms ≡ lms }
     ensures ots { result.ots ≡ ots }
     ensures seed { result.seed ≡ seed }
 {
     let OtsId { i, q: _ } = ID;
-    TreeKey {
-        lms: TREE,
-        ots,
-        i,
-        seed,
-    }
+    TreeKey { lms, ots, i, seed }
 }
 
 /// Each case, in the order in which they are printed.

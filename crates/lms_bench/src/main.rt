@@ -4,13 +4,15 @@
 //! its time, the compressions of SHA-256 that the standard's definition needs, and the ratio of its time to that of as
 //! many bare digests of 55 bytes, each the least of several rounds. For trees that all processors build it prints the
 //! compressions a second, how many times those of one thread with bare digests they are, their share of those of a thread
-//! with bare digests on each processor at once, and how long it takes to start and join threads that do nothing.
+//! with bare digests on each processor at once, and how long it takes to start and join threads that do nothing. Last come the
+//! bytes that a forest holds.
 #![tactic(auto)]
 
 mod bench;
 mod build;
 mod case;
 mod compressions;
+mod held;
 mod hierarchy;
 mod hss_bench;
 mod measure;

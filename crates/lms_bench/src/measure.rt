@@ -2,6 +2,7 @@
 use crate::bench::{Bench, Timed};
 use crate::build::{BUILDS, Build};
 use crate::case::CASES;
+use crate::held::Held;
 use crate::hierarchy::{COVERED, VERIFIED};
 use crate::hss_bench::{Signing, Verification};
 use anyhow::Result;
@@ -16,7 +17,7 @@ const ROUNDS: u32 = 20;
 /// How many compressions a round makes, at least, and how many bare digests stand beside a build.
 const COMPRESSIONS_A_ROUND: u64 = 1 << 16;
 
-/// Times each case and each build.
+/// Times each case and each build, and weighs a forest.
 pub fn measure(rt: &(impl Print + AllocGlobal + Clock + CpuClock + Threads + Sync)) -> Result<()> {
     for case in CASES {
         print!(rt; "{case}")?;
@@ -37,7 +38,9 @@ pub fn measure(rt: &(impl Print + AllocGlobal + Clock + CpuClock + Threads + Syn
     for build in BUILDS {
         measure_build(rt, build)?;
     }
-    Ok(())
+    let bands = Held::with_bands(rt, rt.alloc())?;
+    print_held(rt, "in bands", bands)?;
+    print_held(rt, "in whole trees", Held::with_whole_trees())
 }
 
 /// Prints the time of a run, its compressions, and the ratio of its time to that of bare digests.
@@ -82,6 +85,15 @@ fn measure_build(
     let micros = nothing.as_secs_f64() * 1e6;
     println!(rt;
         "{build}: {rate:.0} compressions a second, {threads:.2} times one thread, share {share:.2}, threads {micros:.0} us"
+    )?;
+    Ok(())
+}
+
+/// Prints the bytes that a forest holds.
+fn print_held(rt: &impl Print, form: &str, held: Held) -> Result<()> {
+    let Held { at_most, then } = held;
+    println!(rt;
+        "forest of 1024 indices of 15/8,10/8 {form}: at most {at_most} bytes, then {then}"
     )?;
     Ok(())
 }

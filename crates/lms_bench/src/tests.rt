@@ -1,6 +1,7 @@
 use crate::build::Build;
 use crate::case::{Case, Operation};
 use crate::compressions::tree_compressions;
+use crate::held::Held;
 use crate::hierarchy::{COVERED, VERIFIED};
 use crate::hss_bench::{Signing, Verification};
 use lms_params::{LmsType, OtsType};
@@ -47,5 +48,21 @@ fn counts_a_forest(rt: HostRuntime) -> Result<(), Fail> {
     assert_eq!(rt; signing.compressions(rt.alloc())?, 4626);
     let cover = Build::Cover(COVERED);
     assert_eq!(rt; cover.compressions(&rt, rt.alloc())?, 17872915);
+    Ok(())
+}
+
+/// The bytes by the numbers of nodes that the two trees have to hold, and the lengths of their heads.
+#[test]
+fn weighs_a_forest(rt: HostRuntime) -> Result<(), Fail> {
+    let bands = Held {
+        at_most: 32 * (2110 + 2048) + 4 + 1672,
+        then: 32 * 2048 + 1672,
+    };
+    assert_eq!(rt; Held::with_bands(&rt, rt.alloc())?, bands);
+    let whole = Held {
+        at_most: 2164300,
+        then: 67176,
+    };
+    assert_eq!(rt; Held::with_whole_trees(), whole);
     Ok(())
 }

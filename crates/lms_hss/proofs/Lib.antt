@@ -1,5 +1,6 @@
 pub mod Forests
 pub mod Keys
 pub mod SameKeys
+pub mod Ranges
 pub mod Sets
 pub mod SignedKeys

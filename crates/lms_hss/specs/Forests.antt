@@ -1,8 +1,8 @@
 -- The trees that a range of indices goes through, and what stands above them.
-use Rattle.std.specs.Prelude.{ℕ, ◌≡◌, ◌+◌, ◌-◌, ◌<◌, ◌≤◌, List, ◌++◌, length, map, slice_index_or}
+use Rattle.std.specs.Prelude.{ℕ, ◌≡◌, ◌+◌, ◌-◌, ◌^◌, ◌<◌, ◌≤◌, List, ◌++◌, length, map, slice_index_or}
 use Rattle.std.specs.List.{concat}
 use Rattle.lms_spec.specs.Bytes.{below, u32str}
-use Rattle.lms_spec.specs.Hss.{HssKey, tree_at, signed_key, child, derived, for_randomizer}
+use Rattle.lms_spec.specs.Hss.{HssKey, tree_at, leaf_at, signed_key, child, derived, for_randomizer}
 use Rattle.lms_spec.specs.Tree.{lms_signature, public_key_of}
 use Rattle.lms_params.specs.declared.lms_type.LmsType.{LmsType}
 use Rattle.lms_params.specs.declared.ots_type.OtsType.{OtsType}
@@ -10,36 +10,47 @@ use Rattle.lms_tree.specs.TreeKey.{tree_of}
 use Rattle.lms_hss.specs.Levels.{level_of}
 use Rattle.lms_hss.specs.Keys.{hss_key_of, tree_number}
 use Rattle.lms_hss.specs.declared.key.HssKey.{HssKey as KeyOfCode}
+use Rattle.lms_hss.specs.declared.key.Leaves.{Leaves}
 use Rattle.lms_hss.specs.declared.level_trees.LevelTrees.{LevelTrees}
 use Rattle.lms_hss.specs.declared.signed_tree.SignedTree.{SignedTree}
+
+-- leaves that a tree of height h can serve
+pub record AreLeaves (h : ℕ) (leaves : Leaves) : Type 0 where
+  pub order : leaves.first ≤ leaves.last
+  pub in_tree : leaves.last < 2 ^ h
+  pub at_most : leaves.last - leaves.first < 1024
 
 -- what a signature by index g has before level k's own (6.2)
 abbrev pub signature_head : HssKey → ℕ → ℕ → List ℕ
 signature_head key g k = u32str (length key.levels - 1) ++ concat (map (signed_key key g) (below k))
 
--- the tree of level k that index g goes through, with what stands before its signatures
+-- the tree of level k that index g goes through, which serves the leaf there, with what stands before its signatures
 pub record IsSignedTree (key : HssKey) (g k : ℕ) (signed_tree : SignedTree) : Type 0 where
-  pub tree : tree_of signed_tree.tree ≡ tree_at key g k
+  pub tree : tree_of signed_tree.tree.key ≡ tree_at key g k
+  pub from : signed_tree.tree.first ≤ leaf_at key g k
+  pub to : leaf_at key g k ≤ signed_tree.tree.last
   pub head : signed_tree.head.items ≡ signature_head key g k
 
--- the tree of these sets below leaf q of another, signed by that leaf
-pub record IsChild (parent : SignedTree) (q : ℕ) (sets : LmsType × OtsType) (signed_tree : SignedTree) : Type 0 where
-  pub tree : tree_of signed_tree.tree ≡ child (tree_of parent.tree) q (level_of sets)
+-- the tree of these sets below leaf q of another, signed by that leaf, which serves these leaves
+pub record IsChild (parent : SignedTree) (q : ℕ) (sets : LmsType × OtsType) (leaves : Leaves) (signed_tree : SignedTree) : Type 0 where
+  pub tree : tree_of signed_tree.tree.key ≡ child (tree_of parent.tree.key) q (level_of sets)
+  pub first : signed_tree.tree.first ≡ leaves.first
+  pub last : signed_tree.tree.last ≡ leaves.last
   pub head : signed_tree.head.items ≡ parent.head.items
-      ++ lms_signature (tree_of parent.tree) q (derived (tree_of parent.tree) q for_randomizer) (public_key_of (tree_of signed_tree.tree))
-      ++ public_key_of (tree_of signed_tree.tree)
+      ++ lms_signature (tree_of parent.tree.key) q (derived (tree_of parent.tree.key) q for_randomizer) (public_key_of (tree_of signed_tree.tree.key))
+      ++ public_key_of (tree_of signed_tree.tree.key)
 
--- trees of level k side by side, from number `first` on
-abbrev pub HoldsTrees : HssKey → ℕ → ℕ → List SignedTree → Type 0
-HoldsTrees key k first trees =
-    (g : ℕ) (other : SignedTree) → first ≤ tree_number key g k → tree_number key g k < first + length trees
+-- trees of level k side by side, from number `first` on, for the indices from `start` to `last`
+abbrev pub HoldsTrees : HssKey → ℕ → ℕ → ℕ → ℕ → List SignedTree → Type 0
+HoldsTrees key k start last first trees =
+    (g : ℕ) (other : SignedTree) → start ≤ g → g ≤ last → first ≤ tree_number key g k → tree_number key g k < first + length trees
     → IsSignedTree key g k (slice_index_or trees (tree_number key g k - first) other)
 
 -- the trees of level k that the indices from `start` to `last` go through
 pub record HoldsLevel (key : HssKey) (k start last : ℕ) (level : LevelTrees) : Type 0 where
   pub first : level.first ≡ tree_number key start k
   pub count : level.first + length level.trees.items ≡ tree_number key last k + 1
-  pub held : HoldsTrees key k level.first level.trees.items
+  pub held : HoldsTrees key k start last level.first level.trees.items
 
 -- the trees of the bottom level that the `len` indices from `start` on go through
 pub record HoldsBottom (key : KeyOfCode) (start len : ℕ) (bottom : LevelTrees) : Type 0 where

@@ -13,8 +13,8 @@ use std::alloc::Global;
 use std::marker::Model;
 use std::thread::Threads;
 
-/// What signs a range of a key's indices: the trees of the bottom level that these go through, each held once, with the
-/// signatures of the levels above, each made once. Contracts see the key and the range.
+/// What signs a range of a key's indices: the trees of the bottom level that these go through, each with the nodes that they
+/// need, and the signatures of the levels above, each made once. Contracts see the key and the range.
 #[derive(Drop)]
 pub struct Forest {
     key: HssKey,
@@ -38,7 +38,7 @@ impl Model for Forest {
 
 impl Forest {
     /// Works out what signs the indices from `start` to `start + len - 1`, 1 to 1024 indices below the key's capacity. The
-    /// trees are worked out level by level from the top, each whole and in a thread for each processor, up to 32.
+    /// trees are worked out level by level from the top, each in a thread for each processor, up to 32.
     /// `OutOfMemory` where memory is refused.
     pub fn cover(
         rt: &(impl Threads + Sync),
@@ -54,7 +54,7 @@ impl Forest {
     {
         let below_top = key.levels.as_slice().len() - 1;
         let last = start + (len - 1);
-        let mut trees = LevelTrees::top(rt, alloc, &key)?;
+        let mut trees = LevelTrees::top(rt, alloc, &key, start, last)?;
         for k in 0..below_top {
             trees = trees.below(rt, alloc, &key, k, start, last)?;
         }

@@ -1,18 +1,26 @@
 //! The private key of HSS, and what its indices go through.
-ghost use Rattle.std.specs.Prelude.{◌≡◌, ◌↔◌, ◌-◌, ◌/◌, ◌%◌, ◌^◌, ◌<◌, ◌≤◌, ◌++◌, length, map, drop, replicate, IfOk, IsTrue};
+ghost use Rattle.std.specs.Prelude.{ℕ, ◌≡◌, ◌↔◌, ◌+◌, ◌-◌, ◌/◌, ◌%◌, ◌^◌, ◌<◌, ◌≤◌, ◌++◌, length, map, drop, replicate, IfOk, IsTrue};
 ghost use Rattle.lms_spec.specs.Bytes.{below, u32str};
 ghost use Rattle.lms_spec.specs.Hss.{height_of, hss_signature_length, hss_public_key, capacity_of, leaf_at, tree_at, level};
 ghost use Rattle.lms_tree.specs.TreeKey.{tree_of};
 ghost use Rattle.lms_hss.specs.Levels.{levels_of};
 ghost use Rattle.lms_hss.specs.Keys.{hss_key_of, tree_number as number_of};
+ghost use Rattle.lms_hss.specs.Forests.{AreLeaves};
 
 use crate::levels::{Levels, MOST_LEVELS};
 use crate::verification::LMS_KEY_LEN;
 use byteorder::{BigEndian, ByteOrder};
 use lms_params::{OutOfMemory, lms_sig_len};
-use lms_tree::{TreeKey, WholeTree, public_bytes};
+use lms_tree::{BandTree, TreeKey, public_bytes};
 use std::alloc::Global;
 use std::thread::Threads;
+
+/// The leaves of a tree from one to another.
+#[derive(Clone, Copy)]
+pub(crate) struct Leaves {
+    pub(crate) first: u32,
+    pub(crate) last: u32,
+}
 
 /// A private key of HSS (RFC 8554, 6.1): its levels, and the seed and the identifier I of the top tree, from which all
 /// trees below follow. There is no `Debug`, which would print the seed.
@@ -67,8 +75,8 @@ impl HssKey {
         places
     }
 
-    /// The public key, 60 bytes (RFC 8554, 6.1). The top tree is worked out whole, in a thread for each processor, up to 32.
-    /// `OutOfMemory` where its memory is refused.
+    /// The public key, 60 bytes (RFC 8554, 6.1). All leaves of the top tree are worked out, in a thread for each processor, up to
+    /// 32. `OutOfMemory` where memory is refused.
     pub fn public_key(
         &self,
         rt: &(impl Threads + Sync),
@@ -76,7 +84,7 @@ impl HssKey {
     ) -> Result<[u8; 60], OutOfMemory>
         ensures { IfOk result (λ text. text ≡ hss_public_key (hss_key_of self.now)) }
     {
-        let tree = WholeTree::build(rt, alloc, self.top_tree())?;
+        let tree = BandTree::build(rt, alloc, self.top_tree(), 0, 0)?;
         let levels = self.levels.as_slice().len();
         Ok(public_key_bytes(levels as u32, &public_bytes(&tree)))
     }
@@ -97,6 +105,28 @@ impl HssKey {
     {
         let (lms, _) = self.levels.as_slice()[k];
         (self.tree_number(g, k + 1) % (1 << lms.height())) as u32
+    }
+
+    /// The leaves of tree `number` of level k that the indices from `start` to `last` go through. Some of these go through the
+    /// tree.
+    pub(crate) fn leaves(&self, start: u64, last: u64, k: usize, number: u64) -> Leaves
+        requires there { k < length self.now.levels }
+        requires order { start ≤ last }
+        requires at_most { last - start < 1024 }
+        requires from { number_of (hss_key_of self.now) start k ≤ number }
+        requires to { number ≤ number_of (hss_key_of self.now) last k }
+        ensures leaves { AreLeaves (level (hss_key_of self.now) k).lms.h result }
+        ensures from { (g : ℕ) → start ≤ g → number_of (hss_key_of self.now) g k ≡ number → result.first ≤ leaf_at (hss_key_of self.now) g k }
+        ensures to { (g : ℕ) → g ≤ last → number_of (hss_key_of self.now) g k ≡ number → leaf_at (hss_key_of self.now) g k ≤ result.last }
+    {
+        let (lms, _) = self.levels.as_slice()[k];
+        let before = number << lms.height();
+        let first = self.tree_number(start, k + 1).saturating_sub(before);
+        let last = (self.tree_number(last, k + 1) - before).min((1 << lms.height()) - 1);
+        Leaves {
+            first: first as u32,
+            last: last as u32,
+        }
     }
 
     /// The number of the tree of level k that stands above tree `number` of the next level, and the leaf of it that does.

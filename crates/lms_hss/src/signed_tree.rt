@@ -1,61 +1,75 @@
 //! A tree of a hierarchy, with what the levels above it sign.
-ghost use Rattle.std.specs.Prelude.{◌≡◌, ◌+◌, ◌^◌, ◌<◌, ◌++◌, length, IfOk};
+ghost use Rattle.std.specs.Prelude.{ℕ, ◌≡◌, ◌+◌, ◌≤◌, ◌++◌, length, IfOk};
 ghost use Rattle.lms_spec.specs.Parameters.{lms_signature_length};
 ghost use Rattle.lms_spec.specs.Tree.{lms_signature};
+ghost use Rattle.lms_spec.specs.Hss.{leaf_at, level};
 ghost use Rattle.lms_tree.specs.TreeKey.{tree_of};
 ghost use Rattle.lms_hss.specs.Keys.{hss_key_of};
-ghost use Rattle.lms_hss.specs.Forests.{IsChild, IsSignedTree};
+ghost use Rattle.lms_hss.specs.Forests.{AreLeaves, IsChild, IsSignedTree};
+ghost use Rattle.lms_hss.specs.Levels.{level_of};
 
 use crate::child_key::{child_key, randomizer};
-use crate::key::HssKey;
+use crate::key::{HssKey, Leaves};
 use lms_params::{LmsType, OtsType, OutOfMemory, lms_sig_len};
-use lms_tree::{NodeSource, WholeTree, public_bytes, sign_into};
+use lms_tree::{BandTree, NodeSource, public_bytes, sign_into};
 use std::alloc::Global;
 use std::thread::Threads;
 
-/// A tree, and what the HSS signatures by its leaves begin with: the number of signed public keys, and those of the levels
-/// from the top to its own (RFC 8554, 6.2).
+/// A tree that serves some of its leaves, and what the HSS signatures by these begin with: the number of signed public keys, and
+/// those of the levels from the top to its own (RFC 8554, 6.2).
 #[derive(Drop)]
 pub(crate) struct SignedTree {
-    tree: WholeTree,
+    tree: BandTree,
     head: Vec<u8>,
 }
 
 impl SignedTree {
-    /// The tree of level 0, which no level signs.
+    /// The tree of level 0, which no level signs. It serves these leaves.
     pub(crate) fn top(
         rt: &(impl Threads + Sync),
         alloc: Global,
         key: &HssKey,
+        leaves: Leaves,
     ) -> Result<Self, OutOfMemory>
-        ensures { IfOk result (IsSignedTree (hss_key_of key.now) 0 0) }
+        requires { AreLeaves (level (hss_key_of key.now) 0).lms.h leaves }
+        ensures { IfOk result (λ tree. (g : ℕ) → leaves.first ≤ leaf_at (hss_key_of key.now) g 0 → leaf_at (hss_key_of key.now) g 0 ≤ leaves.last
+            → IsSignedTree (hss_key_of key.now) g 0 tree) }
     {
         let signed_keys = key.levels.as_slice().len() as u32 - 1;
         let head = Vec::from_slice(alloc, &signed_keys.to_be_bytes())?;
-        let tree = WholeTree::build(rt, alloc, key.top_tree())?;
+        let tree = BandTree::build(rt, alloc, key.top_tree(), leaves.first, leaves.last)?;
         Ok(SignedTree { tree, head })
     }
 
-    /// The tree of these sets below leaf q, signed by that leaf.
+    /// The tree of these sets below leaf q, signed by that leaf, which is served. It serves these leaves.
     pub(crate) fn child(
         &self,
         rt: &(impl Threads + Sync),
         alloc: Global,
         q: u32,
         sets: (LmsType, OtsType),
+        leaves: Leaves,
     ) -> Result<Self, OutOfMemory>
-        requires { q < 2 ^ (tree_of self.now.tree).lms.h }
-        ensures { IfOk result (IsChild self.now q sets) }
+        requires from { self.now.tree.first ≤ q }
+        requires to { q ≤ self.now.tree.last }
+        requires leaves { AreLeaves (level_of sets).lms.h leaves }
+        ensures { IfOk result (IsChild self.now q sets leaves) }
     {
         let key = self.tree.key();
-        let tree = WholeTree::build(rt, alloc, child_key(&key, q, sets))?;
+        let tree = BandTree::build(
+            rt,
+            alloc,
+            child_key(&key, q, sets),
+            leaves.first,
+            leaves.last,
+        )?;
         let public = public_bytes(&tree);
         let mut head = self.signed(alloc, q, &randomizer(&key, q), &public)?;
         head.extend_from_slice(&public)?;
         Ok(SignedTree { tree, head })
     }
 
-    /// The head and the LMS signature of a message by leaf q, under the randomizer `c`.
+    /// The head and the LMS signature of a message by leaf q, which is served, under the randomizer `c`.
     pub(crate) fn signed(
         &self,
         alloc: Global,
@@ -63,8 +77,9 @@ impl SignedTree {
         c: &[u8; 32],
         msg: &[u8],
     ) -> Result<Vec<u8>, OutOfMemory>
-        requires { q < 2 ^ (tree_of self.now.tree).lms.h }
-        ensures { IfOk result (λ text. text.items ≡ self.now.head.items ++ lms_signature (tree_of self.now.tree) q c.now msg.now) }
+        requires from { self.now.tree.first ≤ q }
+        requires to { q ≤ self.now.tree.last }
+        ensures { IfOk result (λ text. text.items ≡ self.now.head.items ++ lms_signature (tree_of self.now.tree.key) q c.now msg.now) }
     {
         let key = self.tree.key();
         let mut text = vec![in alloc; 0; self.head.len() + lms_sig_len(key.lms, key.ots)]?;
@@ -74,9 +89,10 @@ impl SignedTree {
 
     /// Writes the head and the LMS signature of a message by leaf q.
     fn sign_into(&self, q: u32, c: &[u8; 32], msg: &[u8], out: &mut [u8])
-        requires leaf { q < 2 ^ (tree_of self.now.tree).lms.h }
-        requires room { length out.old ≡ length self.now.head.items + lms_signature_length (tree_of self.now.tree).lms (tree_of self.now.tree).ots }
-        ensures { out.new ≡ self.now.head.items ++ lms_signature (tree_of self.now.tree) q c.now msg.now }
+        requires from { self.now.tree.first ≤ q }
+        requires to { q ≤ self.now.tree.last }
+        requires room { length out.old ≡ length self.now.head.items + lms_signature_length (tree_of self.now.tree.key).lms (tree_of self.now.tree.key).ots }
+        ensures { out.new ≡ self.now.head.items ++ lms_signature (tree_of self.now.tree.key) q c.now msg.now }
     {
         let start = self.head.len();
         out[..start].copy_from_slice(&self.head);

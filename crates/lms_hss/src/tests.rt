@@ -8,6 +8,7 @@ mod verification;
 use crate::{Forest, HssKey, KeyFault, Levels};
 use lms_params::{LmsType, OtsType};
 use lms_slow::SlowKey;
+use lms_slow::vectors::{VECTORS, Vector};
 use std::process::Abort;
 use std::test::Fail;
 use std::thread::Threads;
@@ -23,6 +24,11 @@ const THREE_LEVELS: [(LmsType, OtsType); 3] = [
     (LmsType::H5, OtsType::W4),
     (LmsType::H5, OtsType::W2),
 ];
+
+/// What another implementation made.
+fn vectors() -> [Vector; 7] {
+    VECTORS
+}
 
 /// The slow signer's key of these levels.
 fn slow_key(levels: &[(LmsType, OtsType)]) -> SlowKey<'_>

@@ -1,3 +1,4 @@
+pub mod Bands
 pub mod Held
 pub mod Parts
 pub mod Served

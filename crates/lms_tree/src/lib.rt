@@ -4,6 +4,8 @@
 //! leaves apart.
 #![tactic(auto)]
 
+mod band;
+mod band_tree;
 mod node_source;
 mod nodes;
 mod signing;
@@ -13,6 +15,7 @@ mod tree_key;
 mod verification;
 mod whole_tree;
 
+pub use crate::band_tree::BandTree;
 pub use crate::node_source::NodeSource;
 pub use crate::signing::{public_bytes, sign_into};
 pub use crate::tree_key::TreeKey;

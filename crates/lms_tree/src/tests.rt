@@ -1,4 +1,6 @@
-use crate::{NodeSource, TreeKey, WholeTree, public_bytes, sign_into, signature_len, verify};
+use crate::{
+    BandTree, NodeSource, TreeKey, WholeTree, public_bytes, sign_into, signature_len, verify,
+};
 use hex::FromHex;
 use lms_params::{LmsType, OtsType, OutOfMemory, lms_sig_len};
 use lms_slow::vectors::ONE_10_8;
@@ -6,6 +8,7 @@ use lms_slow::{SlowKey, SlowTree, slow_sign};
 use std::alloc::{AllocError, Global};
 use std::process::Abort;
 use std::test::Fail;
+use std::thread::Threads;
 
 const RANDOMIZER: [u8; 32] = [0x33; 32];
 
@@ -20,9 +23,9 @@ fn key_of(lms: LmsType, ots: OtsType) -> TreeKey {
 }
 
 /// The signature of a message by a leaf that the tree serves.
-fn signature(
+fn signature<N: NodeSource>(
     rt: &(impl Abort + AllocGlobal),
-    tree: &WholeTree,
+    tree: &N,
     q: u32,
     c: &[u8; 32],
     msg: &[u8],
@@ -129,6 +132,107 @@ fn builds_a_tall_tree(rt: HostRuntime) -> Result<(), Fail> {
     Ok(())
 }
 
+/// What serves these leaves of a key, which has them.
+fn band(
+    rt: &(impl Abort + AllocGlobal + Threads + Sync),
+    key: TreeKey,
+    first: u32,
+    last: u32,
+) -> Result<BandTree, Fail> {
+    assert!(rt; first <= last && last < 1 << key.lms.height() && last - first < 1024);
+    Ok(BandTree::build(rt, rt.alloc(), key, first, last)?)
+}
+
+/// Keys, ranges of their leaves, and how many nodes are held to serve these.
+const BANDS: [(LmsType, OtsType, u32, u32, usize); 5] = [
+    (LmsType::H5, OtsType::W8, 0, 31, 64),
+    (LmsType::H10, OtsType::W4, 0, 1023, 2048),
+    (LmsType::H15, OtsType::W2, 1000, 1023, 2110),
+    (LmsType::H15, OtsType::W2, 1000, 1100, 4157),
+    (LmsType::H15, OtsType::W2, 31744, 32767, 2110),
+];
+
+#[test]
+fn keeps_few_nodes(rt: HostRuntime) -> Result<(), Fail> {
+    for (lms, ots, first, last, kept) in BANDS {
+        let tree = band(&rt, key_of(lms, ots), first, last)?;
+        assert_eq!(rt; (tree.first(), tree.last()), (first, last));
+        assert_eq!(rt; tree.kept(), kept);
+    }
+    Ok(())
+}
+
+/// A band's signature by a leaf is that of the whole tree.
+fn check_band(
+    rt: &(impl Abort + AllocGlobal),
+    whole: &WholeTree,
+    tree: &BandTree,
+    q: u32,
+) -> Result<Vec<u8>, Fail> {
+    let text = signature(rt, tree, q, &RANDOMIZER, b"abc")?;
+    let expected = signature(rt, whole, q, &RANDOMIZER, b"abc")?;
+    assert_eq!(rt; text.as_slice(), expected.as_slice(), "{q}");
+    Ok(text)
+}
+
+/// A band signs by each of its leaves as the whole tree does.
+fn check_leaves(
+    rt: &(impl Abort + AllocGlobal),
+    whole: &WholeTree,
+    tree: &BandTree,
+) -> Result<(), Fail> {
+    assert_eq!(rt; public_bytes(tree), public_bytes(whole));
+    for q in tree.first()..=tree.last() {
+        let _text = check_band(rt, whole, tree, q)?;
+    }
+    Ok(())
+}
+
+#[test]
+fn signs_from_a_band(rt: HostRuntime) -> Result<(), Fail> {
+    let key = key_of(LmsType::H5, OtsType::W4);
+    let whole = WholeTree::build(&rt, rt.alloc(), key)?;
+    for (first, last) in [(0, 31), (7, 8), (31, 31)] {
+        let tree = band(&rt, key, first, last)?;
+        check_leaves(&rt, &whole, &tree)?;
+    }
+    Ok(())
+}
+
+/// A band of a tree of 15/2 signs as the whole tree does, with node r at place 10 of the path.
+fn check_path(
+    rt: &(impl Abort + AllocGlobal),
+    whole: &WholeTree,
+    tree: &BandTree,
+    q: u32,
+    r: u32,
+) -> Result<(), Fail> {
+    let text = check_band(rt, whole, tree, q)?;
+    assert!(rt; 1 <= r && r < 64);
+    let value = whole.key().subtree_root(r);
+    assert_eq!(rt; text.get(4620..4652), Some(value.as_slice()), "{q}");
+    Ok(())
+}
+
+/// Leaves on both sides of the edge between two bottom subtrees, each with a node of its path.
+const AT_EDGE: [(u32, u32); 4] = [(1000, 33), (1023, 33), (1024, 32), (1100, 32)];
+
+/// A band across that edge against the whole tree.
+fn check_edge(rt: &(impl Abort + AllocGlobal + Threads + Sync), key: TreeKey) -> Result<(), Fail> {
+    let whole = WholeTree::build(rt, rt.alloc(), key)?;
+    let tree = band(rt, key, 1000, 1100)?;
+    assert_eq!(rt; public_bytes(&tree), public_bytes(&whole));
+    for (q, r) in AT_EDGE {
+        check_path(rt, &whole, &tree, q, r)?;
+    }
+    Ok(())
+}
+
+#[test]
+fn signs_across_two_subtrees(rt: HostRuntime) -> Result<(), Fail> {
+    check_edge(&rt, key_of(LmsType::H15, OtsType::W2))
+}
+
 #[test]
 fn agrees_with_another_implementation(rt: HostRuntime) -> Result<(), Fail> {
     let key = TreeKey {
@@ -153,14 +257,28 @@ fn agrees_with_another_implementation(rt: HostRuntime) -> Result<(), Fail> {
     Ok(())
 }
 
-/// `rt test` refuses no memory. With `rt try --test --fail-alloc 1` the first build here is refused, and the second
-/// works; the other tests end there in want of memory.
+/// `rt test` refuses no memory, and `tests/refused` each request of a test in turn: where a build is refused, a second one works.
 #[test]
 fn builds_after_refused_memory(rt: HostRuntime) -> Result<(), Fail> {
     let key = key_of(LmsType::H5, OtsType::W1);
     let tree = match WholeTree::build(&rt, rt.alloc(), key) {
         Ok(tree) => tree,
         Err(OutOfMemory) => WholeTree::build(&rt, rt.alloc(), key)?,
+    };
+    assert_eq!(rt;
+        Some(key.subtree_root(1).as_slice()),
+        public_bytes(&tree).get(24..)
+    );
+    Ok(())
+}
+
+/// The same for a band.
+#[test]
+fn builds_a_band_after_refused_memory(rt: HostRuntime) -> Result<(), Fail> {
+    let key = key_of(LmsType::H5, OtsType::W1);
+    let tree = match BandTree::build(&rt, rt.alloc(), key, 3, 9) {
+        Ok(tree) => tree,
+        Err(OutOfMemory) => BandTree::build(&rt, rt.alloc(), key, 3, 9)?,
     };
     assert_eq!(rt;
         Some(key.subtree_root(1).as_slice()),

@@ -1,9 +1,9 @@
-use crate::tests::{LEVEL, RANDOMIZER, THREE_LEVELS, cover, key_of, sign, slow_key};
+use crate::tests::{LEVEL, RANDOMIZER, THREE_LEVELS, cover, key_of, sign, slow_key, vectors};
 use crate::{Forest, HssKey, Levels, verify};
 use hex::FromHex;
 use lms_params::{LmsType, OtsType, OutOfMemory};
 use lms_slow::slow_sign;
-use lms_slow::vectors::VECTORS;
+use lms_slow::vectors::Vector;
 use std::process::Abort;
 use std::test::Fail;
 use std::thread::Threads;
@@ -25,59 +25,99 @@ fn check_index(
     Ok(signature)
 }
 
-#[test]
-fn signs_through_two_levels(rt: HostRuntime) -> Result<(), Fail> {
-    let levels = [LEVEL; 2];
-    let key = key_of(&levels)?;
-    let public = key.public_key(&rt, rt.alloc())?;
-    let forest = cover(&rt, key, 0, 1024)?;
-    assert!(rt; forest.covers(0) && forest.covers(1023) && !forest.covers(1024));
-    let first = check_index(&rt, &forest, &levels, 0)?;
-    let last_below = check_index(&rt, &forest, &levels, 31)?;
-    let next = check_index(&rt, &forest, &levels, 32)?;
-    let last = check_index(&rt, &forest, &levels, 1023)?;
-    assert_eq!(rt; first.get(4..1352), last_below.get(4..1352));
-    assert!(rt; last_below.get(1296..1352) != next.get(1296..1352));
-    for signature in [&first, &last_below, &next, &last] {
-        assert!(rt; verify(&public, b"abc", signature));
-        assert!(rt; !verify(&public, b"abd", signature));
-    }
-    Ok(())
+/// A signature is accepted for its message alone.
+fn check_accepted(rt: &impl Abort, public: &[u8; 60], signature: &[u8]) {
+    assert!(rt; verify(public, b"abc", signature));
+    assert!(rt; !verify(public, b"abd", signature));
+}
+
+/// Two signatures have the same signature of the upper level in them, and a third has another key of the bottom level.
+fn check_upper(rt: &impl Abort, signature: &[u8], same: &[u8], next: &[u8]) {
+    assert_eq!(rt; signature.get(4..1352), same.get(4..1352));
+    assert!(rt; same.get(1296..1352) != next.get(1296..1352));
 }
 
 #[test]
-fn signs_through_levels_of_different_sets(rt: HostRuntime) -> Result<(), Fail> {
-    let forest = cover(&rt, key_of(&THREE_LEVELS)?, 1024, 2)?;
-    let _signature = check_index(&rt, &forest, &THREE_LEVELS, 1025)?;
-    let levels = [(LmsType::H10, OtsType::W4), LEVEL];
-    let forest = cover(&rt, key_of(&levels)?, 22400, 32)?;
-    let _signature = check_index(&rt, &forest, &levels, 22409)?;
-    let levels = [
-        (LmsType::H5, OtsType::W1),
-        (LmsType::H5, OtsType::W2),
-        (LmsType::H5, OtsType::W4),
-        LEVEL,
-    ];
-    let key = key_of(&levels)?;
+fn signs_through_two_levels(rt: HostRuntime) -> Result<(), Fail> {
+    let key = key_of(&[LEVEL; 2])?;
     let public = key.public_key(&rt, rt.alloc())?;
-    let forest = cover(&rt, key, 1048575, 1)?;
-    let signature = sign(&rt, &forest, 1048575, &RANDOMIZER, b"abc")?;
-    assert_eq!(rt; signature.len(), 16956);
-    assert!(rt; verify(&public, b"abc", &signature));
+    let forest = cover(&rt, key, 0, 1024)?;
+    assert!(rt; forest.covers(0) && forest.covers(1023) && !forest.covers(1024));
+    let first = check_index(&rt, &forest, &[LEVEL; 2], 0)?;
+    check_accepted(&rt, &public, &first);
+    let last_below = check_index(&rt, &forest, &[LEVEL; 2], 31)?;
+    check_accepted(&rt, &public, &last_below);
+    let next = check_index(&rt, &forest, &[LEVEL; 2], 32)?;
+    check_accepted(&rt, &public, &next);
+    check_upper(&rt, &first, &last_below, &next);
+    let last = check_index(&rt, &forest, &[LEVEL; 2], 1023)?;
+    check_accepted(&rt, &public, &last);
     Ok(())
+}
+
+/// Some indices are covered, and one of them signs as the slow signer does.
+fn check_covered(
+    rt: &(impl Abort + AllocGlobal + Threads + Sync),
+    levels: &[(LmsType, OtsType)],
+    start: u64,
+    len: u64,
+    g: u64,
+) -> Result<(), Fail> {
+    let forest = cover(rt, key_of(levels)?, start, len)?;
+    let _signature = check_index(rt, &forest, levels, g)?;
+    Ok(())
+}
+
+/// Four levels of all widths.
+const EACH_WIDTH: [(LmsType, OtsType); 4] = [
+    (LmsType::H5, OtsType::W1),
+    (LmsType::H5, OtsType::W2),
+    (LmsType::H5, OtsType::W4),
+    LEVEL,
+];
+
+#[test]
+fn signs_through_levels_of_different_sets(rt: HostRuntime) -> Result<(), Fail> {
+    check_covered(&rt, &THREE_LEVELS, 1024, 2, 1025)?;
+    check_covered(&rt, &[(LmsType::H10, OtsType::W4), LEVEL], 22400, 32, 22409)?;
+    let _forest = check_ends(&rt, key_of(&EACH_WIDTH)?, 1048575, 1, 16956)?;
+    Ok(())
+}
+
+/// A signature by an index that a forest covers has this length and is accepted.
+fn check_length(
+    rt: &impl Abort,
+    public: &[u8; 60],
+    forest: &Forest,
+    g: u64,
+    length: usize,
+) -> Result<(), Fail> {
+    let signature = sign(rt, forest, g, &RANDOMIZER, b"abc")?;
+    assert_eq!(rt; signature.len(), length);
+    assert!(rt; verify(public, b"abc", &signature), "{g}");
+    Ok(())
+}
+
+/// Some indices are covered, and the first and the last of them sign, with signatures of this length.
+fn check_ends(
+    rt: &(impl Abort + AllocGlobal + Threads + Sync),
+    key: HssKey,
+    start: u64,
+    len: u64,
+    length: usize,
+) -> Result<Forest, Fail> {
+    let public = key.public_key(rt, rt.alloc())?;
+    let forest = cover(rt, key, start, len)?;
+    check_length(rt, &public, &forest, start, length)?;
+    let last = start.saturating_add(len).saturating_sub(1);
+    check_length(rt, &public, &forest, last, length)?;
+    Ok(forest)
 }
 
 #[test]
 fn signs_through_eight_levels(rt: HostRuntime) -> Result<(), Fail> {
-    let key = key_of(&[LEVEL; 8])?;
-    let public = key.public_key(&rt, rt.alloc())?;
-    let forest = cover(&rt, key, 34359738367, 2)?;
+    let forest = check_ends(&rt, key_of(&[LEVEL; 8])?, 34359738367, 2, 10732)?;
     assert!(rt; !forest.covers(34359738366) && !forest.covers(34359738369));
-    for g in [34359738367, 34359738368] {
-        let signature = sign(&rt, &forest, g, &RANDOMIZER, b"abc")?;
-        assert_eq!(rt; signature.len(), 10732);
-        assert!(rt; verify(&public, b"abc", &signature), "{g}");
-    }
     Ok(())
 }
 
@@ -88,14 +128,8 @@ fn check_last(
     len: u64,
 ) -> Result<(), Fail> {
     let key = key_of(levels)?;
-    let public = key.public_key(rt, rt.alloc())?;
     let start = key.capacity().saturating_sub(len);
-    let forest = cover(rt, key, start, len)?;
-    for g in [start, key.capacity().saturating_sub(1)] {
-        let signature = sign(rt, &forest, g, &RANDOMIZER, b"abc")?;
-        assert_eq!(rt; signature.len(), key.sig_len());
-        assert!(rt; verify(&public, b"abc", &signature), "{len} {g}");
-    }
+    let _forest = check_ends(rt, key, start, len, key.sig_len())?;
     Ok(())
 }
 
@@ -116,26 +150,52 @@ fn covers_many_indices(rt: HostRuntime) -> Result<(), Fail> {
     Ok(())
 }
 
+/// Leaf 1023 of the top tree is the last of a bottom subtree, leaf 1024 the first of the next.
+#[test]
+fn signs_across_bottom_subtrees(rt: HostRuntime) -> Result<(), Fail> {
+    let key = key_of(&[(LmsType::H15, OtsType::W2), (LmsType::H5, OtsType::W4)])?;
+    let _forest = check_ends(&rt, key, 32767, 2, key.sig_len())?;
+    Ok(())
+}
+
+/// The public key is this one, in hexadecimal.
+fn check_public(
+    rt: &(impl Abort + AllocGlobal + Threads + Sync),
+    key: HssKey,
+    expected: &str,
+) -> Result<(), Fail> {
+    let public = key.public_key(rt, rt.alloc())?;
+    let expected = hex::decode(rt.alloc(), expected)?;
+    assert_eq!(rt; public.as_slice(), expected.as_slice());
+    Ok(())
+}
+
+/// The public key and the signature are those of another implementation.
+fn check_vector(
+    rt: &(impl Abort + AllocGlobal + Threads + Sync),
+    vector: Vector,
+) -> Result<(), Fail> {
+    let seed = FromHex::from_hex(vector.seed)?;
+    let id = FromHex::from_hex(vector.id)?;
+    let key = HssKey::new(Levels::new(vector.levels)?, seed, id);
+    check_public(rt, key, vector.public)?;
+    let forest = cover(rt, key, vector.index, 1)?;
+    let randomizer = FromHex::from_hex(vector.randomizer)?;
+    let message = vector.message.as_bytes();
+    let signature = sign(rt, &forest, vector.index, &randomizer, message)?;
+    assert_eq!(rt; signature, hex::decode(rt.alloc(), vector.signature)?);
+    Ok(())
+}
+
 #[test]
 fn signs_as_another_implementation(rt: HostRuntime) -> Result<(), Fail> {
-    for vector in VECTORS {
-        let seed = FromHex::from_hex(vector.seed)?;
-        let id = FromHex::from_hex(vector.id)?;
-        let key = HssKey::new(Levels::new(vector.levels)?, seed, id);
-        let public = key.public_key(&rt, rt.alloc())?;
-        let expected = hex::decode(rt.alloc(), vector.public)?;
-        assert_eq!(rt; public.as_slice(), expected.as_slice());
-        let forest = cover(&rt, key, vector.index, 1)?;
-        let randomizer = FromHex::from_hex(vector.randomizer)?;
-        let message = vector.message.as_bytes();
-        let signature = sign(&rt, &forest, vector.index, &randomizer, message)?;
-        assert_eq!(rt; signature, hex::decode(rt.alloc(), vector.signature)?);
+    for vector in vectors() {
+        check_vector(&rt, vector)?;
     }
     Ok(())
 }
 
-/// `rt test` refuses no memory. `rt try --test --fail-alloc N` refuses one request of those that are made here, for each N
-/// from 1 to 16, and the second call works.
+/// `rt test` refuses no memory, and `tests/refused` each request of a test in turn: where a call is refused, a second one works.
 #[test]
 fn covers_and_signs_after_refused_memory(rt: HostRuntime) -> Result<(), Fail> {
     let key = key_of(&[(LmsType::H5, OtsType::W1); 2])?;

@@ -1,7 +1,7 @@
-use crate::tests::{LEVEL, RANDOMIZER, THREE_LEVELS, slow_key};
+use crate::tests::{LEVEL, RANDOMIZER, THREE_LEVELS, slow_key, vectors};
 use crate::verify;
 use lms_params::{LmsType, OtsType};
-use lms_slow::vectors::{THREE, TWO, VECTORS, Vector};
+use lms_slow::vectors::{THREE, TWO, Vector};
 use lms_slow::{PlantedTexts, SlowTree, planted, slow_public, slow_sign};
 use std::alloc::{AllocError, Global};
 use std::process::Abort;
@@ -9,21 +9,22 @@ use std::test::Fail;
 
 /// A text with four of its bytes replaced.
 fn with_number(alloc: Global, text: &[u8], at: usize, number: u32) -> Result<Vec<u8>, AllocError> {
-    let mut changed = Vec::new(alloc);
-    for (place, byte) in text.iter().enumerate() {
-        let digit = place
-            .checked_sub(at)
-            .and_then(|i| number.to_be_bytes().get(i).copied());
-        changed.push(digit.unwrap_or(*byte))?;
+    let mut changed = Vec::from_slice(alloc, text)?;
+    let mut place = at;
+    for new in number.to_be_bytes() {
+        if let Some(byte) = changed.get_mut(place) {
+            *byte = new;
+        }
+        place = place.saturating_add(1);
     }
     Ok(changed)
 }
 
 /// A text with the lowest bit of one byte changed.
 fn with_flip(alloc: Global, text: &[u8], at: usize) -> Result<Vec<u8>, AllocError> {
-    let mut changed = Vec::new(alloc);
-    for (place, byte) in text.iter().enumerate() {
-        changed.push(if place == at { *byte ^ 1 } else { *byte })?;
+    let mut changed = Vec::from_slice(alloc, text)?;
+    if let Some(byte) = changed.get_mut(at) {
+        *byte ^= 1;
     }
     Ok(changed)
 }
@@ -33,32 +34,51 @@ fn places(text: &[u8]) -> [usize; 3] {
     [0, text.len() / 2, text.len().saturating_sub(1)]
 }
 
-#[test]
-fn decides_on_a_signature(rt: HostRuntime) -> Result<(), Fail> {
-    let public = slow_public(rt.alloc(), &slow_key(&[LEVEL]))?;
-    let signature = slow_sign(rt.alloc(), &slow_key(&[LEVEL]), 5, &RANDOMIZER, b"abc")?;
+/// The parts of a public key of 5/8 and of its signature by leaf 5 stand in their places.
+fn check_parts(rt: &impl Abort, public: &[u8], signature: &[u8]) {
     let head = [0, 0, 0, 1, 0, 0, 0, 5, 0, 0, 0, 4];
     assert!(rt; public.starts_with(&head) && public.len() == 60);
     assert_eq!(rt; public.get(12..28), Some([0x22; 16].as_slice()));
     assert!(rt; signature.starts_with(&[0, 0, 0, 0, 0, 0, 0, 5, 0, 0, 0, 4]));
     assert_eq!(rt; signature.get(1132..1136), Some([0, 0, 0, 5].as_slice()));
+}
+
+/// A signature of `abc` is refused with another number in it.
+fn check_number(
+    rt: &(impl Abort + AllocGlobal),
+    public: &[u8],
+    signature: &[u8],
+    at: usize,
+    number: u32,
+) -> Result<(), Fail> {
+    let other = with_number(rt.alloc(), signature, at, number)?;
+    assert!(rt; !verify(public, b"abc", &other), "{number} at {at}");
+    Ok(())
+}
+
+/// A signature of `abc` is refused under the public key with another number of levels.
+fn check_levels(
+    rt: &(impl Abort + AllocGlobal),
+    public: &[u8],
+    signature: &[u8],
+    levels: u32,
+) -> Result<(), Fail> {
+    let other = with_number(rt.alloc(), public, 0, levels)?;
+    assert!(rt; !verify(&other, b"abc", signature), "{levels} levels");
+    Ok(())
+}
+
+#[test]
+fn decides_on_a_signature(rt: HostRuntime) -> Result<(), Fail> {
+    let public = slow_public(rt.alloc(), &slow_key(&[LEVEL]))?;
+    let signature = slow_sign(rt.alloc(), &slow_key(&[LEVEL]), 5, &RANDOMIZER, b"abc")?;
+    check_parts(&rt, &public, &signature);
     assert!(rt; verify(&public, b"abc", &signature));
     assert!(rt; !verify(&public, b"abd", &signature));
-    assert!(rt;
-        !verify(
-            &public,
-            b"abc",
-            &with_number(rt.alloc(), &signature, 4, 32)?
-        ),
-        "leaf 32"
-    );
-    assert!(rt;
-        !verify(&public, b"abc", &with_number(rt.alloc(), &signature, 0, 1)?),
-        "count 1"
-    );
+    check_number(&rt, &public, &signature, 4, 32)?;
+    check_number(&rt, &public, &signature, 0, 1)?;
     for levels in [0, 2, 9] {
-        let other = with_number(rt.alloc(), &public, 0, levels)?;
-        assert!(rt; !verify(&other, b"abc", &signature), "{levels} levels");
+        check_levels(&rt, &public, &signature, levels)?;
     }
     Ok(())
 }
@@ -128,12 +148,31 @@ fn knows_every_pair_of_sets(rt: HostRuntime) -> Result<(), Fail> {
 }
 
 /// Sets, the bytes of a signature, and the place and the value of its LMS typecode.
-const LAYOUTS: [(LmsType, OtsType, usize, usize, u8); 4] = [
+const LAYOUTS: [(LmsType, OtsType, usize, u16, u8); 4] = [
     (LmsType::H10, OtsType::W8, 1456, 1132, 6),
     (LmsType::H15, OtsType::W4, 2672, 2188, 7),
     (LmsType::H20, OtsType::W2, 4944, 4300, 8),
     (LmsType::H25, OtsType::W1, 9328, 8524, 9),
 ];
+
+/// A planted signature has this length and this typecode at its place, and is refused with another there.
+fn check_typecode(
+    rt: &(impl Abort + AllocGlobal),
+    tree: &SlowTree,
+    length: usize,
+    at: u16,
+    code: u8,
+) -> Result<(), Fail> {
+    let at = usize::from(at);
+    let made = planted(rt.alloc(), tree, 3, &RANDOMIZER, b"abc")?;
+    assert_eq!(rt; made.signature.len(), length);
+    let typecode = made.signature.get(at..at + 4);
+    assert_eq!(rt; typecode, Some([0, 0, 0, code].as_slice()));
+    assert!(rt; verify(&made.public, b"abc", &made.signature), "{code}");
+    let other = with_flip(rt.alloc(), &made.signature, at + 3)?;
+    assert!(rt; !verify(&made.public, b"abc", &other), "{code}");
+    Ok(())
+}
 
 #[test]
 fn reads_the_typecode_in_its_place(rt: HostRuntime) -> Result<(), Fail> {
@@ -144,47 +183,68 @@ fn reads_the_typecode_in_its_place(rt: HostRuntime) -> Result<(), Fail> {
             seed: [0x11; 32],
             id: [0x22; 16],
         };
-        let made = planted(rt.alloc(), &tree, 3, &RANDOMIZER, b"abc")?;
-        assert_eq!(rt; made.signature.len(), length);
-        assert_eq!(rt;
-            made.signature.get(at..at + 4),
-            Some([0, 0, 0, code].as_slice())
-        );
-        assert!(rt;
-            verify(&made.public, b"abc", &made.signature),
-            "{lms:?} {ots:?}"
-        );
-        let other = with_flip(rt.alloc(), &made.signature, at + 3)?;
-        assert!(rt; !verify(&made.public, b"abc", &other), "{lms:?} {ots:?}");
+        check_typecode(&rt, &tree, length, at, code)?;
     }
     Ok(())
 }
 
+/// A signature is refused under the public key with a changed byte.
+fn check_keys(
+    rt: &(impl Abort + AllocGlobal),
+    public: &[u8],
+    message: &[u8],
+    signature: &[u8],
+) -> Result<(), Fail> {
+    for at in places(public) {
+        let other = with_flip(rt.alloc(), public, at)?;
+        assert!(rt; !verify(&other, message, signature), "{message:?} {at}");
+    }
+    Ok(())
+}
+
+/// A signature is refused for the message with a changed byte.
+fn check_messages(
+    rt: &(impl Abort + AllocGlobal),
+    public: &[u8],
+    message: &[u8],
+    signature: &[u8],
+) -> Result<(), Fail> {
+    for at in places(message) {
+        let other = with_flip(rt.alloc(), message, at)?;
+        assert!(rt; !verify(public, &other, signature), "{message:?} {at}");
+    }
+    Ok(())
+}
+
+/// A signature is refused with a changed byte.
+fn check_signatures(
+    rt: &(impl Abort + AllocGlobal),
+    public: &[u8],
+    message: &[u8],
+    signature: &[u8],
+) -> Result<(), Fail> {
+    for at in places(signature) {
+        let other = with_flip(rt.alloc(), signature, at)?;
+        assert!(rt; !verify(public, message, &other), "{message:?} {at}");
+    }
+    Ok(())
+}
+
+/// A signature of another implementation's is accepted, and refused with a changed byte in any of the three texts.
+fn check_vector(rt: &(impl Abort + AllocGlobal), vector: Vector) -> Result<(), Fail> {
+    let public = hex::decode(rt.alloc(), vector.public)?;
+    let signature = hex::decode(rt.alloc(), vector.signature)?;
+    let message = vector.message.as_bytes();
+    assert!(rt; verify(&public, message, &signature), "{message:?}");
+    check_keys(rt, &public, message, &signature)?;
+    check_messages(rt, &public, message, &signature)?;
+    check_signatures(rt, &public, message, &signature)
+}
+
 #[test]
 fn agrees_with_another_implementation(rt: HostRuntime) -> Result<(), Fail> {
-    for vector in VECTORS {
-        let public = hex::decode(rt.alloc(), vector.public)?;
-        let signature = hex::decode(rt.alloc(), vector.signature)?;
-        let message = vector.message.as_bytes();
-        assert!(rt; verify(&public, message, &signature), "{message:?}");
-        for at in places(&public) {
-            let other = with_flip(rt.alloc(), &public, at)?;
-            assert!(rt;
-                !verify(&other, message, &signature),
-                "{message:?} key {at}"
-            );
-        }
-        for at in places(message) {
-            let other = with_flip(rt.alloc(), message, at)?;
-            assert!(rt; !verify(&public, &other, &signature), "{message:?} {at}");
-        }
-        for at in places(&signature) {
-            let other = with_flip(rt.alloc(), &signature, at)?;
-            assert!(rt;
-                !verify(&public, message, &other),
-                "{message:?} signature {at}"
-            );
-        }
+    for vector in vectors() {
+        check_vector(&rt, vector)?;
     }
     Ok(())
 }
@@ -261,19 +321,34 @@ fn refuses_each_changed_field(rt: HostRuntime) -> Result<(), Fail> {
     check_changes(&rt, THREE)
 }
 
+/// What stands behind the number of levels or of signed keys.
+fn behind_number(text: &[u8]) -> &[u8] {
+    text.get(4..).unwrap_or(&[])
+}
+
+/// A number and texts behind it.
+fn numbered(alloc: Global, number: u32, texts: &[&[u8]]) -> Result<Vec<u8>, AllocError> {
+    let mut whole = Vec::from_slice(alloc, &number.to_be_bytes())?;
+    for text in texts {
+        whole.extend_from_slice(text)?;
+    }
+    Ok(whole)
+}
+
 /// A public key of two levels and a signature under it: leaf 7 of a top tree of 5/8 signs this child's key, and the child
 /// signs the message. The public key and the signature of the child are those of one level.
 fn below_a_top(alloc: Global, child: &PlantedTexts) -> Result<PlantedTexts, AllocError> {
     let top = slow_key(&[LEVEL]);
-    let child_key = child.public.get(4..).unwrap_or(&[]);
-    let mut public = Vec::from_slice(alloc, &2u32.to_be_bytes())?;
+    let child_key = behind_number(&child.public);
     let top_public = slow_public(alloc, &top)?;
-    public.extend_from_slice(top_public.get(4..).unwrap_or(&[]))?;
     let top_signature = slow_sign(alloc, &top, 7, &RANDOMIZER, child_key)?;
-    let mut signature = Vec::from_slice(alloc, &1u32.to_be_bytes())?;
-    signature.extend_from_slice(top_signature.get(4..).unwrap_or(&[]))?;
-    signature.extend_from_slice(child_key)?;
-    signature.extend_from_slice(child.signature.get(4..).unwrap_or(&[]))?;
+    let public = numbered(alloc, 2, &[behind_number(&top_public)])?;
+    let texts = [
+        behind_number(&top_signature),
+        child_key,
+        behind_number(&child.signature),
+    ];
+    let signature = numbered(alloc, 1, &texts)?;
     Ok(PlantedTexts { public, signature })
 }
 

@@ -6,14 +6,20 @@ use Rattle.lms_hss.specs.declared.key.HssKey.{HssKey}
 use Rattle.lms_hss.specs.Levels.{level_of, IsAdmitted}
 use Rattle.lms_hss.specs.Keys.{hss_key_of}
 use Rattle.lms_hss.proofs.Keys.{key-accepts}
-use Rattle.lms_hss.proofs.Forests.{leaf-in-tree, signature-is}
+use Rattle.lms_hss.proofs.Forests.{signature-is}
 use Rattle.lms_hss.proofs.forest.Forest.sign.Goals as goal
 
-pub signed-requires : goal.signed-requires
-signed-requires c =
+pub signed-requires-clause-from : goal.signed-requires-clause-from
+signed-requires-clause-from c =
     let key = ap (λ v. v.key) c.self.view_is in
     let leaf = c.place.ensures ∙ ap (λ key. leaf_at (hss_key_of key) c.args.g (length c.as_slice.result.now - 1)) key in
-    leaf-in-tree (hss_key_of c.args.self.now.key) c.args.g (length c.as_slice.result.now - 1) c.place.result c.bottom_tree-tree.result.now c.bottom_tree-tree.ensures leaf
+    omega (arith, leaf, c.bottom_tree-tree.ensures.from)
+
+pub signed-requires-clause-to : goal.signed-requires-clause-to
+signed-requires-clause-to c =
+    let key = ap (λ v. v.key) c.self.view_is in
+    let leaf = c.place.ensures ∙ ap (λ key. leaf_at (hss_key_of key) c.args.g (length c.as_slice.result.now - 1)) key in
+    omega (arith, leaf, c.bottom_tree-tree.ensures.to)
 
 pub returns-clause-signature : goal.returns-clause-signature
 returns-clause-signature c =

@@ -1,0 +1,24 @@
+use Rattle.std.proofs.Common.{ℕ, ◌-◌, ◌^◌, ◌<◌, ◌≤◌, ◌∙◌, ap, arith}
+use Rattle.lms_params.specs.LmsType.{lms_set_of}
+use Rattle.lms_params.specs.declared.lms_type.LmsType.{LmsType}
+use Rattle.lms_params.specs.declared.lms_type.LmsType.TheVariants.{H5, H10, H15, H20, H25}
+use Rattle.lms_tree.specs.Held.{nodes_in}
+use Rattle.lms_tree.specs.Bands.{kept_nodes}
+use Rattle.lms_tree.proofs.band_tree.BandTree.kept.Goals as goal
+
+kept-limit : (t : LmsType) (first last : ℕ) → first ≤ last → last < 2 ^ (lms_set_of t).h → last - first < 1024
+    → kept_nodes (lms_set_of t).h first last ≤ 69629
+kept-limit H5 first last order in_tree narrow = omega arith
+kept-limit H10 first last order in_tree narrow = omega arith
+kept-limit H15 first last order in_tree narrow = omega arith
+kept-limit H20 first last order in_tree narrow = omega arith
+kept-limit H25 first last order in_tree narrow = omega arith
+
+pub returns-clause-limit : goal.returns-clause-limit
+returns-clause-limit c =
+    let self = c.self.inside in
+    let is = c.self.invariant in
+    let upper = c.len.ensures ∙ ap nodes_in is.upper_rows in
+    let lower = c.len-2.ensures ∙ ap nodes_in is.lower_rows_are in
+    let kept = kept-limit self.upper.key.lms self.first self.last is.order is.in_tree is.at_most in
+    omega (arith, upper, lower, kept)

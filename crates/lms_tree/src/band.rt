@@ -1,0 +1,240 @@
+//! Nodes of a tree that are held, row by row.
+ghost use Rattle.std.specs.Prelude.{ℕ, ◌≡◌, ◌+◌, ◌*◌, ◌^◌, ◌<◌, ◌≤◌, ◌↔◌, [], length, slice_index_or, IsTrue, IfOk, IfSome};
+ghost use Rattle.lms_spec.specs.Tree.{node as node_of};
+ghost use Rattle.lms_tree.specs.TreeKey.{tree_of};
+ghost use Rattle.lms_tree.specs.Bands.{root_rows};
+ghost use Rattle.lms_tree.specs.Held.{row_of, row_below, nodes_in, AreInTree, HoldsRow, HoldsRows};
+
+use crate::nodes::inner_hash;
+use crate::tree_key::TreeKey;
+use lms_params::OutOfMemory;
+use rayon::prelude::*;
+use std::alloc::Global;
+use std::marker::Model;
+use std::thread::Threads;
+
+/// Rows of a tree: `width` nodes that stand side by side, the first of them being number `first`, and all nodes below them in
+/// `depth` more rows.
+#[derive(Clone, Copy)]
+pub(crate) struct Rows {
+    pub(crate) first: u32,
+    pub(crate) width: u32,
+    pub(crate) depth: u32,
+}
+
+/// One of several rows in a list: `count` nodes from number `first` on, of which the first stands at `place`.
+#[derive(Clone, Copy)]
+struct Row {
+    first: u32,
+    count: usize,
+    place: usize,
+}
+
+impl Rows {
+    /// The root, and all nodes below it in `depth` more rows.
+    pub(crate) fn from_root(depth: u32) -> Self
+        ensures { result ≡ root_rows depth }
+    {
+        Rows {
+            first: 1,
+            width: 1,
+            depth,
+        }
+    }
+
+    /// Room for all nodes of these rows, 32 bytes each. `OutOfMemory` where the one request for memory is refused.
+    pub(crate) fn room(self, alloc: Global) -> Result<Vec<[u8; 32]>, OutOfMemory>
+        requires { AreInTree 25 self }
+        ensures { IfOk result (λ nodes. length nodes.items ≡ nodes_in self) }
+    {
+        let lowest = self.row(self.depth);
+        Ok(vec![in alloc; [0; 32]; lowest.place + lowest.count]?)
+    }
+
+    /// Row `level`, counted from the top, in a list of the rows from the top down. Each row has twice as many nodes as the one
+    /// above it.
+    fn row(self, level: u32) -> Row
+        requires in_tree { AreInTree 25 self }
+        requires level { level ≤ self.depth }
+        ensures row { result ≡ row_of self level }
+        ensures in_tree { result.first + result.count ≤ 2 ^ 26 }
+        ensures place { result.place < result.count }
+    {
+        let count = self.width << level;
+        Row {
+            first: self.first << level,
+            count: count as usize,
+            place: (count - self.width) as usize,
+        }
+    }
+}
+
+/// All nodes in rows of a tree. Contracts see the tree's key and the rows.
+#[derive(Drop)]
+pub(crate) struct Band {
+    key: TreeKey,
+    rows: Rows,
+    /// Row after row from the top, each from left to right.
+    nodes: Vec<[u8; 32]>,
+}
+
+impl Model for Band {
+    ghost use Rattle.lms_tree.specs.Held.{RowsOf, HoldsRows};
+
+    ghost Value = { RowsOf };
+
+    ghost view = { λ a. record { key = a.key; rows = a.rows } };
+
+    ghost invariant = { λ a. HoldsRows a.key a.rows a.nodes.items };
+}
+
+impl Band {
+    /// Works out the nodes in these rows, where there is room for them: the lowest row in a thread for each processor, up to 32,
+    /// then the rows above it. A node of the lowest row that stands in the top row of `lower`, too, is not worked out again.
+    pub(crate) fn build(
+        rt: &(impl Threads + Sync),
+        key: TreeKey,
+        rows: Rows,
+        room: Vec<[u8; 32]>,
+        lower: Option<&Band>,
+    ) -> Self
+        requires in_tree { AreInTree (tree_of key).lms.h rows }
+        requires room { length room.items ≡ nodes_in rows }
+        requires lower { IfSome lower (λ band. band.now.key ≡ key) }
+        ensures { result ≡ record { key = key; rows = rows } }
+    {
+        let mut nodes = room;
+        fill_rows(rt, key, rows, lower, &mut nodes);
+        Band { key, rows, nodes }
+    }
+
+    /// The key of the tree.
+    pub(crate) fn key(&self) -> TreeKey
+        ensures { result ≡ self.now.key }
+    {
+        self.key
+    }
+
+    /// The number of rows below the top row.
+    pub(crate) fn depth(&self) -> u32
+        ensures { result ≡ self.now.rows.depth }
+    {
+        self.rows.depth
+    }
+
+    /// The number of nodes that are held.
+    pub(crate) fn len(&self) -> usize
+        ensures { result ≡ nodes_in self.now.rows }
+    {
+        self.nodes.len()
+    }
+
+    /// The value of node r, which stands in row `level`, counted from the top.
+    pub(crate) fn node(&self, level: u32, r: u32) -> [u8; 32]
+        requires level { level ≤ self.now.rows.depth }
+        requires from { self.now.rows.first * 2 ^ level ≤ r }
+        requires to { r < (self.now.rows.first + self.now.rows.width) * 2 ^ level }
+        ensures { result ≡ node_of (tree_of self.now.key) r }
+    {
+        let row = self.rows.row(level);
+        self.nodes[row.place + (r - row.first) as usize]
+    }
+
+    /// Whether node r stands in the top row.
+    fn has_on_top(&self, r: u32) -> bool
+        ensures { IsTrue result ↔ ((self.now.rows.first ≤ r) × (r < self.now.rows.first + self.now.rows.width)) }
+    {
+        r >= self.rows.first && r - self.rows.first < self.rows.width
+    }
+}
+
+/// Works out the lowest row, then the rows above it.
+fn fill_rows(
+    rt: &(impl Threads + Sync),
+    key: TreeKey,
+    rows: Rows,
+    lower: Option<&Band>,
+    nodes: &mut [[u8; 32]],
+)
+    requires in_tree { AreInTree (tree_of key).lms.h rows }
+    requires count { length nodes.old ≡ nodes_in rows }
+    requires lower { IfSome lower (λ band. band.now.key ≡ key) }
+    ensures { HoldsRows key rows nodes.new }
+{
+    let lowest = rows.row(rows.depth);
+    fill_lowest_row(rt, key, lowest.first, lower, &mut nodes[lowest.place..]);
+    fill_upper_rows(&key, rows, nodes);
+}
+
+/// Works out a row from node `first` on, in a thread for each processor, up to 32.
+fn fill_lowest_row(
+    rt: &(impl Threads + Sync),
+    key: TreeKey,
+    first: u32,
+    lower: Option<&Band>,
+    row: &mut [[u8; 32]],
+)
+    requires from_root { 1 ≤ first }
+    requires in_tree { first + length row.old ≤ 2 * 2 ^ (tree_of key).lms.h }
+    requires lower { IfSome lower (λ band. band.now.key ≡ key) }
+    ensures { (i : ℕ) → i < length row.new → slice_index_or row.new i [] ≡ node_of (tree_of key) (first + i) }
+{
+    par_for_each_mut(
+        rt,
+        row,
+        |i: usize, node: &mut [u8; 32]|
+            requires { (1 ≤ first) × (first + i < 2 * 2 ^ (tree_of key).lms.h) × IfSome lower (λ band. band.now.key ≡ key) }
+            ensures { node.new ≡ node_of (tree_of key) (first + i) }
+        {
+            *node = value(&key, lower, first + i as u32);
+        },
+    );
+}
+
+/// The value of node r: what `lower` has in its top row, else worked out from the leaves.
+fn value(key: &TreeKey, lower: Option<&Band>, r: u32) -> [u8; 32]
+    requires from_root { 1 ≤ r }
+    requires in_tree { r < 2 * 2 ^ (tree_of key.now).lms.h }
+    requires lower { IfSome lower (λ band. band.now.key ≡ key.now) }
+    ensures { result ≡ node_of (tree_of key.now) r }
+{
+    match lower {
+        Some(band) if band.has_on_top(r) => band.node(0, r),
+        _ => key.subtree_root(r),
+    }
+}
+
+/// Works out the rows above the lowest one, from there up.
+fn fill_upper_rows(key: &TreeKey, rows: Rows, nodes: &mut [[u8; 32]])
+    requires in_tree { AreInTree (tree_of key.now).lms.h rows }
+    requires count { length nodes.old ≡ nodes_in rows }
+    requires lowest { HoldsRow key.now (row_of rows rows.depth) nodes.old }
+    ensures { HoldsRows key.now rows nodes.new }
+{
+    let mut level = rows.depth;
+    while level > 0 {
+        level -= 1;
+        fill_row(key, rows.row(level), nodes);
+    }
+}
+
+/// Works out a row from the row below it, which stands after it.
+fn fill_row(key: &TreeKey, row: Row, nodes: &mut [[u8; 32]])
+    requires from_root { 1 ≤ row.first }
+    requires inner { row.first + row.count ≤ 2 ^ (tree_of key.now).lms.h }
+    requires room { row.place + 3 * row.count ≤ length nodes.old }
+    requires below { HoldsRow key.now (row_below row) nodes.old }
+    ensures count { length nodes.new ≡ length nodes.old }
+    ensures row { HoldsRow key.now row nodes.new }
+    ensures others { (k : ℕ) → row.place + row.count ≤ k → slice_index_or nodes.new k [] ≡ slice_index_or nodes.old k [] }
+{
+    for i in 0..row.count {
+        let left = row.place + row.count + 2 * i;
+        nodes[row.place + i] = inner_hash(
+            &key.i,
+            row.first + i as u32,
+            &nodes[left],
+            &nodes[left + 1],
+        );
+    }
+}

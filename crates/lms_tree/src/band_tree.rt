@@ -1,0 +1,125 @@
+//! A tree of which the upper nodes are held, and of the lower ones those that a range of leaves needs.
+ghost use Rattle.std.specs.Prelude.{◌≡◌, ◌+◌, ◌-◌, ◌^◌, ◌<◌, ◌≤◌, IfOk};
+ghost use Rattle.lms_tree.specs.TreeKey.{tree_of};
+ghost use Rattle.lms_params.specs.LmsType.{lms_set_of};
+ghost use Rattle.lms_tree.specs.Bands.{kept_height as kept_height_of, kept_nodes, lower_rows as lower_rows_of};
+
+use crate::band::{Band, Rows};
+use crate::node_source::NodeSource;
+use crate::tree_key::TreeKey;
+use lms_params::{LmsType, OutOfMemory};
+use std::alloc::Global;
+use std::marker::Model;
+use std::thread::Threads;
+
+/// A tree that serves a range of leaves. Its bottom subtrees are those of height 10, or of the tree's height where that is less:
+/// their roots and all nodes above them are held, and the one or two bottom subtrees that hold the leaves served are held whole.
+/// Contracts see the key and the range.
+#[derive(Drop)]
+pub struct BandTree {
+    first: u32,
+    last: u32,
+    upper: Band,
+    lower: Band,
+}
+
+impl Model for BandTree {
+    ghost use Rattle.lms_tree.specs.Bands.{ServedLeaves, HoldsBands};
+
+    ghost Value = { ServedLeaves };
+
+    ghost view = { λ a. record { key = a.upper.key; first = a.first; last = a.last } };
+
+    ghost invariant = { λ a. HoldsBands a.first a.last a.upper a.lower };
+}
+
+impl BandTree {
+    /// Works out what serves the leaves from `first` to `last`, at most 1024 leaves of the tree: first the bottom subtrees that
+    /// hold them, then the roots of the others and the nodes above, leaves and roots in a thread for each processor, up to 32.
+    /// `OutOfMemory` where one of the two requests for memory is refused, for the nodes that are kept, 32 bytes each: nothing was
+    /// worked out then.
+    pub fn build(
+        rt: &(impl Threads + Sync),
+        alloc: Global,
+        key: TreeKey,
+        first: u32,
+        last: u32,
+    ) -> Result<Self, OutOfMemory>
+        requires order { first ≤ last }
+        requires in_tree { last < 2 ^ (tree_of key).lms.h }
+        requires at_most { last - first < 1024 }
+        ensures { IfOk result (λ tree. tree ≡ record { key = key; first = first; last = last }) }
+    {
+        let lower_rows = lower_rows(key.lms, first, last);
+        let upper_rows = Rows::from_root(key.lms.height() - kept_height(key.lms));
+        let lower_room = lower_rows.room(alloc)?;
+        let upper_room = upper_rows.room(alloc)?;
+        let lower = Band::build(rt, key, lower_rows, lower_room, None);
+        let upper = Band::build(rt, key, upper_rows, upper_room, Some(&lower));
+        Ok(BandTree {
+            first,
+            last,
+            upper,
+            lower,
+        })
+    }
+
+    /// The number of nodes that are held. The roots of bottom subtrees that are held whole count twice.
+    pub fn kept(&self) -> usize
+        ensures count { result ≡ kept_nodes (tree_of self.now.key).lms.h self.now.first self.now.last }
+        ensures limit { result ≤ 69629 }
+    {
+        self.upper.len() + self.lower.len()
+    }
+}
+
+impl NodeSource for BandTree {
+    ghost tree_key = { λ tree. tree.key };
+
+    ghost first_leaf = { λ tree. tree.first };
+
+    ghost last_leaf = { λ tree. tree.last };
+
+    fn key(&self) -> TreeKey {
+        self.upper.key()
+    }
+
+    fn first(&self) -> u32 {
+        self.first
+    }
+
+    fn last(&self) -> u32 {
+        self.last
+    }
+
+    fn node(&self, r: u32) -> [u8; 32] {
+        let top = self.upper.depth();
+        let level = r.ilog2();
+        if level <= top {
+            self.upper.node(level, r)
+        } else {
+            self.lower.node(level - top, r)
+        }
+    }
+}
+
+/// The height of the bottom subtrees.
+fn kept_height(lms: LmsType) -> u32
+    ensures { result ≡ kept_height_of (lms_set_of lms).h }
+{
+    lms.height().min(10)
+}
+
+/// The rows of the bottom subtrees that hold a range of leaves.
+fn lower_rows(lms: LmsType, first: u32, last: u32) -> Rows
+    requires order { first ≤ last }
+    requires in_tree { last < 2 ^ (lms_set_of lms).h }
+    ensures { result ≡ lower_rows_of (lms_set_of lms).h first last }
+{
+    let depth = kept_height(lms);
+    Rows {
+        first: (1 << (lms.height() - depth)) + (first >> depth),
+        width: (last >> depth) - (first >> depth) + 1,
+        depth,
+    }
+}
