@@ -1,11 +1,11 @@
 //! Times one-time keys, trees and keys of HSS against bare SHA-256 digests.
 //!
-//! Without words it runs each case once and prints the cases' names. With the word `measure` it prints for each case
+//! Without arguments it runs each case once and prints the cases' names. With the argument `measure` it prints for each case
 //! its time, the compressions of SHA-256 that the standard's definition needs, and the ratio of its time to that of as
 //! many bare digests of 55 bytes, each the least of several rounds. For trees that all processors build it prints the
-//! compressions a second, how many times those of one thread with bare digests they are, their share of those of a thread
-//! with bare digests on each processor at once, and how long it takes to start and join threads that do nothing. Last come the
-//! bytes that a forest holds.
+//! compressions a second; how many times as many these are as one thread makes with bare digests; what share they are of
+//! what such a thread on each processor makes; and how long it takes to start and join threads that do nothing. Last come
+//! the bytes that a forest holds.
 #![tactic(auto)]
 
 mod bench;

@@ -110,11 +110,11 @@ impl<S: StateStore> Book<S> {
     ghost use Rattle.lms_book.specs.States.{IsOpenedFrom, reservations_of};
     ghost use Rattle.lms_book.specs.Books.{Reserves, HasCause, IsInOrder};
 
-    /// Opens a store by the image that it holds, which it only reads: a stop at any moment leaves what it could leave
-    /// before.
+    /// Reads the image that the store holds, and opens a book with its key and counter. Nothing is written, so a crash
+    /// leaves what it could leave before.
     ///
-    /// An `Err` hands the store back: `Store` where it failed, `Image` with the first fault of its text, `OutOfMemory`
-    /// where memory for the text is refused.
+    /// An `Err` hands the store back: `Store` where its read failed, `Image` with the first fault where the stored bytes
+    /// are no image, `OutOfMemory` where memory for them is refused.
     pub fn open(alloc: Global, store: S) -> Result<Self, (OpenFault, S)>
         ensures opened { IfOk result (IsOpenedFrom (S.seen store).now) }
         ensures fresh { IfOk result (λ book. book.history ≡ []) }
@@ -149,12 +149,12 @@ impl<S: StateStore> Book<S> {
         &self.reservations
     }
 
-    /// Reserves the next n indices, 1 to 1024. An image that counts them is stored before the lease is given.
+    /// Reserves the next n indices, 1 to 1024. An image that counts them as used is stored before the lease is given.
     ///
-    /// `Exhausted` where the key has fewer left, with their number, and `OutOfMemory` where memory for one more entry
-    /// of the history is refused; neither changes anything. `Store` where the image was not stored for certain: the
-    /// indices are burnt, and `stored` stays. A stop at any moment of the call leaves that image or what it could leave
-    /// before.
+    /// `Exhausted` where the key has fewer than n left, with their number, and `OutOfMemory` where memory for one more
+    /// entry of the history is refused; neither changes anything. `Store` where the image may not have been stored: the
+    /// indices are burnt, this book gives them to nobody, and `stored` stays. A crash at any moment of the call leaves that
+    /// image or what it could leave before.
     pub fn reserve(&mut self, n: u64) -> Result<Lease, BookFault>
         requires some { 1 ≤ n }
         requires at_most { n ≤ 1024 }
@@ -190,9 +190,8 @@ impl<S: StateStore> Book<S> {
         lease.end()
     }
 
-    /// Ends the book, and hands the store back as it is: a stop at any moment leaves what it could leave before. What the
-    /// book did is an opening of which the law `leases_never_overlap` speaks; that it began with what the store held,
-    /// `open` and `reserve` say.
+    /// Ends the book and hands its store back unchanged. What the book reserved is one opening of the store, in the sense of
+    /// the law `leases_never_overlap`; that it began with what the store held is in the contracts of `open` and `reserve`.
     pub fn close(self) -> S
         ensures store { S.seen result ≡ self.store }
         ensures opening { (held : Texts) × IsOpenedFrom held self }

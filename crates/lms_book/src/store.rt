@@ -20,8 +20,8 @@ pub enum ReadFault {
 #[error("cannot write state")]
 pub struct StoreFault;
 
-/// What keeps one text over stops of the program. A store tells contracts which texts a stop could leave, now and at each
-/// moment before, and how often it failed.
+/// Keeps one byte string, a key's state, when the program ends or crashes. Contracts see which byte strings a crash could
+/// leave, now and at each moment before, and how many calls failed.
 pub trait StateStore: Send {
     /// What a stop leaves, now and at each moment before, and how many calls failed.
     ghost seen: { Self → StoreView };
@@ -29,15 +29,15 @@ pub trait StateStore: Send {
     /// The device may fail at the next read.
     ghost may_fail: { Self → Type 0 };
 
-    /// The text, one of those that a stop now could leave. `Device` where the store failed, and counted it;
-    /// `OutOfMemory` where memory for the text is refused, which counts nothing. A stop at any moment of the call
-    /// leaves what it could leave before it.
+    /// The stored bytes, which are among those that a crash now could leave. `Device` where the store failed, which it
+    /// counts; `OutOfMemory` where memory for the bytes is refused, which it doesn't count. Reading changes nothing that a
+    /// crash could leave.
     fn read(&mut self, alloc: Global) -> Result<Vec<u8>, ReadFault>
         ensures reads { ReadsStore (may_fail self.old) (seen self.old) result (seen self.new) };
 
-    /// Puts this text in the place of the one before: from then on a stop leaves it alone. On `Err` the store failed,
-    /// and counted it, and a stop leaves this text or what it could leave before the call, as it does at each moment
-    /// within the call. A store that takes memory here, and is refused it, fails so.
+    /// Replaces the stored bytes by `text`: after `Ok` a crash leaves these bytes and no others. During the call, and after
+    /// `Err`, a crash leaves them or what it could leave before the call. `Err` where the store failed, which it counts; a
+    /// store that needs memory here and is refused it fails in the same way.
     fn replace(&mut self, text: &[u8]) -> Result<(), StoreFault>
         ensures writes { WritesStore text.now (seen self.old) result (seen self.new) };
 }

@@ -17,7 +17,7 @@ use std::{fmt, io};
 /// Why the program ends with a fault.
 #[derive(Clone, Copy, Debug, PartialEq, Eq)]
 pub enum Fault {
-    /// The levels that were asked for are no list of them.
+    /// The text for the levels is no list such as `10/8,5/4`.
     BadLevels,
     /// There are more than 8 levels.
     TooManyLevels,
@@ -47,9 +47,9 @@ pub enum Fault {
     Exhausted { left: u64 },
     /// Memory ran out.
     OutOfMemory,
-    /// Memory ran out after a reservation: so many indices are burnt.
+    /// Memory ran out after a reservation: `count` indices are used, and signed nothing.
     OutOfMemoryBurnt { count: u64 },
-    /// A file that was to be read can't be.
+    /// A file, or the program's arguments, can't be read.
     Input,
     /// A file or standard output can't be written.
     Output,

@@ -12,9 +12,10 @@ use lms_image::Image;
 use std::alloc::Global;
 use std::io::Write;
 
-/// Prints four lines on a key: its levels, how many indices are used, how many there are and how many are left.
+/// Prints four lines on the key of a state: its levels, how many indices are used, how many there are and how many are left.
 ///
-/// In this order: `StateInUse` where the state's lock is not got, `ReadState`, `BadState`, `OutOfMemory`, `Output`.
+/// `StateInUse` where the state's lock is not available, `ReadState` where the state can't be read, `BadState` where it is
+/// no image, `OutOfMemory` where memory is refused, `Output` where a line can't be printed. The state stays as it was.
 pub fn describe<W: World, O: Write>(
     alloc: Global,
     world: &mut W,

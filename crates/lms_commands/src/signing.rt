@@ -68,9 +68,10 @@ pub struct Signed {
 /// Signs the message in a file with the next index of a state's key, under a randomizer of 64 hexadecimal digits, writes
 /// the signature to a file and prints the index.
 ///
-/// In this order: `BadRandom`; `Input` or `OutOfMemory` of the message; `StateInUse` where the state's lock is not got;
-/// `ReadState`, `BadState`, `OutOfMemory`; `Exhausted`; `WriteStateBurnt`; `OutOfMemoryBurnt`; `Output`. From
-/// `OutOfMemoryBurnt` on the index is used; at `WriteStateBurnt` the state may be the older one, and give it again.
+/// Faults, in this order: `BadRandom`; `Input` where the message can't be read; `StateInUse` where the state's lock is not
+/// available; `ReadState`; `BadState`; `Exhausted`; `WriteStateBurnt` where the use of the index may not have been stored;
+/// `OutOfMemoryBurnt` and `Output` once it was. `OutOfMemory` may come anywhere before `WriteStateBurnt`. At the last two
+/// the index is used; after `WriteStateBurnt` the state may still be the older one, which gives the index again.
 pub fn sign_file<W: World, O: Write>(
     rt: &(impl Threads + Sync),
     alloc: Global,
@@ -159,8 +160,8 @@ fn sign_by_state<W: World>(
 }
 
 /// Signs a message with the next index of a book, under the randomizer `c` (RFC 8554, 6.2). The use of the index is stored
-/// before the signature is made, and the index is never given again, also where an error comes after that. A stop at any
-/// moment leaves what it could leave before, or the image that counts the index.
+/// before the signature is made. `Book` where no index was reserved; `OutOfMemory` where memory is refused after that, and
+/// the index stays used. A crash at any moment leaves what it could leave before, or the image that counts the index.
 pub fn sign_next<S: StateStore>(
     rt: &(impl Threads + Sync),
     alloc: Global,

@@ -9,11 +9,11 @@ pub enum Status {
     Done = 0,
     /// The signature is invalid.
     Invalid = 1,
-    /// The words are no command, or an option's text is bad.
+    /// The arguments are no command, or an option's value is bad.
     Usage = 2,
-    /// The state's store failed, or what it holds is no state.
+    /// The state exists already, is in use, can't be read or written, or is no image.
     State = 3,
-    /// The key has not enough indices left.
+    /// The key does not have enough indices left.
     Exhausted = 4,
     /// Memory ran out.
     Memory = 5,

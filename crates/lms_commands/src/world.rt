@@ -53,12 +53,13 @@ pub trait World {
         ensures others { SameFilesBut name.now (known self.old) (known self.new) }
         ensures states { (state : List ℕ) → Stays (known self.old) (known self.new) state };
 
-    /// Whether there is a state of this name, also where that can't be told.
+    /// True where there is a state of this name, and where that can't be found out.
     fn exists(&self, name: &str) -> bool
         ensures missing { result ≡ false → (known self.now).lacks name.now }
         ensures there { result ≡ true → Exists (known self.now) name.now };
 
-    /// The lock of the state of this name, without waiting for it; `None` where it is not got.
+    /// Locks the state of this name, without waiting. `None` where the lock is not available, `OutOfMemory` where memory for
+    /// it was refused.
     fn lock(&self, alloc: Global, name: &str) -> Result<Option<Self::Lock>, OutOfMemory>
         ensures { IfOk result (λ lock. lock ≡ None → (known self.now).in_use name.now) };
 

@@ -13,8 +13,9 @@ use std::alloc::Global;
 use std::marker::Model;
 use std::thread::Threads;
 
-/// What signs a range of a key's indices: the trees of the bottom level that these go through, each with the nodes that they
-/// need, and the signatures of the levels above, each made once. Contracts see the key and the range.
+/// All that is needed to sign with a range of a key's indices: the trees of the bottom level that these go through, with the
+/// nodes that their signatures need, and the signatures of the levels above, each made once. Contracts see the key and the
+/// range.
 #[derive(Drop)]
 pub struct Forest {
     key: HssKey,
@@ -74,9 +75,9 @@ impl Forest {
         g >= self.start && g - self.start < self.len
     }
 
-    /// The signature of a message by index g, which is covered, under the randomizer `c` (RFC 8554, 6.2): `HssKey::sig_len`
-    /// bytes. An index must sign one message only, and nothing here keeps a caller from more. `OutOfMemory` where the one
-    /// request for memory, the signature's, is refused: no part of a signature exists then.
+    /// The signature of a message by index g under the randomizer `c` (RFC 8554, 6.2), `HssKey::sig_len` bytes. The forest
+    /// must cover g. Each index must sign one message only, which nothing here checks. `OutOfMemory` where the one request
+    /// for memory, the signature's, is refused: no part of a signature exists then.
     pub fn sign(&self, g: u64, c: &[u8; 32], msg: &[u8]) -> Result<Vec<u8>, OutOfMemory>
         requires { IsCovered self.now g }
         ensures signature { IfOk result (λ text. text.items ≡ hss_signature (hss_key_of self.now.key) g c.now msg.now) }

@@ -79,9 +79,9 @@ impl fmt::Display for ImageFault {
 
 impl Error for ImageFault {}
 
-/// The image of a key and a counter, which is at most the key's capacity: `HSSK`, the version 1, the number of levels,
-/// the two typecodes of each level, the seed, the identifier I, the counter and the digest of all these, 100 bytes and 8
-/// for each level.
+/// The image of a key and a counter, 100 bytes and 8 for each level: `HSSK`, the version 1 and the number of levels, 4 bytes
+/// each; each level's two typecodes, 4 bytes each; the seed, 32; the identifier I, 16; the counter, 8; and the SHA-256
+/// digest of all these, 32. The counter must be at most the key's capacity.
 pub fn encode_image(image: &Image) -> ImageBytes
     requires { image.now.counter ≤ capacity_of (hss_key_of image.now.key) }
     ensures { result ≡ image_of image.now.key image.now.counter }
@@ -112,7 +112,7 @@ fn encode_head(levels: &Levels) -> ImageBytes
     text
 }
 
-/// The image whose text this is, or the first fault of the text.
+/// The key and the counter whose image these bytes are; or the first `ImageFault` that the bytes have.
 pub fn decode_image(text: &[u8]) -> Result<Image, ImageFault>
     ensures ok { IfOk result (λ image. (text.now ≡ image_of image.key image.counter) × HasImage image.key image.counter) }
     ensures exact { MatchResult result (λ _. fault_of text.now ≡ None) (λ fault. fault_of text.now ≡ Some fault) }

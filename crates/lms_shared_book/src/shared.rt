@@ -100,9 +100,9 @@ impl<S: StateStore, E: Tally, G: Tally, B: Tally> SharedBook<S, E, G, B> {
         self.key
     }
 
-    /// Reserves the next n indices, 1 to 1024, under the lock. `Exhausted` and `OutOfMemory` as `Book::reserve`'s, and
-    /// the desk stays; `Store` burns them, and the desk counts an entry and n burnt; else an entry and n received. Waits
-    /// for the lock.
+    /// Waits for the lock, and reserves the next n indices, 1 to 1024, as `Book::reserve` does, with its errors. On `Ok` the
+    /// desk counts one entry and n indices received, at `Store` one entry and n indices burnt, at `Exhausted` and
+    /// `OutOfMemory` nothing.
     pub fn reserve<R: Wait>(
         &self,
         rt: &R,

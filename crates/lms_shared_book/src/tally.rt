@@ -9,9 +9,9 @@ use std::sync::ledger::{Blank, Book, Ledger, Share};
 /// A ledger of `std::sync::ledger`, for one of the three numbers that a shared book's desks count. Its members are for
 /// contracts alone.
 ///
-/// Whoever shares a book writes a function over three types with this bound, which takes the book and its `Blanks`, and
-/// calls it with `Brand` three times. The proof of that call picks the members: name and parts of the blank, what the
-/// history counted before, and the book's key.
+/// Whoever shares a book writes a function that is generic over three types with this bound and takes the book and its
+/// `Blanks`, and calls it with `Brand` for each of the three. The proof of that call picks the members: name and parts of
+/// the blank, what the history counted before, and the book's key.
 pub trait Tally: Ledger {
     /// What the history counted before the book was shared.
     ghost before: { ℕ };
@@ -26,8 +26,8 @@ impl Tally for Brand {
     ghost key = { record { levels = []; seed = []; i = [] } };
 }
 
-/// The three ledgers of a book that is to be shared, which no type stands for yet: of the entries, of the indices given
-/// and of the indices burnt. Each is made by `Blank::new(desks + 1)`.
+/// Three blank ledgers for `SharedBook::share`, which opens them: one of the entries, one of the indices given and one of
+/// the indices burnt. Each is made by `Blank::new(desks + 1)`.
 #[derive(Drop)]
 pub struct Blanks {
     pub entries: Blank,

@@ -155,8 +155,8 @@ impl<R: Files + Sync> StateStore for FileStore<'_, R> {
 
     ghost may_fail = { λ _. Unit {0} };
 
-    /// The file whole. `Device` where that fails, and where the file holds a text that no stop could leave after the
-    /// writes of the record, so that somebody else wrote it; `OutOfMemory` where memory for the text is refused.
+    /// All bytes of the file. `Device` where they can't be read, and where they are none that a crash could leave after the
+    /// recorded writes, so that somebody else wrote them; `OutOfMemory` where memory for them is refused.
     fn read(&mut self, alloc: Global) -> Result<Vec<u8>, ReadFault>
         ensures seen { ReadsStore (Unit {0}) (view_of self.old) result (view_of self.new) }
         ensures reads { Reads self.old result self.new }
@@ -171,10 +171,10 @@ impl<R: Files + Sync> StateStore for FileStore<'_, R> {
         }
     }
 
-    /// A text of over 256 bytes is refused, and a write past the eighth where memory for its record is refused; neither
-    /// touches a file, though a book burns the range all the same. Else the write is recorded, and the text goes to
-    /// `NAME.new`, which only the owner may read, is flushed, takes the place of the file, and the folder is flushed. A
-    /// stop at any point leaves the file with the old text or with this one.
+    /// Refuses more than 256 bytes, and a write past the eighth where memory for its record is refused; neither touches a
+    /// file, though a book burns the range all the same. Else records the write, writes the bytes to `NAME.new`, which only
+    /// the owner may read, flushes it, renames it over the file and flushes the folder; `Err` where a step fails. A crash
+    /// at any point leaves the file with the old bytes or with these.
     fn replace(&mut self, text: &[u8]) -> Result<(), StoreFault>
         ensures writes { WritesStore text.now (view_of self.old) result (view_of self.new) }
         ensures replaces { Replaces self.old text.now result self.new }

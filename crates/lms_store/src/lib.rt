@@ -6,9 +6,9 @@
 //! A store records each write until it is dropped, so one that is kept open for many writes grows. Close the book and open the
 //! store anew to begin a new record.
 //!
-//! No contract knows a disk. What is proved speaks of the texts that were written through a store, and stands on two
-//! premises: a rename takes the place of the file whole, so that a stop within it leaves the old file or the new one; and
-//! what `sync_all` answered `Ok` for outlives a stop, of a file its bytes and of a folder its names.
+//! No contract knows a disk. What is proved speaks of the bytes that were written through a store, and rests on two premises:
+//! a rename replaces the file whole, so that a crash within it leaves the old file or the new one; and once `sync_all`
+//! answered `Ok`, a crash loses neither the bytes of that file nor the names in that folder.
 #![tactic(auto)]
 
 mod file_store;

@@ -14,7 +14,7 @@ pub trait TryLock {
     /// The lock was got.
     ghost is_locked: { Self → Type 0 };
 
-    /// Whether the lock on the whole file was got. It is not waited for. It is held until the file is dropped.
+    /// Tries to lock the whole file, without waiting. True only where that is done; the file is locked until it is dropped.
     fn try_lock(&self) -> bool
         ensures { IsTrue result → is_locked self.now };
 }
@@ -27,12 +27,12 @@ impl TryLock for File {
     }
 }
 
-/// Locks the state of this name against other programs that lock it so, until the file that is given is dropped. `None`
-/// where the lock was not got, for whatever reason: another holds it, its file can't be made, or the name can't be resolved.
+/// Locks the state of this name, without waiting, against other programs that call this, until the returned file is dropped.
+/// `None` where the lock is not available: another holds it, its file can't be made, or the name can't be resolved.
+/// `OutOfMemory` where memory for its path is refused.
 ///
-/// What is locked is a file beside the state, `NAME.lock`, past symbolic links as the state is. It stays there, and must
-/// not be removed: who opens a new one would get its lock beside the old one. `OutOfMemory` where memory for its path is
-/// refused.
+/// The locked file is `NAME.lock` beside the state, where NAME is that of the state's file once symbolic links are followed.
+/// It stays there and must not be removed: two programs could then hold a lock each, on the old file and on a new one.
 pub fn lock<R: Files>(files: &R, alloc: Global, name: &str) -> Result<Option<R::File>, OutOfMemory>
 where
     R::File: TryLock,

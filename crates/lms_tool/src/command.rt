@@ -34,7 +34,7 @@ Prints the index, which is used for good before the signature is made. Never sig
 const VERIFY_NOTE: &str =
     "Ends with status 0 for `valid`, 1 for `invalid`, and another where a file can't be read.";
 
-/// The command that the words ask for, the first of which is the program's name.
+/// The command that the command-line arguments ask for; the first of them is the program's name.
 ///
 /// `Help` where they ask for help and `Usage` where they are no command, both with clap's text, and
 /// `OutOfMemory` where memory ran out.

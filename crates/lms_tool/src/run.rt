@@ -16,12 +16,12 @@ use std::io;
 use std::io::{BufRead, Write};
 use std::thread::Threads;
 
-/// The whole program: `words` with the program's name first, its files and its three streams.
-/// Answers the number to exit with, by `Status`.
+/// The whole program, over its command-line arguments (`words`, the program's name first), its files and its three streams.
+/// Answers the exit status, the code of a `Status`.
 ///
-/// A fault is one line on `errors`, `error: ` and its text. Help goes to `output` and a mistake in the
-/// words to `errors`, both as clap words them. Files and states are changed by `keygen`, `info` and `sign` alone, and no
-/// file but the one that the words name to be written. No command reads `input` so far.
+/// A fault is one line on `errors`, `error: ` and its text. Help is printed to `output` and a mistake in the arguments to
+/// `errors`, both in clap's wording. Nothing but `keygen`, `info` and `sign` may change files or states, and of the files
+/// only the one that `--public` or `--out` names. `input` is not read.
 pub fn run<S: AsStr, W: World, I: BufRead, O: Write, E: Write>(
     rt: &(impl Threads + Sync),
     alloc: Global,

@@ -7,7 +7,7 @@ ghost use Rattle.lms_tree.specs.Served.{IsNeeded};
 
 use crate::tree_key::TreeKey;
 
-/// The nodes of a tree that its public key needs, and the signatures by a range of its leaves.
+/// The nodes of a tree that are needed for its public key and for signatures by a range of its leaves, the leaves served.
 pub trait NodeSource {
     // The key of the tree, and the first and the last leaf that are served.
     ghost tree_key: { Self → KeyOfTree };
@@ -29,7 +29,7 @@ pub trait NodeSource {
     fn last(&self) -> u32
         ensures { result ≡ last_leaf self.now };
 
-    /// The value of node r (RFC 8554, 5.3), which is the root or stands in the path of a served leaf.
+    /// The value of node r (RFC 8554, 5.3), 32 bytes. Node r must be the root, 1, or stand in the path of a leaf served.
     fn node(&self, r: u32) -> [u8; 32]
         requires { IsNeeded (tree_of (tree_key self.now)).lms.h (first_leaf self.now) (last_leaf self.now) r }
         ensures { result ≡ node_of (tree_of (tree_key self.now)) r };

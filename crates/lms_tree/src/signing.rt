@@ -24,8 +24,8 @@ pub fn public_bytes<N: NodeSource>(source: &N) -> [u8; 56]
     public_key_bytes(key.lms, key.ots, &key.i, &source.node(1))
 }
 
-/// Signs a message with leaf q under the randomizer `c` (RFC 8554, 5.4.1): the whole of `out`, `lms_sig_len` bytes, becomes
-/// the signature. Leaf q is one that is served.
+/// Signs a message with leaf q under the randomizer `c` (RFC 8554, 5.4.1) and writes the signature to `out`, which must have
+/// exactly `lms_sig_len` bytes. The source must serve leaf q.
 pub fn sign_into<N: NodeSource>(source: &N, q: u32, c: &[u8; 32], msg: &[u8], out: &mut [u8])
     requires first { N.first_leaf source.now ≤ q }
     requires last { q ≤ N.last_leaf source.now }

@@ -18,8 +18,8 @@ pub enum Command {
     Info {
         state: String,
     },
-    /// Sign a message by the key whose state is in a file, with a randomizer in hexadecimal, and
-    /// write the signature to the file `out`. All but the randomizer name files.
+    /// Sign the message in a file by the key whose state is in a file, with the randomizer `random`
+    /// in hexadecimal, and write the signature to the file `out`. All but `random` name files.
     Sign {
         state: String,
         random: String,
@@ -34,12 +34,12 @@ pub enum Command {
     },
 }
 
-/// Why the words give no command.
+/// Why the arguments give no command.
 #[derive(Debug, Drop)]
 pub enum CommandFault {
     /// Help was asked for, and this is its text.
     Help { text: String },
-    /// The words are no command of the program, and this says why.
+    /// The arguments are no command of the program, and this text says why.
     Usage { text: String },
     /// Memory ran out.
     OutOfMemory,
