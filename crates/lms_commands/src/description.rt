@@ -47,7 +47,7 @@ impl fmt::Display for LevelsText<'_> {
 
 /// Prints four lines: a key's levels, the indices used so far, those that there are, and those that are left.
 ///
-/// An error is the writer's own; what of the lines it took by then isn't said.
+/// An error is the writer's own. On error, some of the lines, or part of one, may have been written.
 pub(crate) fn print_info<O: Write>(output: &mut O, key: HssKey, counter: u64) -> io::Result<()>
     requires { counter ≤ capacity_of (hss_key_of key) }
     ensures { OnOk result (Appends (O.contents output.old) (O.contents output.new) (info_text key counter)) }
@@ -63,7 +63,7 @@ pub(crate) fn print_info<O: Write>(output: &mut O, key: HssKey, counter: u64) ->
 
 /// Prints a line on how many messages a key can sign.
 ///
-/// An error is the writer's own; what of the line it took by then isn't said.
+/// An error is the writer's own. On error, part of the line may have been written.
 pub(crate) fn print_capacity<O: Write>(output: &mut O, capacity: u64) -> io::Result<()>
     ensures { OnOk result (Appends (O.contents output.old) (O.contents output.new)
         (number_line (codes "capacity") capacity)) }
@@ -73,7 +73,7 @@ pub(crate) fn print_capacity<O: Write>(output: &mut O, capacity: u64) -> io::Res
 
 /// Prints a line on the index that a message was signed with.
 ///
-/// An error is the writer's own; what of the line it took by then isn't said.
+/// An error is the writer's own. On error, part of the line may have been written.
 pub(crate) fn print_index<O: Write>(output: &mut O, index: u64) -> io::Result<()>
     ensures { OnOk result (Appends (O.contents output.old) (O.contents output.new)
         (number_line (codes "index") index)) }

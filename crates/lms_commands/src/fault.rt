@@ -172,7 +172,7 @@ impl From<BookFault> for Fault {
 
 /// Prints the fault's line, `error: ` and its text.
 ///
-/// An error is the writer's own; what of the line it took by then isn't said.
+/// An error is the writer's own. On error, part of the line may have been written.
 pub fn print_fault<W: Write>(errors: &mut W, fault: Fault) -> io::Result<()>
     ensures { OnOk result (Appends (W.contents errors.old) (W.contents errors.new) (fault_line fault)) }
 {

@@ -42,7 +42,7 @@ pub fn judge(public: &[u8], message: &[u8], signature: &[u8]) -> Verdict
 
 /// Prints the verdict's line, `valid` or `invalid`.
 ///
-/// An error is the writer's own; what of the line it took by then isn't said.
+/// An error is the writer's own. On error, part of the line may have been written.
 pub(crate) fn print_verdict<W: Write>(output: &mut W, verdict: Verdict) -> io::Result<()>
     ensures { OnOk result (Appends (W.contents output.old) (W.contents output.new) (line_of verdict)) }
 {

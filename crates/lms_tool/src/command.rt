@@ -15,7 +15,7 @@ use std::convert::AsStr;
 pub use types::{Command, CommandFault};
 
 const LEVELS_HELP: &str =
-    "Height/width of each level, top first, as 10/8,10/8: heights 5, 10, 15, widths 1, 2, 4, 8";
+    "Height/width of each level, top first, as 10/8,10/8: heights 5, 10, 15, 60 at most in sum; widths 1, 2, 4, 8";
 
 const KEYGEN_NOTE: &str = "Example:
   lms_tool keygen --levels 10/8,10/8 --seed \"$(openssl rand -hex 32)\" --id \"$(openssl rand -hex 16)\" \\
@@ -23,16 +23,20 @@ const KEYGEN_NOTE: &str = "Example:
 
 The same seed and identifier make the same key, with its indices counted from 0 again: never use them twice.";
 
-const INFO_NOTE: &str =
-    "Prints the levels, how many indices are used (counter), how many there are (capacity) and are left.";
+const INFO_NOTE: &str = "Example:
+  lms_tool info --state key.state
+
+Prints the levels, how many indices are used (counter), how many there are (capacity) and how many are left (left).";
 
 const SIGN_NOTE: &str = "Example:
   lms_tool sign --state key.state --random \"$(openssl rand -hex 32)\" --message firmware.bin --out firmware.sig
 
-Prints the index, which is used for good before the signature is made. Never sign with an older copy of a state.";
+Prints the index, which counts as used before the signature is made. Never sign with an older copy of a state.";
 
-const VERIFY_NOTE: &str =
-    "Ends with status 0 for `valid`, 1 for `invalid`, and another where a file can't be read.";
+const VERIFY_NOTE: &str = "Example:
+  lms_tool verify --public key.pub --message firmware.bin --signature firmware.sig
+
+Ends with status 0 for `valid`, 1 for `invalid`, and another where a file can't be read.";
 
 /// The command that the command-line arguments ask for; the first of them is the program's name.
 ///
@@ -84,7 +88,12 @@ fn keygen_application<'a>(alloc: Global) -> Result<clap::Command<'a>, AllocError
         ))?
         .arg(option(alloc, "id", "HEX", "32 hexadecimal digits, random"))?
         .arg(option(alloc, "state", "FILE", "The key's state, a new file"))?
-        .arg(option(alloc, "public", "FILE", "Where the public key is written"))
+        .arg(option(
+            alloc,
+            "public",
+            "FILE",
+            "Where the public key is written, 60 bytes",
+        ))
 }
 
 fn info_application<'a>(alloc: Global) -> Result<clap::Command<'a>, AllocError>
@@ -112,7 +121,12 @@ fn sign_application<'a>(alloc: Global) -> Result<clap::Command<'a>, AllocError>
             "64 hexadecimal digits, fresh for each signature",
         ))?
         .arg(option(alloc, "message", "FILE", "The message, any bytes"))?
-        .arg(option(alloc, "out", "FILE", "Where the signature is written"))
+        .arg(option(
+            alloc,
+            "out",
+            "FILE",
+            "Where the signature is written, raw bytes",
+        ))
 }
 
 fn verify_application<'a>(alloc: Global) -> Result<clap::Command<'a>, AllocError>
@@ -122,9 +136,9 @@ fn verify_application<'a>(alloc: Global) -> Result<clap::Command<'a>, AllocError
     clap::Command::new(alloc, "verify")
         .about("Prints whether a signature is valid")
         .after_help(VERIFY_NOTE)
-        .arg(option(alloc, "public", "FILE", "The public key"))?
-        .arg(option(alloc, "message", "FILE", "The message"))?
-        .arg(option(alloc, "signature", "FILE", "The signature"))
+        .arg(option(alloc, "public", "FILE", "The public key, 60 bytes"))?
+        .arg(option(alloc, "message", "FILE", "The message, any bytes"))?
+        .arg(option(alloc, "signature", "FILE", "The signature, raw bytes"))
 }
 
 /// A required option `--NAME VALUE`.

@@ -5,6 +5,7 @@ use hex::FromHex;
 use lms_params::{LmsType, OtsType, OutOfMemory, lms_sig_len};
 use lms_slow::vectors::ONE_10_8;
 use lms_slow::{SlowKey, SlowTree, slow_sign};
+use sha2::{Digest, Sha256};
 use std::alloc::{AllocError, Global};
 use std::process::Abort;
 use std::test::Fail;
@@ -118,20 +119,6 @@ fn finds_single_nodes(rt: HostRuntime) -> Result<(), Fail> {
     Ok(())
 }
 
-/// The expected root is that of a program in Python over its hashlib.
-#[test]
-fn builds_a_tall_tree(rt: HostRuntime) -> Result<(), Fail> {
-    let root: [u8; 32] = FromHex::from_hex(
-        "28e3dc7b80074fec49ce0b1ae3ee30d584559e28f04b471ad793d8b0c5b5809c",
-    )?;
-    let tree = WholeTree::build(&rt, rt.alloc(), key_of(LmsType::H15, OtsType::W2))?;
-    let public = public_bytes(&tree);
-    assert_eq!(rt; public.get(24..), Some(root.as_slice()));
-    let text = signature(&rt, &tree, 32767, &RANDOMIZER, b"abc")?;
-    assert!(rt; verify(&public, b"abc", &text));
-    Ok(())
-}
-
 /// What serves these leaves of a key, which has them.
 fn band(
     rt: &(impl Abort + AllocGlobal + Threads + Sync),
@@ -199,6 +186,46 @@ fn signs_from_a_band(rt: HostRuntime) -> Result<(), Fail> {
     Ok(())
 }
 
+/// Whether these hexadecimal digits are the SHA-256 of a text.
+fn has_digest(text: &[u8], digits: &str) -> bool {
+    let digest: Result<[u8; 32], _> = FromHex::from_hex(digits);
+    digest.is_ok_and(|digest| Sha256::digest(text) == digest)
+}
+
+/// The public key of the tree of 15/2 has the root that a program in Python over its hashlib works out.
+fn check_root(rt: &impl Abort, public: &[u8; 56]) -> Result<(), Fail> {
+    let root: [u8; 32] = FromHex::from_hex(
+        "28e3dc7b80074fec49ce0b1ae3ee30d584559e28f04b471ad793d8b0c5b5809c",
+    )?;
+    assert_eq!(rt; public.get(24..), Some(root.as_slice()));
+    Ok(())
+}
+
+/// Leaves on both sides of the edge between two bottom subtrees of 15/2, each with the node at place 10 of its path and
+/// the SHA-256 of its signature of `abc`, which that program makes, too.
+const AT_EDGE: [(u32, u32, &str); 4] = [
+    (
+        1000,
+        33,
+        "29e0da9c5d78edc4dd1e1f55146408c411f2c88e7697f4dfd5d09232ae7db5ec",
+    ),
+    (
+        1023,
+        33,
+        "f0a3933cd13abd8a7ed5646effb9eea59b1b4575034594637331aa0876f6bb8e",
+    ),
+    (
+        1024,
+        32,
+        "49236735571fb49148ea9801fceef84394f8635460953a948054993c523d371b",
+    ),
+    (
+        1100,
+        32,
+        "dfb8f10ce89552d1327b6979a61be7581d121c74fd8259053fdf7591807cd4f9",
+    ),
+];
+
 /// A band of a tree of 15/2 signs as the whole tree does, with node r at place 10 of the path.
 fn check_path(
     rt: &(impl Abort + AllocGlobal),
@@ -206,31 +233,62 @@ fn check_path(
     tree: &BandTree,
     q: u32,
     r: u32,
+    digest: &str,
 ) -> Result<(), Fail> {
     let text = check_band(rt, whole, tree, q)?;
     assert!(rt; 1 <= r && r < 64);
     let value = whole.key().subtree_root(r);
     assert_eq!(rt; text.get(4620..4652), Some(value.as_slice()), "{q}");
+    assert!(rt; has_digest(&text, digest), "{q}");
     Ok(())
 }
 
-/// Leaves on both sides of the edge between two bottom subtrees, each with a node of its path.
-const AT_EDGE: [(u32, u32); 4] = [(1000, 33), (1023, 33), (1024, 32), (1100, 32)];
-
 /// A band across that edge against the whole tree.
-fn check_edge(rt: &(impl Abort + AllocGlobal + Threads + Sync), key: TreeKey) -> Result<(), Fail> {
-    let whole = WholeTree::build(rt, rt.alloc(), key)?;
+fn check_edge(
+    rt: &(impl Abort + AllocGlobal + Threads + Sync),
+    whole: &WholeTree,
+    key: TreeKey,
+) -> Result<(), Fail> {
     let tree = band(rt, key, 1000, 1100)?;
-    assert_eq!(rt; public_bytes(&tree), public_bytes(&whole));
-    for (q, r) in AT_EDGE {
-        check_path(rt, &whole, &tree, q, r)?;
+    assert_eq!(rt; public_bytes(&tree), public_bytes(whole));
+    for (q, r, digest) in AT_EDGE {
+        check_path(rt, whole, &tree, q, r, digest)?;
     }
     Ok(())
 }
 
+/// The last leaf, from a band that ends there.
+fn check_last_leaf(
+    rt: &(impl Abort + AllocGlobal + Threads + Sync),
+    whole: &WholeTree,
+    key: TreeKey,
+) -> Result<(), Fail> {
+    let tree = band(rt, key, 31744, 32767)?;
+    let text = check_band(rt, whole, &tree, 32767)?;
+    assert!(rt;
+        has_digest(
+            &text,
+            "0fe4729f00b875e3713b0cd9988833e3d23f6afb7d2aa8236cac00e70dc33d32"
+        )
+    );
+    assert!(rt; verify(&public_bytes(&tree), b"abc", &text));
+    Ok(())
+}
+
+/// A tree of 15/2, whole and in bands.
+fn check_tall_tree(
+    rt: &(impl Abort + AllocGlobal + Threads + Sync),
+    key: TreeKey,
+) -> Result<(), Fail> {
+    let whole = WholeTree::build(rt, rt.alloc(), key)?;
+    check_root(rt, &public_bytes(&whole))?;
+    check_edge(rt, &whole, key)?;
+    check_last_leaf(rt, &whole, key)
+}
+
 #[test]
-fn signs_across_two_subtrees(rt: HostRuntime) -> Result<(), Fail> {
-    check_edge(&rt, key_of(LmsType::H15, OtsType::W2))
+fn builds_a_tall_tree(rt: HostRuntime) -> Result<(), Fail> {
+    check_tall_tree(&rt, key_of(LmsType::H15, OtsType::W2))
 }
 
 #[test]

@@ -23,11 +23,11 @@ const KEYGEN_HELP: &str = "Makes a key from a seed
 Usage: lms_tool keygen --levels <LEVELS> --seed <HEX> --id <HEX> --state <FILE> --public <FILE>
 
 Options:
-      --levels <LEVELS>  Height/width of each level, top first, as 10/8,10/8: heights 5, 10, 15, widths 1, 2, 4, 8
+      --levels <LEVELS>  Height/width of each level, top first, as 10/8,10/8: heights 5, 10, 15, 60 at most in sum; widths 1, 2, 4, 8
       --seed <HEX>       64 hexadecimal digits, random and secret
       --id <HEX>         32 hexadecimal digits, random
       --state <FILE>     The key's state, a new file
-      --public <FILE>    Where the public key is written
+      --public <FILE>    Where the public key is written, 60 bytes
   -h, --help             Print help
 
 Example:
@@ -45,7 +45,10 @@ Options:
       --state <FILE>  The key's state
   -h, --help          Print help
 
-Prints the levels, how many indices are used (counter), how many there are (capacity) and are left.
+Example:
+  lms_tool info --state key.state
+
+Prints the levels, how many indices are used (counter), how many there are (capacity) and how many are left (left).
 ";
 
 const SIGN_HELP: &str = "Signs a message
@@ -56,13 +59,13 @@ Options:
       --state <FILE>    The key's state
       --random <HEX>    64 hexadecimal digits, fresh for each signature
       --message <FILE>  The message, any bytes
-      --out <FILE>      Where the signature is written
+      --out <FILE>      Where the signature is written, raw bytes
   -h, --help            Print help
 
 Example:
   lms_tool sign --state key.state --random \"$(openssl rand -hex 32)\" --message firmware.bin --out firmware.sig
 
-Prints the index, which is used for good before the signature is made. Never sign with an older copy of a state.
+Prints the index, which counts as used before the signature is made. Never sign with an older copy of a state.
 ";
 
 const VERIFY_HELP: &str = "Prints whether a signature is valid
@@ -70,10 +73,13 @@ const VERIFY_HELP: &str = "Prints whether a signature is valid
 Usage: lms_tool verify --public <FILE> --message <FILE> --signature <FILE>
 
 Options:
-      --public <FILE>     The public key
-      --message <FILE>    The message
-      --signature <FILE>  The signature
+      --public <FILE>     The public key, 60 bytes
+      --message <FILE>    The message, any bytes
+      --signature <FILE>  The signature, raw bytes
   -h, --help              Print help
+
+Example:
+  lms_tool verify --public key.pub --message firmware.bin --signature firmware.sig
 
 Ends with status 0 for `valid`, 1 for `invalid`, and another where a file can't be read.
 ";
