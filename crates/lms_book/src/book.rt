@@ -66,8 +66,8 @@ impl Lease {
     }
 }
 
-/// What was reserved since a store was opened, and the store. Contracts see the key, the counter that was read, the
-/// reservations, and what a stop leaves in the store.
+/// A store, and what was reserved of its key since it was opened. Contracts see the key, the counter that was read, the
+/// reservations, and what a crash would leave in the store.
 ///
 /// `key`, `base`, `history`, `counter`, `stored` and `knows` are those of its `Reservations`.
 #[derive(Drop)]
@@ -138,8 +138,8 @@ impl<S: StateStore> Book<S> {
         }
     }
 
-    /// What it has reserved. Its counter is within the key's capacity, and its leases are disjoint and below each counter
-    /// that a stop could leave stored.
+    /// What it has reserved. Its counter is within the key's capacity, and its leases are disjoint and below every counter
+    /// that could be found in the store after a crash.
     pub fn reservations(&self) -> &Reservations
         ensures all { result.now ≡ reservations_of self.now }
         ensures in_order { IsInOrder self.now }
@@ -190,8 +190,8 @@ impl<S: StateStore> Book<S> {
         lease.end()
     }
 
-    /// Ends the book and hands its store back unchanged. What the book reserved is one opening of the store, in the sense of
-    /// the law `leases_never_overlap`; that it began with what the store held is in the contracts of `open` and `reserve`.
+    /// Ends the book and hands its store back unchanged. What it reserved counts as one opening in the law
+    /// `leases_never_overlap`; the contracts of `open` and `reserve` say what that opening began with.
     pub fn close(self) -> S
         ensures store { S.seen result ≡ self.store }
         ensures opening { (held : Texts) × IsOpenedFrom held self }

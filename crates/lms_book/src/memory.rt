@@ -14,8 +14,8 @@ use std::mem;
 #[cfg(test)]
 mod tests;
 
-/// A store in memory. Contracts see the text, the texts that it held before each write, how many writes it has room
-/// for, how many calls failed, and which calls are to fail.
+/// A store in memory. Contracts see the bytes that it holds, those that it held before each write, how many writes it has
+/// room for, how many calls failed, and which calls are to fail.
 #[derive(Drop)]
 pub struct MemoryStore {
     past: Vec<Option<Text>>,
@@ -47,8 +47,8 @@ impl Model for MemoryStore {
 }
 
 impl MemoryStore {
-    /// A store with this text, of at most 256 bytes, or with none. All memory is taken here, for a record of `room`
-    /// writes; `OutOfMemory` where it is refused.
+    /// A store that holds these bytes, at most 256, or none. All memory is taken here, for a record of `room` writes;
+    /// `OutOfMemory` where it is refused.
     pub fn new(alloc: Global, text: Option<&[u8]>, room: usize) -> Result<Self, OutOfMemory>
         requires { MatchOption text (Unit {0}) (λ text. length text.now ≤ 256) }
         ensures fresh { IfOk result (IsFresh room) }
@@ -67,7 +67,7 @@ impl MemoryStore {
         })
     }
 
-    /// The text that it holds.
+    /// The bytes that it holds.
     pub fn text(&self) -> Option<&[u8]>
         ensures { MatchOption result (self.now.text ≡ None) (λ text. self.now.text ≡ Some text.now) }
     {
@@ -77,7 +77,8 @@ impl MemoryStore {
         }
     }
 
-    /// Plans that the k-th `replace` from now, 1 to 8, fails, and leaves this text. Plans for other calls stay.
+    /// Plans that the k-th `replace` from now, 1 to 8, fails and leaves the old bytes or the new ones, as `left` says.
+    /// Plans for other calls stay.
     pub fn fail_replace(&mut self, k: usize, left: Left)
         requires first { 1 ≤ k }
         requires at_most { k ≤ 8 }
@@ -86,8 +87,8 @@ impl MemoryStore {
         self.writes[k - 1] = Some(Plan { left, stops: false });
     }
 
-    /// Plans that the program stops in the k-th `replace` from now, 1 to 8: it fails, leaves this text, and every call
-    /// after it fails. Plans for other calls stay.
+    /// Plans a crash in the k-th `replace` from now, 1 to 8: it fails, leaves the old bytes or the new ones as `left` says,
+    /// and every call after it fails. Plans for other calls stay.
     pub fn stop_replace(&mut self, k: usize, left: Left)
         requires first { 1 ≤ k }
         requires at_most { k ≤ 8 }
@@ -105,7 +106,7 @@ impl MemoryStore {
         self.reads[k - 1] = true;
     }
 
-    /// The store as the program finds it when it starts again: its text and its room, with an empty record, nothing
+    /// The store as the program finds it when it starts again: its bytes and its room, with an empty record, nothing
     /// planned and no failure counted.
     pub fn restart(self) -> Self
         ensures text { result.text ≡ self.text }
@@ -186,7 +187,7 @@ impl StateStore for MemoryStore {
 
     ghost may_fail = { MayFail };
 
-    /// Fails where it is told to, where the program stopped, and while it holds no text.
+    /// Fails where it is told to, after a planned crash, and while it holds no bytes.
     fn read(&mut self, alloc: Global) -> Result<Vec<u8>, ReadFault>
         ensures reads { ReadsStore (MayFail self.old) (view_of self.old) result (view_of self.new) }
         ensures planned { Reads self.old result self.new }
@@ -202,8 +203,8 @@ impl StateStore for MemoryStore {
         copied.map_err(|_| ReadFault::OutOfMemory)
     }
 
-    /// Takes no memory. Fails where it is told to and where the program stopped; and, with the old text left, where its
-    /// record is full and at a text of over 256 bytes.
+    /// Takes no memory. Fails where it is told to and after a planned crash; and, with the old bytes left, where its record
+    /// is full or there are over 256 bytes.
     fn replace(&mut self, text: &[u8]) -> Result<(), StoreFault>
         ensures writes { WritesStore text.now (view_of self.old) result (view_of self.new) }
         ensures planned { Replaces self.old text.now result self.new }

@@ -15,7 +15,7 @@ pub enum OpenFault {
     /// What it holds is no image.
     #[error("bad state: {0}")]
     Image(ImageFault),
-    /// Memory for its text was refused.
+    /// Memory for its bytes was refused.
     #[error("out of memory")]
     OutOfMemory,
 }

@@ -1,4 +1,4 @@
-//! A store that keeps one text, and replaces it whole.
+//! A store that keeps one byte string, and replaces it whole.
 ghost use Rattle.lms_book.specs.Stops.{StoreView, ReadsStore, WritesStore};
 
 use std::alloc::Global;
@@ -10,12 +10,12 @@ pub enum ReadFault {
     /// The store failed.
     #[error("cannot read state")]
     Device,
-    /// Memory for the text was refused.
+    /// Memory for the bytes was refused.
     #[error("out of memory")]
     OutOfMemory,
 }
 
-/// A text was not stored for certain: the store may hold it, or what it held before.
+/// The bytes were not stored for certain: the store may hold them, or what it held before.
 #[derive(Clone, Copy, Debug, PartialEq, Eq, Error)]
 #[error("cannot write state")]
 pub struct StoreFault;
@@ -23,10 +23,10 @@ pub struct StoreFault;
 /// Keeps one byte string, a key's state, when the program ends or crashes. Contracts see which byte strings a crash could
 /// leave, now and at each moment before, and how many calls failed.
 pub trait StateStore: Send {
-    /// What a stop leaves, now and at each moment before, and how many calls failed.
+    /// The byte strings of which a crash would leave one, now and at each moment before, and how many calls failed.
     ghost seen: { Self → StoreView };
 
-    /// The device may fail at the next read.
+    /// Whether the next read may fail.
     ghost may_fail: { Self → Type 0 };
 
     /// The stored bytes, which are among those that a crash now could leave. `Device` where the store failed, which it

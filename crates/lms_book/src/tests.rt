@@ -76,26 +76,53 @@ fn reserved(book: &mut Book<MemoryStore>, n: u64) -> Result<(u64, u64), BookFaul
     Ok(range)
 }
 
-/// What a book says of its reservations: base, counter, stored.
-fn numbers(book: &Book<MemoryStore>) -> (u64, u64, u64) {
-    (book.base(), book.counter(), book.stored())
+/// Whether the book gives the indices from `start` on.
+fn gives(book: &mut Book<MemoryStore>, n: u64, start: u64) -> bool
+    requires some { 1 ≤ n }
+    requires at_most { n ≤ 1024 }
+{
+    reserved(book, n) == Ok((start, n))
+}
+
+/// Whether the book refuses to give n indices, since it has fewer.
+fn refuses(book: &mut Book<MemoryStore>, n: u64, left: u64) -> bool
+    requires some { 1 ≤ n }
+    requires at_most { n ≤ 1024 }
+{
+    reserved(book, n) == Err(BookFault::Exhausted { left })
+}
+
+/// Whether the write of n indices from `start` on fails, and burns them.
+fn burns(book: &mut Book<MemoryStore>, n: u64, start: u64) -> bool
+    requires some { 1 ≤ n }
+    requires at_most { n ≤ 1024 }
+{
+    reserved(book, n) == Err(BookFault::Store { start, len: n })
+}
+
+/// Whether the book says these numbers of its reservations.
+fn counts(book: &Book<MemoryStore>, base: u64, counter: u64, stored: u64) -> bool {
+    book.base() == base && book.counter() == counter && book.stored() == stored
+}
+
+/// Whether the book's store holds the image of this key with all of its indices used.
+fn leaves_used_up(book: Book<MemoryStore>, key: HssKey) -> bool {
+    let last = encode_image(&Image {
+        key,
+        counter: key.capacity(),
+    });
+    book.close().text() == Some(last.as_slice())
 }
 
 #[test]
 fn ranges_follow_each_other(rt: HostRuntime) -> Result<(), Fail> {
     let mut book = opened(rt.alloc(), small_store(rt.alloc(), 0)?)?;
-    assert_eq!(rt; reserved(&mut book, 10), Ok((0, 10)));
-    assert_eq!(rt; reserved(&mut book, 20), Ok((10, 20)));
-    assert_eq!(rt;
-        reserved(&mut book, 3),
-        Err(BookFault::Exhausted { left: 2 })
-    );
-    assert_eq!(rt; reserved(&mut book, 2), Ok((30, 2)));
-    assert_eq!(rt;
-        reserved(&mut book, 1),
-        Err(BookFault::Exhausted { left: 0 })
-    );
-    assert_eq!(rt; numbers(&book), (0, 32, 32));
+    assert!(rt; gives(&mut book, 10, 0));
+    assert!(rt; gives(&mut book, 20, 10));
+    assert!(rt; refuses(&mut book, 3, 2));
+    assert!(rt; gives(&mut book, 2, 30));
+    assert!(rt; refuses(&mut book, 1, 0));
+    assert!(rt; counts(&book, 0, 32, 32));
     let history = [
         Entry::Given { len: 10 },
         Entry::Given { len: 20 },
@@ -104,11 +131,7 @@ fn ranges_follow_each_other(rt: HostRuntime) -> Result<(), Fail> {
     assert_eq!(rt; book.history(), history.as_slice());
     let key = key_of(&LEVELS, 0x11)?;
     assert!(rt; book.key() == key);
-    let last = encode_image(&Image {
-        key,
-        counter: 32.min(key.capacity()),
-    });
-    assert_eq!(rt; book.close().text(), Some(last.as_slice()));
+    assert!(rt; leaves_used_up(book, key));
     Ok(())
 }
 
@@ -119,9 +142,9 @@ fn gives_leases_of_each_length(rt: HostRuntime) -> Result<(), Fail> {
     let mut book = opened(rt.alloc(), store_at(rt.alloc(), key, 0)?)?;
     for n in 1..1025 {
         let start = book.counter();
-        assert_eq!(rt; reserved(&mut book, n), Ok((start, n)));
+        assert!(rt; gives(&mut book, n, start));
     }
-    assert_eq!(rt; numbers(&book), (0, 524800, 524800));
+    assert!(rt; counts(&book, 0, 524800, 524800));
     assert_eq!(rt; book.history().len(), 1024);
     Ok(())
 }
@@ -129,11 +152,8 @@ fn gives_leases_of_each_length(rt: HostRuntime) -> Result<(), Fail> {
 #[test]
 fn an_exhausted_key_opens(rt: HostRuntime) -> Result<(), Fail> {
     let mut book = opened(rt.alloc(), small_store(rt.alloc(), 32)?)?;
-    assert_eq!(rt; numbers(&book), (32, 32, 32));
-    assert_eq!(rt;
-        reserved(&mut book, 1),
-        Err(BookFault::Exhausted { left: 0 })
-    );
+    assert!(rt; counts(&book, 32, 32, 32));
+    assert!(rt; refuses(&mut book, 1, 0));
     Ok(())
 }
 
@@ -145,7 +165,7 @@ fn a_book_works_after_refused_memory(rt: HostRuntime) -> Result<(), Fail> {
     let lease = match book.reserve(3) {
         Err(fault) => {
             assert_eq!(rt; fault, BookFault::OutOfMemory);
-            assert_eq!(rt; numbers(&book), (5, 5, 5));
+            assert!(rt; counts(&book, 5, 5, 5));
             assert!(rt; book.history().is_empty());
             book.reserve(3)
         }
@@ -154,7 +174,7 @@ fn a_book_works_after_refused_memory(rt: HostRuntime) -> Result<(), Fail> {
     let lease = lease.ok().ok_or("a second try reserves")?;
     assert_eq!(rt; (lease.start(), lease.len()), (5, 3));
     book.give_back(lease);
-    assert_eq!(rt; numbers(&book), (5, 8, 8));
+    assert!(rt; counts(&book, 5, 8, 8));
     Ok(())
 }
 
@@ -164,12 +184,11 @@ fn a_failed_write_burns(rt: HostRuntime) -> Result<(), Fail> {
         let mut store = small_store(rt.alloc(), 0)?;
         store.fail_replace(2, left);
         let mut book = opened(rt.alloc(), store)?;
-        assert_eq!(rt; reserved(&mut book, 10), Ok((0, 10)));
-        let burnt = BookFault::Store { start: 10, len: 5 };
-        assert_eq!(rt; reserved(&mut book, 5), Err(burnt));
-        assert_eq!(rt; numbers(&book), (0, 15, 10));
-        assert_eq!(rt; reserved(&mut book, 5), Ok((15, 5)));
-        assert_eq!(rt; numbers(&book), (0, 20, 20));
+        assert!(rt; gives(&mut book, 10, 0));
+        assert!(rt; burns(&mut book, 5, 10));
+        assert!(rt; counts(&book, 0, 15, 10));
+        assert!(rt; gives(&mut book, 5, 15));
+        assert!(rt; counts(&book, 0, 20, 20));
         let history = [
             Entry::Given { len: 10 },
             Entry::Burnt { len: 5 },
@@ -189,7 +208,7 @@ fn a_failed_read_hands_the_store_back(rt: HostRuntime) -> Result<(), Fail> {
     };
     assert_eq!(rt; fault, OpenFault::Store);
     let book = opened(rt.alloc(), store)?;
-    assert_eq!(rt; numbers(&book), (0, 0, 0));
+    assert!(rt; counts(&book, 0, 0, 0));
     Ok(())
 }
 
@@ -216,29 +235,21 @@ fn a_tall_key_is_used_up(rt: HostRuntime) -> Result<(), Fail> {
     let key = key_of(&[(LmsType::H15, OtsType::W8); 4], 0x11)?;
     let store = store_at(rt.alloc(), key, 1152921504606846975)?;
     let mut book = opened(rt.alloc(), store)?;
-    assert_eq!(rt;
-        reserved(&mut book, 2),
-        Err(BookFault::Exhausted { left: 1 })
-    );
-    assert_eq!(rt; reserved(&mut book, 1), Ok((1152921504606846975, 1)));
-    assert_eq!(rt;
-        reserved(&mut book, 1),
-        Err(BookFault::Exhausted { left: 0 })
-    );
+    assert!(rt; refuses(&mut book, 2, 1));
+    assert!(rt; gives(&mut book, 1, 1152921504606846975));
+    assert!(rt; refuses(&mut book, 1, 0));
     let mut book = reopened(rt.alloc(), book)?;
-    assert_eq!(rt;
-        reserved(&mut book, 1),
-        Err(BookFault::Exhausted { left: 0 })
-    );
+    assert!(rt; refuses(&mut book, 1, 0));
     Ok(())
 }
 
-/// Whether each of two books knows a lease of the first.
-fn known(
+/// Whether a book knows a lease of its own, and another one that lease just where `by_other` says so.
+fn is_known(
     book: &mut Book<MemoryStore>,
     other: &Book<MemoryStore>,
     n: u64,
-) -> Result<(bool, bool), BookFault>
+    by_other: bool,
+) -> Result<bool, BookFault>
     requires some { 1 ≤ n }
     requires at_most { n ≤ 1024 }
 {
@@ -246,23 +257,30 @@ fn known(
         Err(BookFault::OutOfMemory) => book.reserve(n)?,
         answer => answer?,
     };
-    let known = (book.knows(&lease), other.knows(&lease));
+    let is_known = book.knows(&lease) && other.knows(&lease) == by_other;
     lease.end();
-    Ok(known)
+    Ok(is_known)
 }
 
 #[test]
 fn a_book_knows_its_leases(rt: HostRuntime) -> Result<(), Fail> {
     let mut book = opened(rt.alloc(), small_store(rt.alloc(), 0)?)?;
     let mut equal = opened(rt.alloc(), small_store(rt.alloc(), 0)?)?;
+    assert!(rt; is_known(&mut book, &equal, 4, false)?);
+    assert!(rt; is_known(&mut book, &equal, 3, false)?);
+    assert!(rt; gives(&mut equal, 4, 0));
+    assert!(rt; is_known(&mut equal, &book, 3, true)?);
+    Ok(())
+}
+
+/// A lease over the same indices of another key.
+#[test]
+fn a_book_knows_no_other_keys_leases(rt: HostRuntime) -> Result<(), Fail> {
+    let mut book = opened(rt.alloc(), small_store(rt.alloc(), 0)?)?;
     let other = store_at(rt.alloc(), key_of(&LEVELS, 0x12)?, 0)?;
     let mut other = opened(rt.alloc(), other)?;
-    assert_eq!(rt; known(&mut book, &equal, 4), Ok((true, false)));
-    assert_eq!(rt; known(&mut book, &equal, 3), Ok((true, false)));
-    assert_eq!(rt; reserved(&mut equal, 4), Ok((0, 4)));
-    assert_eq!(rt; known(&mut equal, &book, 3), Ok((true, true)));
-    assert_eq!(rt; reserved(&mut other, 4), Ok((0, 4)));
-    assert_eq!(rt; known(&mut other, &book, 3), Ok((true, false)));
+    assert!(rt; gives(&mut book, 4, 0));
+    assert!(rt; is_known(&mut other, &book, 4, false)?);
     Ok(())
 }
 

@@ -33,9 +33,9 @@ pub enum Fault {
     BadRandom,
     /// A new key's state is there already.
     StateExists,
-    /// Another program has the state's lock.
+    /// The state's lock is not available: another program has it, or its file can't be made.
     StateInUse,
-    /// The state can't be read.
+    /// The state is not there, or can't be read.
     ReadState,
     /// The state is no image.
     BadState(ImageFault),
@@ -49,7 +49,7 @@ pub enum Fault {
     OutOfMemory,
     /// Memory ran out after a reservation: `count` indices are used, and signed nothing.
     OutOfMemoryBurnt { count: u64 },
-    /// A file, or the program's arguments, can't be read.
+    /// A file other than the state, or the program's arguments, can't be read, or `/dev/null` can't be opened.
     Input,
     /// A file or standard output can't be written.
     Output,

@@ -115,7 +115,7 @@ fn store_key<W: World>(alloc: Global, world: &mut W, key: HssKey, state: &str) -
     stored.map_err(|_| Fault::WriteState)
 }
 
-/// Stores a key's image with no index used. A stop at any moment leaves what it could leave before, or that image.
+/// Stores a key's image with no index used. A crash at any moment leaves what it could leave before, or that image.
 fn store_unused<S: StateStore>(store: &mut S, key: HssKey) -> Result<(), StoreFault>
     ensures { WritesStore (image_of key 0) (S.seen store.old) result (S.seen store.new) }
 {

@@ -10,7 +10,7 @@ use std::{fmt, io};
 /// The most bytes of a line. The longest, a burnt range between two numbers of 64 bits, has 78.
 const MOST_BYTES: usize = 128;
 
-/// Prints a text and the end of its line in one write, so that a stop leaves no half of it, and passes it on.
+/// Prints a line, with its end, in one write, so that a crash leaves no half of it, and flushes it.
 ///
 /// An error is the writer's own, or `InvalidInput` where the line has over 128 bytes, and then nothing is printed. It
 /// takes no memory, so that a line can be printed where memory ran out.

@@ -29,7 +29,7 @@ impl Verdict {
     }
 }
 
-/// The verdict on a signature of the message under the public key. Any lengths will do.
+/// The verdict on a signature of the message under the public key. The three may have any length.
 pub fn judge(public: &[u8], message: &[u8], signature: &[u8]) -> Verdict
     ensures { IsRightFor result public.now message.now signature.now }
 {

@@ -18,7 +18,7 @@ use thiserror::Error;
 /// Why a file can't be read or written.
 #[derive(Clone, Copy, Debug, PartialEq, Eq, Error)]
 pub enum WorldFault {
-    /// There is no such file, or its device failed.
+    /// There is no such file, or it can't be read or written.
     #[error("the file can't be reached")]
     Device,
     /// Memory ran out.
@@ -47,7 +47,8 @@ pub trait World {
 
     /// Makes these the bytes of a file, which need not be there yet. No other file is changed, and no state.
     ///
-    /// `Device` where it can't be written, `OutOfMemory` where memory for that was refused.
+    /// `Device` where it can't be written, `OutOfMemory` where memory for that was refused. After an error the file may be
+    /// missing or cut short.
     fn write(&mut self, name: &str, bytes: &[u8]) -> Result<(), WorldFault>
         ensures given { OnOk result ((known self.new).gives name.now bytes.now) }
         ensures others { SameFilesBut name.now (known self.old) (known self.new) }

@@ -8,8 +8,8 @@ use std::alloc::Global;
 use std::marker::Model;
 use std::mem;
 
-/// One text in memory, and those before it, of which contracts say what a stop could have left. A real store keeps its text
-/// where it outlives the program.
+/// One byte string in memory, and those before it, so that contracts can say what a crash could have left. A real store keeps
+/// its bytes where they outlive the program.
 #[derive(Drop)]
 pub(crate) struct OneText {
     alloc: Global,

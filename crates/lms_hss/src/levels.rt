@@ -14,7 +14,7 @@ pub(crate) const MOST_LEVELS: usize = 8;
 /// The most that the heights of a signer's levels sum to, so that an index fits 64 bits.
 const TALLEST: u32 = 60;
 
-/// Places for the sets of eight levels, with none of them filled: each holds what stands in a `Levels` past its last level.
+/// Eight pairs of sets, to be filled with a list of levels: each is the pair that a `Levels` keeps in its unused places.
 pub const NO_SETS: [(LmsType, OtsType); MOST_LEVELS] = [(LmsType::H5, OtsType::W1); MOST_LEVELS];
 
 /// Why a list of levels was refused.

@@ -1,4 +1,4 @@
-//! The state image: the text that a store keeps of a key and of how many of its indices are used.
+//! The state image: the bytes in which a store keeps a key and how many of its indices are used.
 ghost use Rattle.std.specs.Prelude.{◌≡◌, ◌+◌, ◌*◌, ◌≤◌, ◌<◌, ◌^◌, ◌≢◌, ◌++◌, length, map, take, None, Some, IfOk, IfErr, IfSome, IfNone, MatchResult, IsFalse};
 ghost use Rattle.std.specs.List.{list_all};
 ghost use Rattle.sha2.specs.Sha256.{sha256};
@@ -34,7 +34,7 @@ pub struct Image {
     pub counter: u64,
 }
 
-/// What is wrong with a text that should be an image: the first of these, in this order.
+/// What is wrong with bytes that should be an image: the first of these, in this order.
 #[derive(Clone, Copy, Debug, PartialEq, Eq)]
 pub enum ImageFault {
     /// There are fewer than 12 bytes.

@@ -1,7 +1,7 @@
 //! Laws over images, as contracts. No call of a product needs these functions.
 ghost use Rattle.lms_image.specs.Laws.{FaultlessAreImages, ImagesAreFaultless, ImagesAreToldApart};
 
-/// A text has no fault exactly where it is the image of some key and some counter.
+/// Bytes have no fault exactly where they are the image of some key and some counter.
 pub fn faultless_texts_are_images()
     ensures { FaultlessAreImages }
 {}

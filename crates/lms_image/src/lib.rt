@@ -1,4 +1,4 @@
-//! The state image: the text that a store keeps of a key and of how many of its indices are used.
+//! The state image: the bytes in which a store keeps a key and how many of its indices are used.
 #![tactic(auto)]
 
 mod bytes;

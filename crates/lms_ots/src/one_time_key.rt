@@ -40,7 +40,8 @@ pub fn secret(seed: &[u8; 32], id: OtsId, i: u16) -> [u8; 32]
     ChainHashes::new(id, i).value_at(0, seed)
 }
 
-/// Takes the value of chain i from digit `from` to digit `to`, by the steps from .. to - 1 (RFC 8554, 4.3).
+/// Takes the value of chain i from digit `from` to digit `to`, by the steps from .. to - 1 (RFC 8554, 4.3). `from` is at most
+/// `to`, and `to` at most 255.
 pub fn chain(id: OtsId, i: u16, from: u16, to: u16, x: &[u8; 32]) -> [u8; 32]
     requires order { from ≤ to }
     requires limit { to ≤ 255 }

@@ -2,7 +2,7 @@
 use std::alloc::{AllocError, AllocFailed};
 use thiserror::Error;
 
-/// A request for memory was refused. What each call that can answer so leaves behind is said at that call.
+/// A request for memory was refused. Each call that may answer it says what is left then.
 #[derive(Clone, Copy, Debug, PartialEq, Eq, Error)]
 #[error("out of memory")]
 pub struct OutOfMemory;

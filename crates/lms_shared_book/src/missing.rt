@@ -4,7 +4,7 @@ ghost use Rattle.lms_shared_book.specs.Missing.{text_of};
 
 use std::{error, fmt};
 
-/// Not all desks of a shared book came to be settled.
+/// Fewer desks were handed to `settle` than `share` gave out.
 #[derive(Clone, Copy, Debug, PartialEq, Eq)]
 pub struct MissingDesks {
     /// How many came.

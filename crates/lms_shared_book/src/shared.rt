@@ -19,8 +19,8 @@ use std::sync::{Mutex, Wait};
 mod tests;
 
 /// A book behind a lock. Whoever gets the lock finds the counter within the key's capacity, and the leases disjoint and
-/// below each counter that a stop could leave stored. The three ledgers are those of the entries, of the indices given
-/// and of the indices burnt. Contracts see the key and the number of desks.
+/// below every counter that could be found in the store after a crash. Three ledgers count the entries, the indices given
+/// and the indices burnt. Contracts see the key and the number of desks.
 #[derive(Drop)]
 pub struct SharedBook<S: StateStore, E: Tally, G: Tally, B: Tally> {
     counted: Mutex<CountedBook<S, E, G, B>>,

@@ -91,9 +91,9 @@ impl<'a, R: Files> FileStore<'a, R> {
         Ok(text)
     }
 
-    /// Writes the text beside the state, flushes it, and puts it in the state's place. A stop before the rename leaves
-    /// the old state; one after it, until the folder is flushed, the old or the new one. The folder is opened first, so
-    /// that one that can't be flushed changes nothing.
+    /// Writes the bytes beside the state, flushes them, and puts them in the state's place. A crash before the rename leaves
+    /// the old state; one after it, until the folder is flushed, the old or the new one. The folder is opened first, so that
+    /// one that can't be opened changes nothing.
     fn put(&self, text: &[u8]) -> io::Result<()> {
         self.reach()?;
         let folder = fs::open(self.files, self.folder.as_str())?;
@@ -102,8 +102,8 @@ impl<'a, R: Files> FileStore<'a, R> {
         folder.sync_all()
     }
 
-    /// Writes the text beside the state and flushes it. The file is a new one, which nobody else may read, also where an
-    /// earlier stop left one there.
+    /// Writes the bytes beside the state and flushes them. The file is a new one, which nobody else may read, even where an
+    /// earlier crash left one there.
     fn write_draft(&self, text: &[u8]) -> io::Result<()> {
         match fs::remove_file(self.files, self.draft.as_str()) {
             Err(error) if error.kind() != ErrorKind::NotFound => return Err(error),
@@ -118,7 +118,7 @@ impl<'a, R: Files> FileStore<'a, R> {
         draft.sync_all()
     }
 
-    /// Records a write, before it is made, as one that is not stored for certain. An error where its text is over 256
+    /// Records a write, before it is made, as one that is not stored for certain. An error where there are over 256
     /// bytes, or the record is full and memory for more is refused.
     fn begin(&mut self, text: &[u8]) -> Result<(), StoreFault>
         ensures short { OnOk result (length text.now ≤ most_bytes) }

@@ -25,7 +25,7 @@ impl Model for Attempt {
 }
 
 impl Attempt {
-    /// A write of this text that is not stored for certain. `None` where the text is over 256 bytes.
+    /// A write of these bytes that is not stored for certain. `None` where there are over 256.
     pub(crate) fn new(text: &[u8]) -> Option<Self>
         ensures made { IfSome result (λ attempt. attempt ≡ record { text = text.now; stored = false }) }
         ensures short { IfSome result (λ _. length text.now ≤ most_bytes) }
@@ -60,8 +60,8 @@ impl Attempt {
     }
 }
 
-/// Whether a stop after these writes, the newest first, could leave this text. The first that has it or is stored for
-/// certain decides.
+/// Whether a crash after these writes, the newest first, could leave these bytes. The first write that has them or is
+/// stored for certain decides.
 pub(crate) fn leaves(writes: &VecDeque<Attempt>, text: &[u8]) -> bool
     ensures { IsTrue result ↔ Leaves writes.now.items text.now }
 {

@@ -15,13 +15,13 @@ use std::convert::AsStr;
 pub use types::{Command, CommandFault};
 
 const LEVELS_HELP: &str =
-    "Height/width of each level, top first, as 10/8,10/8: heights 5, 10, 15, 60 at most in sum; widths 1, 2, 4, 8";
+    "Height/width of each level, top first, as 10/8,10/8: 1 to 8 levels; heights 5, 10 or 15, together at most 60; widths 1, 2, 4 or 8";
 
 const KEYGEN_NOTE: &str = "Example:
   lms_tool keygen --levels 10/8,10/8 --seed \"$(openssl rand -hex 32)\" --id \"$(openssl rand -hex 16)\" \\
       --state key.state --public key.pub
 
-The same seed and identifier make the same key, with its indices counted from 0 again: never use them twice.";
+Never use a seed and identifier twice, whatever the levels: the same one-time keys would sign again, from index 0.";
 
 const INFO_NOTE: &str = "Example:
   lms_tool info --state key.state
@@ -92,7 +92,7 @@ fn keygen_application<'a>(alloc: Global) -> Result<clap::Command<'a>, AllocError
             alloc,
             "public",
             "FILE",
-            "Where the public key is written, 60 bytes",
+            "Where the public key is written, 60 bytes, in place of any older file",
         ))
 }
 
@@ -118,14 +118,14 @@ fn sign_application<'a>(alloc: Global) -> Result<clap::Command<'a>, AllocError>
             alloc,
             "random",
             "HEX",
-            "64 hexadecimal digits, fresh for each signature",
+            "64 hexadecimal digits, random, fresh for each signature",
         ))?
         .arg(option(alloc, "message", "FILE", "The message, any bytes"))?
         .arg(option(
             alloc,
             "out",
             "FILE",
-            "Where the signature is written, raw bytes",
+            "Where the signature is written, raw bytes, in place of any older file",
         ))
 }
 

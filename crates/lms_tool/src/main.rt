@@ -38,7 +38,7 @@ fn main(rt: HostRuntime) -> ExitCode {
     ExitCode::from(status)
 }
 
-/// The program's words. `Input` where one is no text, `OutOfMemory` where memory ran out.
+/// The program's arguments. `Input` where one is no UTF-8 text, `OutOfMemory` where memory ran out.
 fn words<R: Env + AllocGlobal>(rt: &R) -> Result<Vec<String>, Fault> {
     match env::args(rt) {
         Ok(words) => words.collect(rt.alloc()).map_err(|_| Fault::OutOfMemory),

@@ -1,4 +1,4 @@
-//! The whole program, over its words, its files and its streams.
+//! The whole program, over its arguments, its files and its streams.
 ghost use Rattle.std.specs.Prelude.{◌≡◌, ◌≢◌, ◌⊎◌, ◌<◌, ◌≤◌, ℕ, List, IfErr, IfOk, MatchResult, OnOk, map};
 ghost use Rattle.std.specs.Io.KnownBytes.{Appends};
 ghost use Rattle.lms_commands.specs.Faults.{code_of, status_of};
@@ -56,7 +56,7 @@ pub fn report<E: Write>(fault: Fault, errors: &mut E) -> u8
     fault.status().code()
 }
 
-/// Does what the words ask, and prints all but a fault.
+/// Does what the arguments ask, and prints all but a fault.
 fn answer<S: AsStr, W: World, O: Write, E: Write>(
     rt: &(impl Threads + Sync),
     alloc: Global,

@@ -18,7 +18,7 @@ pub struct TreeKey {
 }
 
 impl TreeKey {
-    /// The value of leaf q, which is node 2^h + q (RFC 8554, 5.3).
+    /// The value of leaf q, below 2^h, which is node 2^h + q (RFC 8554, 5.3).
     pub fn leaf(&self, q: u32) -> [u8; 32]
         requires { q < 2 ^ (tree_of self.now).lms.h }
         ensures { result ≡ node (tree_of self.now) (2 ^ (tree_of self.now).lms.h + q) }
@@ -27,7 +27,7 @@ impl TreeKey {
         leaf_hash(&self.i, leaf_count(self.lms) + q, &ots_public)
     }
 
-    /// The value of node r (RFC 8554, 5.3). All leaves below it are worked out, and at any time the nodes of one path at
+    /// The value of node r, from 1 to 2^(h+1) - 1 (RFC 8554, 5.3). All leaves below it are worked out, and at any time the nodes of one path at
     /// most are held.
     pub fn subtree_root(&self, r: u32) -> [u8; 32]
         requires some { 1 ≤ r }

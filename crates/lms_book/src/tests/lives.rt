@@ -1,6 +1,6 @@
 ghost use Rattle.std.specs.Prelude.{◌≤◌};
 
-use super::{numbers, opened, reopened, reserved, small_store};
+use super::{burns, counts, gives, opened, refuses, reopened, reserved, small_store};
 use crate::{BookFault, Left};
 use std::alloc::Global;
 use std::test::Fail;
@@ -11,19 +11,14 @@ fn a_life_of_failed_writes(rt: HostRuntime) -> Result<(), Fail> {
     store.fail_replace(3, Left::Old);
     store.fail_replace(2, Left::New);
     let mut book = opened(rt.alloc(), store)?;
-    assert_eq!(rt; reserved(&mut book, 4), Ok((0, 4)));
-    let burnt = BookFault::Store { start: 4, len: 4 };
-    assert_eq!(rt; reserved(&mut book, 4), Err(burnt));
-    let burnt = BookFault::Store { start: 8, len: 4 };
-    assert_eq!(rt; reserved(&mut book, 4), Err(burnt));
-    assert_eq!(rt; numbers(&book), (0, 12, 4));
+    assert!(rt; gives(&mut book, 4, 0));
+    assert!(rt; burns(&mut book, 4, 4));
+    assert!(rt; burns(&mut book, 4, 8));
+    assert!(rt; counts(&book, 0, 12, 4));
     let mut book = reopened(rt.alloc(), book)?;
-    assert_eq!(rt; numbers(&book), (8, 8, 8));
-    assert_eq!(rt; reserved(&mut book, 24), Ok((8, 24)));
-    assert_eq!(rt;
-        reserved(&mut book, 1),
-        Err(BookFault::Exhausted { left: 0 })
-    );
+    assert!(rt; counts(&book, 8, 8, 8));
+    assert!(rt; gives(&mut book, 24, 8));
+    assert!(rt; refuses(&mut book, 1, 0));
     Ok(())
 }
 
@@ -33,14 +28,12 @@ fn lives_with_a_stop_in_a_write(rt: HostRuntime) -> Result<(), Fail> {
         let mut store = small_store(rt.alloc(), 0)?;
         store.stop_replace(2, left);
         let mut book = opened(rt.alloc(), store)?;
-        assert_eq!(rt; reserved(&mut book, 10), Ok((0, 10)));
-        let burnt = BookFault::Store { start: 10, len: 5 };
-        assert_eq!(rt; reserved(&mut book, 5), Err(burnt));
-        let burnt = BookFault::Store { start: 15, len: 2 };
-        assert_eq!(rt; reserved(&mut book, 2), Err(burnt));
+        assert!(rt; gives(&mut book, 10, 0));
+        assert!(rt; burns(&mut book, 5, 10));
+        assert!(rt; burns(&mut book, 2, 15));
         let mut book = reopened(rt.alloc(), book)?;
-        assert_eq!(rt; numbers(&book), (base, base, base));
-        assert_eq!(rt; reserved(&mut book, 1), Ok((base, 1)));
+        assert!(rt; counts(&book, base, base, base));
+        assert!(rt; gives(&mut book, 1, base));
     }
     Ok(())
 }

@@ -1,4 +1,4 @@
-//! What the words may ask for.
+//! What the arguments may ask for.
 
 use std::alloc::AllocError;
 

@@ -23,18 +23,18 @@ const KEYGEN_HELP: &str = "Makes a key from a seed
 Usage: lms_tool keygen --levels <LEVELS> --seed <HEX> --id <HEX> --state <FILE> --public <FILE>
 
 Options:
-      --levels <LEVELS>  Height/width of each level, top first, as 10/8,10/8: heights 5, 10, 15, 60 at most in sum; widths 1, 2, 4, 8
+      --levels <LEVELS>  Height/width of each level, top first, as 10/8,10/8: 1 to 8 levels; heights 5, 10 or 15, together at most 60; widths 1, 2, 4 or 8
       --seed <HEX>       64 hexadecimal digits, random and secret
       --id <HEX>         32 hexadecimal digits, random
       --state <FILE>     The key's state, a new file
-      --public <FILE>    Where the public key is written, 60 bytes
+      --public <FILE>    Where the public key is written, 60 bytes, in place of any older file
   -h, --help             Print help
 
 Example:
   lms_tool keygen --levels 10/8,10/8 --seed \"$(openssl rand -hex 32)\" --id \"$(openssl rand -hex 16)\" \\
       --state key.state --public key.pub
 
-The same seed and identifier make the same key, with its indices counted from 0 again: never use them twice.
+Never use a seed and identifier twice, whatever the levels: the same one-time keys would sign again, from index 0.
 ";
 
 const INFO_HELP: &str = "Describes a key
@@ -57,9 +57,9 @@ Usage: lms_tool sign --state <FILE> --random <HEX> --message <FILE> --out <FILE>
 
 Options:
       --state <FILE>    The key's state
-      --random <HEX>    64 hexadecimal digits, fresh for each signature
+      --random <HEX>    64 hexadecimal digits, random, fresh for each signature
       --message <FILE>  The message, any bytes
-      --out <FILE>      Where the signature is written, raw bytes
+      --out <FILE>      Where the signature is written, raw bytes, in place of any older file
   -h, --help            Print help
 
 Example:
