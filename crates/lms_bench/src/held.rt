@@ -18,7 +18,7 @@ pub struct Held {
 }
 
 impl Held {
-    /// As it is.
+    /// With trees that are bands, as a forest has them.
     pub fn with_bands(rt: &(impl Threads + Sync), alloc: Global) -> Result<Self> {
         let top = kept(rt, alloc, LmsType::H15)?;
         let bottom = kept(rt, alloc, LmsType::H10)?;
@@ -44,7 +44,7 @@ impl Held {
     }
 }
 
-/// The nodes that serve the first leaf of a tree: for a height of 10 they serve all leaves.
+/// How many nodes a band tree holds that serves the first leaf. For a height of 10 they are those for all leaves.
 fn kept(rt: &(impl Threads + Sync), alloc: Global, lms: LmsType) -> Result<usize>
     ensures { IfOk result (λ nodes. nodes < 100000) }
 {

@@ -1,5 +1,5 @@
 //! The private key of HSS, and what its indices go through.
-ghost use Rattle.std.specs.Prelude.{ℕ, ◌≡◌, ◌↔◌, ◌+◌, ◌-◌, ◌/◌, ◌%◌, ◌^◌, ◌<◌, ◌≤◌, ◌++◌, length, map, drop, replicate, IfOk, IsTrue};
+ghost use Rattle.std.specs.Prelude.{ℕ, ◌≡◌, ◌↔◌, ◌+◌, ◌-◌, ◌*◌, ◌/◌, ◌%◌, ◌^◌, ◌<◌, ◌≤◌, ◌++◌, length, map, drop, min, replicate, IfOk, IsTrue};
 ghost use Rattle.lms_spec.specs.Bytes.{below, u32str};
 ghost use Rattle.lms_spec.specs.Hss.{height_of, hss_signature_length, hss_public_key, capacity_of, leaf_at, tree_at, level};
 ghost use Rattle.lms_tree.specs.TreeKey.{tree_of};
@@ -107,14 +107,17 @@ impl HssKey {
         (self.tree_number(g, k + 1) % (1 << lms.height())) as u32
     }
 
-    /// The leaves of tree `number` of level k that the indices from `start` to `last` go through. Some of these go through the
-    /// tree.
+    /// The leaves of tree `number` of level k that the indices from `start` to `last` go through, the first and the last of them.
+    /// At least one of these indices goes through that tree.
     pub(crate) fn leaves(&self, start: u64, last: u64, k: usize, number: u64) -> Leaves
         requires there { k < length self.now.levels }
         requires order { start ≤ last }
         requires at_most { last - start < 1024 }
         requires from { number_of (hss_key_of self.now) start k ≤ number }
         requires to { number ≤ number_of (hss_key_of self.now) last k }
+        ensures first { result.first ≡ number_of (hss_key_of self.now) start (k + 1) - number * 2 ^ (level (hss_key_of self.now) k).lms.h }
+        ensures last { result.last ≡ min (number_of (hss_key_of self.now) last (k + 1) - number * 2 ^ (level (hss_key_of self.now) k).lms.h)
+            (2 ^ (level (hss_key_of self.now) k).lms.h - 1) }
         ensures leaves { AreLeaves (level (hss_key_of self.now) k).lms.h result }
         ensures from { (g : ℕ) → start ≤ g → number_of (hss_key_of self.now) g k ≡ number → result.first ≤ leaf_at (hss_key_of self.now) g k }
         ensures to { (g : ℕ) → g ≤ last → number_of (hss_key_of self.now) g k ≡ number → leaf_at (hss_key_of self.now) g k ≤ result.last }

@@ -47,8 +47,8 @@ impl LevelTrees {
         &self.trees[(number - self.first) as usize]
     }
 
-    /// The trees of the next level that the indices from `start` to `last` go through, each signed by the one above it. Each
-    /// serves the leaves that these indices go through. These are the trees of level k.
+    /// From the trees of level k, those of level k + 1 that the indices from `start` to `last` go through. Each is signed by the
+    /// one above it, and serves the leaves that these indices go through.
     pub(crate) fn below(
         &self,
         rt: &(impl Threads + Sync),

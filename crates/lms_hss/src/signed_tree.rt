@@ -10,6 +10,7 @@ ghost use Rattle.lms_hss.specs.Levels.{level_of};
 
 use crate::child_key::{child_key, randomizer};
 use crate::key::{HssKey, Leaves};
+use crate::verification::LMS_KEY_LEN;
 use lms_params::{LmsType, OtsType, OutOfMemory, lms_sig_len};
 use lms_tree::{BandTree, NodeSource, public_bytes, sign_into};
 use std::alloc::Global;
@@ -41,7 +42,8 @@ impl SignedTree {
         Ok(SignedTree { tree, head })
     }
 
-    /// The tree of these sets below leaf q, signed by that leaf, which is served. It serves these leaves.
+    /// The tree of these sets below leaf q, which signs its public key and must be among the leaves served. The new tree serves
+    /// `leaves`. All memory is asked for before it is worked out.
     pub(crate) fn child(
         &self,
         rt: &(impl Threads + Sync),
@@ -56,6 +58,8 @@ impl SignedTree {
         ensures { IfOk result (IsChild self.now q sets leaves) }
     {
         let key = self.tree.key();
+        let signed = self.head.len() + lms_sig_len(key.lms, key.ots);
+        let mut head = vec![in alloc; 0; signed + LMS_KEY_LEN]?;
         let tree = BandTree::build(
             rt,
             alloc,
@@ -63,9 +67,7 @@ impl SignedTree {
             leaves.first,
             leaves.last,
         )?;
-        let public = public_bytes(&tree);
-        let mut head = self.signed(alloc, q, &randomizer(&key, q), &public)?;
-        head.extend_from_slice(&public)?;
+        self.sign_key_into(q, &randomizer(&key, q), &public_bytes(&tree), &mut head);
         Ok(SignedTree { tree, head })
     }
 
@@ -85,6 +87,18 @@ impl SignedTree {
         let mut text = vec![in alloc; 0; self.head.len() + lms_sig_len(key.lms, key.ots)]?;
         self.sign_into(q, c, msg, &mut text);
         Ok(text)
+    }
+
+    /// Writes the head, the LMS signature of a public key by leaf q, and that key.
+    fn sign_key_into(&self, q: u32, c: &[u8; 32], public: &[u8; LMS_KEY_LEN], out: &mut [u8])
+        requires from { self.now.tree.first ≤ q }
+        requires to { q ≤ self.now.tree.last }
+        requires room { length out.old ≡ length self.now.head.items + lms_signature_length (tree_of self.now.tree.key).lms (tree_of self.now.tree.key).ots + 56 }
+        ensures { out.new ≡ self.now.head.items ++ lms_signature (tree_of self.now.tree.key) q c.now public.now ++ public.now }
+    {
+        let signed = out.len() - LMS_KEY_LEN;
+        self.sign_into(q, c, public, &mut out[..signed]);
+        out[signed..].copy_from_slice(public);
     }
 
     /// Writes the head and the LMS signature of a message by leaf q.

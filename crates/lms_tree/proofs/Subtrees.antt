@@ -6,7 +6,7 @@ use Rattle.std.proofs.Math.Nat.{lt_of_not-le, le-div_iff_mul-le, div-lt_iff_lt-m
 use Rattle.std.proofs.Math.Pow.{shr_mono}
 use Rattle.lms_spec.specs.Tree.{sibling}
 use Rattle.lms_tree.specs.Served.{IsNeeded}
-use Rattle.lms_tree.specs.Bands.{kept_height, lower_rows}
+use Rattle.lms_tree.specs.Bands.{bottom_height, lower_rows}
 
 sibling-half : (n : ℕ) → sibling n / 2 ≡ n / 2
 sibling-half n =
@@ -70,15 +70,15 @@ below-roots t m first last r level in_tree (inr p) from to below =
     let upper : p.leaf / 2 ^ m ≤ last / 2 ^ m = shr_mono m p.to_last in
     (omega arith, (le-div_iff_mul-le (pow_pos j)).0 (omega arith), (div-lt_iff_lt-mul (pow_pos j)).0 (omega arith))
 
-kept-part : (h : ℕ) → h - kept_height h + kept_height h ≡ h
+kept-part : (h : ℕ) → h - bottom_height h + bottom_height h ≡ h
 kept-part h = omega arith
 
-pub needed-in-lower : (h first last r level : ℕ) → last < 2 ^ h → IsNeeded h first last r → 2 ^ level ≤ r → r < 2 * 2 ^ level → h - kept_height h < level
-    → (level - (h - kept_height h) ≤ kept_height h)
-    × ((lower_rows h first last).first * 2 ^ (level - (h - kept_height h)) ≤ r)
-    × (r < ((lower_rows h first last).first + (lower_rows h first last).width) * 2 ^ (level - (h - kept_height h)))
+pub needed-in-lower : (h first last r level : ℕ) → last < 2 ^ h → IsNeeded h first last r → 2 ^ level ≤ r → r < 2 * 2 ^ level → h - bottom_height h < level
+    → (level - (h - bottom_height h) ≤ bottom_height h)
+    × ((lower_rows h first last).first * 2 ^ (level - (h - bottom_height h)) ≤ r)
+    × (r < ((lower_rows h first last).first + (lower_rows h first last).width) * 2 ^ (level - (h - bottom_height h)))
 needed-in-lower h first last r level in_tree needed from to below =
-    let t = h - kept_height h in
-    let m = kept_height h in
+    let t = h - bottom_height h in
+    let m = bottom_height h in
     let whole : h ≡ t + m = sym (kept-part h) in
     below-roots t m first last r level (subst (λ h. last < 2 ^ h) whole in_tree) (subst (λ h. IsNeeded h first last r) whole needed) from to below

@@ -16,31 +16,31 @@ abbrev pub root_rows : ℕ → Rows
 root_rows depth = record { first = 1; width = 1; depth = depth }
 
 -- the height of the bottom subtrees of a tree of height h
-abbrev pub kept_height : ℕ → ℕ
-kept_height h = min h 10
+abbrev pub bottom_height : ℕ → ℕ
+bottom_height h = min h 10
 
 -- the number of bottom subtrees that hold the leaves from `first` to `last`
 abbrev pub subtrees : ℕ → ℕ → ℕ → ℕ
-subtrees h first last = last / 2 ^ kept_height h - first / 2 ^ kept_height h + 1
+subtrees h first last = last / 2 ^ bottom_height h - first / 2 ^ bottom_height h + 1
 
 -- all rows of these subtrees
 abbrev pub lower_rows : ℕ → ℕ → ℕ → Rows
 lower_rows h first last = record {
-  first = 2 ^ (h - kept_height h) + first / 2 ^ kept_height h;
+  first = 2 ^ (h - bottom_height h) + first / 2 ^ bottom_height h;
   width = subtrees h first last;
-  depth = kept_height h;
+  depth = bottom_height h;
 }
 
 -- the number of nodes of both: the nodes from the root down to the roots of the bottom subtrees, and all nodes of each subtree
 -- that holds one of the leaves
 abbrev pub kept_nodes : ℕ → ℕ → ℕ → ℕ
-kept_nodes h first last = 2 ^ (h - kept_height h + 1) - 1 + subtrees h first last * (2 ^ (kept_height h + 1) - 1)
+kept_nodes h first last = 2 ^ (h - bottom_height h + 1) - 1 + subtrees h first last * (2 ^ (bottom_height h + 1) - 1)
 
 -- what serves the leaves from `first` to `last`
 pub record HoldsBands (first last : ℕ) (upper lower : RowsOf) : Type 0 where
   pub order : first ≤ last
   pub in_tree : last < 2 ^ (tree_of upper.key).lms.h
   pub at_most : last - first < 1024
-  pub upper_rows : upper.rows ≡ root_rows ((tree_of upper.key).lms.h - kept_height (tree_of upper.key).lms.h)
+  pub upper_rows : upper.rows ≡ root_rows ((tree_of upper.key).lms.h - bottom_height (tree_of upper.key).lms.h)
   pub lower_key : lower.key ≡ upper.key
   pub lower_rows_are : lower.rows ≡ lower_rows (tree_of upper.key).lms.h first last

@@ -90,7 +90,8 @@ impl Model for Band {
 
 impl Band {
     /// Works out the nodes in these rows, where there is room for them: the lowest row in a thread for each processor, up to 32,
-    /// then the rows above it. A node of the lowest row that stands in the top row of `lower`, too, is not worked out again.
+    /// then the rows above it. A node of the lowest row that stands in the top row of `lower`, a band of the same tree, is copied
+    /// from there. The memory of `room` becomes the band's.
     pub(crate) fn build(
         rt: &(impl Threads + Sync),
         key: TreeKey,

@@ -2,7 +2,7 @@
 ghost use Rattle.std.specs.Prelude.{◌≡◌, ◌+◌, ◌-◌, ◌^◌, ◌<◌, ◌≤◌, IfOk};
 ghost use Rattle.lms_tree.specs.TreeKey.{tree_of};
 ghost use Rattle.lms_params.specs.LmsType.{lms_set_of};
-ghost use Rattle.lms_tree.specs.Bands.{kept_height as kept_height_of, kept_nodes, lower_rows as lower_rows_of};
+ghost use Rattle.lms_tree.specs.Bands.{bottom_height as bottom_height_of, kept_nodes, lower_rows as lower_rows_of};
 
 use crate::band::{Band, Rows};
 use crate::node_source::NodeSource;
@@ -51,7 +51,7 @@ impl BandTree {
         ensures { IfOk result (λ tree. tree ≡ record { key = key; first = first; last = last }) }
     {
         let lower_rows = lower_rows(key.lms, first, last);
-        let upper_rows = Rows::from_root(key.lms.height() - kept_height(key.lms));
+        let upper_rows = Rows::from_root(key.lms.height() - bottom_height(key.lms));
         let lower_room = lower_rows.room(alloc)?;
         let upper_room = upper_rows.room(alloc)?;
         let lower = Band::build(rt, key, lower_rows, lower_room, None);
@@ -64,7 +64,8 @@ impl BandTree {
         })
     }
 
-    /// The number of nodes that are held. The roots of bottom subtrees that are held whole count twice.
+    /// The number of nodes that are held: those from the root down to the roots of all bottom subtrees, and all nodes of each
+    /// bottom subtree that holds a leaf served, whose root so counts twice.
     pub fn kept(&self) -> usize
         ensures count { result ≡ kept_nodes (tree_of self.now.key).lms.h self.now.first self.now.last }
         ensures limit { result ≤ 69629 }
@@ -104,8 +105,8 @@ impl NodeSource for BandTree {
 }
 
 /// The height of the bottom subtrees.
-fn kept_height(lms: LmsType) -> u32
-    ensures { result ≡ kept_height_of (lms_set_of lms).h }
+fn bottom_height(lms: LmsType) -> u32
+    ensures { result ≡ bottom_height_of (lms_set_of lms).h }
 {
     lms.height().min(10)
 }
@@ -116,7 +117,7 @@ fn lower_rows(lms: LmsType, first: u32, last: u32) -> Rows
     requires in_tree { last < 2 ^ (lms_set_of lms).h }
     ensures { result ≡ lower_rows_of (lms_set_of lms).h first last }
 {
-    let depth = kept_height(lms);
+    let depth = bottom_height(lms);
     Rows {
         first: (1 << (lms.height() - depth)) + (first >> depth),
         width: (last >> depth) - (first >> depth) + 1,

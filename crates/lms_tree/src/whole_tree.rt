@@ -41,7 +41,8 @@ impl WholeTree {
         ensures { IfOk result (λ tree. tree ≡ key) }
     {
         let rows = Rows::from_root(key.lms.height());
-        let nodes = Band::build(rt, key, rows, rows.room(alloc)?, None);
+        let room = rows.room(alloc)?;
+        let nodes = Band::build(rt, key, rows, room, None);
         Ok(WholeTree { nodes })
     }
 }

@@ -55,6 +55,14 @@ pub overflow_cast-result : goal.overflow_cast-result
 overflow_cast-result c =
     omega (arith, parts c)
 
+pub returns-clause-first : goal.returns-clause-first
+returns-clause-first c =
+    omega (arith, parts c)
+
+pub returns-clause-last : goal.returns-clause-last
+returns-clause-last c =
+    omega (arith, parts c)
+
 pub returns-clause-leaves : goal.returns-clause-leaves
 returns-clause-leaves c =
     let p = parts c in
