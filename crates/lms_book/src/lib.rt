@@ -5,6 +5,8 @@
 #![tactic(auto)]
 
 mod book;
+#[cfg(test)]
+mod fixtures;
 mod history;
 pub mod laws;
 mod memory;

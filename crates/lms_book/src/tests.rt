@@ -1,49 +1,14 @@
 ghost use Rattle.std.specs.Prelude.{◌≡◌, ◌≤◌, [], IfOk};
 
+use crate::fixtures::{LEVELS, another_store, key_of, small_store, store_at, store_of};
 use crate::{Book, BookFault, Entry, Left, MemoryStore, OpenFault, ReadFault, StoreFault};
-use lms_hss::{HssKey, Levels};
+use lms_hss::HssKey;
 use lms_image::{Image, ImageFault, encode_image};
 use lms_params::{LmsType, OtsType};
 use std::alloc::Global;
 use std::test::Fail;
 
 mod lives;
-
-/// The levels 5/8, with 32 indices.
-const LEVELS: [(LmsType, OtsType); 1] = [(LmsType::H5, OtsType::W8)];
-
-/// How many writes a store of the tests has room for.
-const ROOM: usize = 1024;
-
-fn key_of(levels: &[(LmsType, OtsType)], seed: u8) -> Result<HssKey, Fail> {
-    let levels = Levels::new(levels)
-        .ok()
-        .ok_or("the signer takes the levels")?;
-    Ok(HssKey::new(levels, [seed; 32], [0x22; 16]))
-}
-
-/// A store that holds this text. Memory that is refused once is asked for again, here and in `opened` and `reserved`.
-fn store_of(alloc: Global, text: &[u8]) -> Result<MemoryStore, Fail> {
-    if text.len() > 256 {
-        return Err(Fail::from("a text of over 256 bytes"));
-    }
-    let made = MemoryStore::new(alloc, Some(text), ROOM);
-    let made = made.or_else(|_| MemoryStore::new(alloc, Some(text), ROOM));
-    Ok(made.ok().ok_or("memory for a store")?)
-}
-
-/// A store that holds the image of this key and this counter.
-fn store_at(alloc: Global, key: HssKey, counter: u64) -> Result<MemoryStore, Fail> {
-    if counter > key.capacity() {
-        return Err(Fail::from("a counter past the capacity"));
-    }
-    store_of(alloc, encode_image(&Image { key, counter }).as_slice())
-}
-
-/// A store that holds the image of 5/8 and this counter.
-fn small_store(alloc: Global, counter: u64) -> Result<MemoryStore, Fail> {
-    store_at(alloc, key_of(&LEVELS, 0x11)?, counter)
-}
 
 fn opened(alloc: Global, store: MemoryStore) -> Result<Book<MemoryStore>, Fail>
     ensures { IfOk result (λ book. book.history ≡ []) }
@@ -277,8 +242,7 @@ fn a_book_knows_its_leases(rt: HostRuntime) -> Result<(), Fail> {
 #[test]
 fn a_book_knows_no_other_keys_leases(rt: HostRuntime) -> Result<(), Fail> {
     let mut book = opened(rt.alloc(), small_store(rt.alloc(), 0)?)?;
-    let other = store_at(rt.alloc(), key_of(&LEVELS, 0x12)?, 0)?;
-    let mut other = opened(rt.alloc(), other)?;
+    let mut other = opened(rt.alloc(), another_store(rt.alloc())?)?;
     assert!(rt; gives(&mut book, 4, 0));
     assert!(rt; is_known(&mut other, &book, 4, false)?);
     Ok(())

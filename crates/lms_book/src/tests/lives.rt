@@ -1,6 +1,7 @@
 ghost use Rattle.std.specs.Prelude.{◌≤◌};
 
-use super::{burns, counts, gives, opened, refuses, reopened, reserved, small_store};
+use super::{burns, counts, gives, opened, refuses, reopened, reserved};
+use crate::fixtures::small_store;
 use crate::{BookFault, Left};
 use std::alloc::Global;
 use std::test::Fail;
