@@ -8,8 +8,7 @@ pub fn no_third_text_is_left()
 {}
 
 /// In every life of a store, of one opening or of many, a lease begins at or past the end of each earlier lease of its
-/// key. So no two leases of a key overlap. The contract of `Book::close`
-/// says that what a book did is one such opening.
+/// key. So no two leases of a key overlap. The contract of `Book::close` says that what a book did is one such opening.
 pub fn leases_never_overlap()
     ensures { LeasesNeverOverlap }
 {}

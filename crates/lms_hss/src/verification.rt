@@ -10,8 +10,7 @@ use lms_tree::signature_len;
 /// The bytes of an LMS public key (5.3).
 pub const LMS_KEY_LEN: usize = 56;
 
-/// Whether a signature is accepted for a message under a public key (RFC 8554, 6.3). The three may have
-/// any length.
+/// Whether a signature is accepted for a message under a public key (RFC 8554, 6.3). The three may have any length.
 pub fn verify(public: &[u8], msg: &[u8], sig: &[u8]) -> bool
     ensures { IsTrue result ↔ HssAccepts public.now msg.now sig.now }
 {

@@ -27,8 +27,8 @@ impl TreeKey {
         leaf_hash(&self.i, leaf_count(self.lms) + q, &ots_public)
     }
 
-    /// The value of node r, from 1 to 2^(h+1) - 1 (RFC 8554, 5.3). All leaves below it are worked out, and at any time the nodes of one path at
-    /// most are held.
+    /// The value of node r, from 1 to 2^(h+1) - 1 (RFC 8554, 5.3). All leaves below it are worked out, and at any time the
+    /// nodes of one path at most are held.
     pub fn subtree_root(&self, r: u32) -> [u8; 32]
         requires some { 1 ≤ r }
         requires in_tree { r < 2 * 2 ^ (tree_of self.now).lms.h }

@@ -10,8 +10,7 @@ use crate::nodes::{inner_hash, leaf_count, leaf_hash};
 use lms_ots::{OtsId, candidate};
 use lms_params::{LmsType, OtsType, lms_sig_len, split_u32};
 
-/// Whether a signature is accepted for a message under a public key (RFC 8554, 5.4.2). The three may have
-/// any length.
+/// Whether a signature is accepted for a message under a public key (RFC 8554, 5.4.2). The three may have any length.
 pub fn verify(public: &[u8], msg: &[u8], sig: &[u8]) -> bool
     ensures { IsTrue result ↔ LmsAccepts public.now msg.now sig.now }
 {
