@@ -185,7 +185,7 @@ impl<S: StateStore> Book<S> {
         }
     }
 
-    /// Spends a lease that is not needed. Its indices stay used.
+    /// Spends a lease that is no longer needed, whether its indices signed or not. They stay used.
     pub fn give_back(&self, lease: Lease) {
         lease.end()
     }

@@ -47,8 +47,8 @@ impl Model for MemoryStore {
 }
 
 impl MemoryStore {
-    /// A store that holds these bytes, at most 256, or none. All memory is taken here, for a record of `room` writes;
-    /// `OutOfMemory` where it is refused.
+    /// A store that holds these bytes, at most 256, or nothing where `text` is `None`. All memory is taken here, for a
+    /// record of `room` writes; `OutOfMemory` where it is refused.
     pub fn new(alloc: Global, text: Option<&[u8]>, room: usize) -> Result<Self, OutOfMemory>
         requires { MatchOption text (Unit {0}) (λ text. length text.now ≤ 256) }
         ensures fresh { IfOk result (IsFresh room) }
@@ -67,7 +67,7 @@ impl MemoryStore {
         })
     }
 
-    /// The bytes that it holds.
+    /// The bytes that it holds, `None` where nothing is stored.
     pub fn text(&self) -> Option<&[u8]>
         ensures { MatchOption result (self.now.text ≡ None) (λ text. self.now.text ≡ Some text.now) }
     {
@@ -187,7 +187,7 @@ impl StateStore for MemoryStore {
 
     ghost may_fail = { MayFail };
 
-    /// Fails where it is told to, after a planned crash, and while it holds no bytes.
+    /// Fails where it is told to, after a planned crash, and while nothing is stored (`text` answers `None`).
     fn read(&mut self, alloc: Global) -> Result<Vec<u8>, ReadFault>
         ensures reads { ReadsStore (MayFail self.old) (view_of self.old) result (view_of self.new) }
         ensures planned { Reads self.old result self.new }

@@ -48,9 +48,10 @@ fn key_of(levels: Levels, seed: [u8; 32], id: [u8; 16]) -> HssKey
 
 /// Stores the state of a new key with no index used, writes its public key to a file and prints its capacity.
 ///
-/// In this order: `StateInUse` where the state's lock is not got, `StateExists` where the state is there, `OutOfMemory`,
-/// `WriteState` where the state was not stored for certain, `Output` where the public key can't be written, or
-/// `OutOfMemory` where memory for that was refused, and `Output` where the capacity can't be printed.
+/// In this order: `StateInUse` where the state's lock is not got, `StateExists` where the state is there, `WriteState`
+/// where it may not have been stored, and `Output` where the public key can't be written or the capacity not printed: the
+/// state is the new key's then. `OutOfMemory` may come before the state is written, which stays as it was, or while the
+/// public key is written, and then the state is the new key's.
 pub fn make_key<W: World, O: Write>(
     rt: &(impl Threads + Sync),
     alloc: Global,

@@ -2,7 +2,7 @@
 use std::alloc::{AllocError, AllocFailed};
 use thiserror::Error;
 
-/// A request for memory was refused. Each call that may answer it says what is left then.
+/// A request for memory was refused. A call that answers it changed nothing, unless it says what is left.
 #[derive(Clone, Copy, Debug, PartialEq, Eq, Error)]
 #[error("out of memory")]
 pub struct OutOfMemory;

@@ -118,7 +118,7 @@ impl<S: StateStore, E: Tally, G: Tally, B: Tally> SharedBook<S, E, G, B> {
         self.counted.lock(rt).reserve(desk, n)
     }
 
-    /// Spends a lease that is not needed. Its indices stay used.
+    /// Spends a lease that is no longer needed, whether its indices signed or not. They stay used.
     pub fn give_back(&self, lease: Lease) {
         lease.end()
     }

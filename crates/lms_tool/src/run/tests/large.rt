@@ -6,7 +6,7 @@ use std::test::Fail;
 
 const LEVELS: &str = "5/1,5/1,5/1,5/2,5/2,5/2,5/4,10/1";
 
-/// A name of 120 bytes.
+/// A name of 114 bytes.
 const NAME: &str = "signature-of-the-firmware-for-the-first-board-/\
     signature-of-the-firmware-for-the-first-board-/a-name-as-long-as-it";
 
