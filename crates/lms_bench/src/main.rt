@@ -4,13 +4,15 @@
 //! its time, the compressions of SHA-256 that the standard's definition needs, and the ratio of its time to that of as
 //! many bare digests of 55 bytes, each the least of several rounds. For trees that all processors build it prints the
 //! compressions a second; how many times as many these are as one thread makes with bare digests; what share they are of
-//! what such a thread on each processor makes; and how long it takes to start and join threads that do nothing. Last come
-//! the bytes that a forest holds.
+//! what such a thread on each processor makes; and how long it takes to start and join threads that do nothing. For places of
+//! pools that threads claim at once it prints the claims a second beside bare additions to one word. Last come the bytes
+//! that a forest holds.
 #![tactic(auto)]
 
 mod bench;
 mod build;
 mod case;
+mod claims;
 mod compressions;
 mod held;
 mod hierarchy;
@@ -23,12 +25,14 @@ mod tests;
 use crate::bench::{Bench, Timed};
 use crate::build::BUILDS;
 use crate::case::{CASES, SEED};
+use crate::claims::CLAIMS;
 use crate::hierarchy::{COVERED, VERIFIED};
 use crate::hss_bench::{Signing, Verification};
 use crate::measure::measure;
 use anyhow::{Result, bail};
 use std::env;
 use std::thread::Threads;
+use std::time::Clock;
 
 fn main(rt: HostRuntime) -> Result<()> {
     let words: Vec<String> = env::args(&rt)?.collect(rt.alloc())?;
@@ -40,7 +44,7 @@ fn main(rt: HostRuntime) -> Result<()> {
 }
 
 /// Runs each case once and prints its name.
-fn run_once(rt: &(impl Print + AllocGlobal + Threads + Sync)) -> Result<()> {
+fn run_once(rt: &(impl Print + AllocGlobal + Clock + Threads + Sync)) -> Result<()> {
     for case in CASES {
         let _value = Bench::new(case).run(SEED);
         println!(rt; "{case}")?;
@@ -54,6 +58,10 @@ fn run_once(rt: &(impl Print + AllocGlobal + Threads + Sync)) -> Result<()> {
     for build in BUILDS {
         build.run(rt, rt.alloc())?;
         println!(rt; "{build}")?;
+    }
+    for claims in CLAIMS {
+        claims.time(rt)?;
+        println!(rt; "{claims}")?;
     }
     Ok(())
 }

@@ -2,6 +2,7 @@
 use crate::bench::{Bench, Timed};
 use crate::build::{BUILDS, Build};
 use crate::case::CASES;
+use crate::claims::{CLAIMS, COUNT, Claims};
 use crate::held::Held;
 use crate::hierarchy::{COVERED, VERIFIED};
 use crate::hss_bench::{Signing, Verification};
@@ -17,7 +18,7 @@ const ROUNDS: u32 = 20;
 /// How many compressions a round makes, at least, and how many bare digests stand beside a build.
 const COMPRESSIONS_A_ROUND: u64 = 1 << 16;
 
-/// Times each case and each build, and weighs a forest.
+/// Times each case, each build and claims, and weighs a forest.
 pub fn measure(rt: &(impl Print + AllocGlobal + Clock + CpuClock + Threads + Sync)) -> Result<()> {
     for case in CASES {
         print!(rt; "{case}")?;
@@ -37,6 +38,9 @@ pub fn measure(rt: &(impl Print + AllocGlobal + Clock + CpuClock + Threads + Syn
     measure_timed(rt, signing.compressions(rt.alloc())?, &mut signing)?;
     for build in BUILDS {
         measure_build(rt, build)?;
+    }
+    for claims in CLAIMS {
+        measure_claims(rt, claims)?;
     }
     let bands = Held::with_bands(rt, rt.alloc())?;
     print_held(rt, "in bands", bands)?;
@@ -85,6 +89,26 @@ fn measure_build(
     let micros = nothing.as_secs_f64() * 1e6;
     println!(rt;
         "{build}: {rate:.0} compressions a second, {threads:.2} times one thread, share {share:.2}, threads {micros:.0} us"
+    )?;
+    Ok(())
+}
+
+/// Prints how many places are claimed a second, how many bare additions as many threads make, and the ratio of the times.
+fn measure_claims(
+    rt: &(impl Print + AllocGlobal + Clock + Threads + Sync),
+    claims: Claims,
+) -> Result<()> {
+    let mut own = Duration::MAX;
+    let mut bare = Duration::MAX;
+    for _ in 0..ROUNDS {
+        own = own.min(claims.time(rt)?);
+        bare = bare.min(claims.time_bare(rt)?);
+    }
+    let claimed = COUNT as f64 / own.as_secs_f64();
+    let added = COUNT as f64 / bare.as_secs_f64();
+    let ratio = own.as_secs_f64() / bare.as_secs_f64();
+    println!(rt;
+        "{claims}: {claimed:.0} a second, bare additions {added:.0} a second, ratio {ratio:.2}"
     )?;
     Ok(())
 }
