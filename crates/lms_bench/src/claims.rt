@@ -88,7 +88,10 @@ impl Claims {
         let start = Instant::now(rt)?;
         let claimed = thread::map_vec(rt, callers, &|own: Vec<Caller>| -> u64 { claim_by(own) })?;
         let time = start.elapsed(rt)?;
-        ensure!(sum_of(&claimed) == COUNT, "places were left");
+        ensure!(
+            sum_of(&claimed) == COUNT,
+            "the places claimed are not as many as there are"
+        );
         Ok(time)
     }
 

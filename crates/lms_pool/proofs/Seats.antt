@@ -76,6 +76,7 @@ module _ (me : Inside) (seat : IsWell me) where
       let counted : stopped ≡ stopped_in (calls_of me.number new) = omega (arith, is, seat.counted, stopped_after len old_log (entry me.number c r) new left.log) in
       record {
         stays = record {
+          below = seat.below;
           table_is = same ∙ seat.table_is;
           alone = left.alone;
           counted = counted;
@@ -108,7 +109,7 @@ module _ (me : Inside) (seat : IsWell me) where
   -- what the load of a claim leaves stays a seat
   pub peek_stays : (table : TableId) (n : ℕ) (w : Seated) → peeked me.seat.me n w → table ≡ me.seat.table_id → IsSeat me.pool.value me.number me.stopped table w
   peek_stays table n w told same = dite (dec_lt n me.pool.value.len)
-      (λ l. subst (λ (v : Seated). IsSeat me.pool.value me.number me.stopped table v) (sym (after_peek n w told l).0) (record { table_is = same ∙ seat.table_is; alone = seat.alone; counted = seat.counted; few = seat.few }))
+      (λ l. subst (λ (v : Seated). IsSeat me.pool.value me.number me.stopped table v) (sym (after_peek n w told l).0) (record { below = seat.below; table_is = same ∙ seat.table_is; alone = seat.alone; counted = seat.counted; few = seat.few }))
       (λ g. (after_end n w told (omega arith) table same).stays)
 
   -- and this is what it tells

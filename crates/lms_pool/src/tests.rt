@@ -1,9 +1,10 @@
 ghost use Rattle.std.specs.Prelude.{◌≡◌, ◌≤◌, All, IfOk};
 
 use crate::fixtures::{lease, pool};
-use crate::{DrawSeat, Ended, IndexPool, Tally};
+use crate::{DrawSeat, Ended, IndexPool, MissingSeats, Tally};
 use std::alloc::{AllocGlobal, Global};
 use std::process::Abort;
+use std::sync::atomic::{AtomicUsize, Ordering};
 use std::test::Fail;
 use std::thread;
 use std::thread::Threads;
@@ -148,6 +149,16 @@ fn look_reads_the_word(rt: HostRuntime) -> Result<(), Fail> {
 /// What one thread did: its seat, and the places that it claimed.
 type Drawn = (DrawSeat, Vec<u64>);
 
+/// Lets as many threads begin together, or gives up after a million turns.
+fn begin_together(begun: &AtomicUsize, threads: usize) {
+    begun.fetch_add(1, Ordering::SeqCst);
+    for _ in 0..1_000_000 {
+        if begun.load(Ordering::SeqCst) >= threads {
+            break;
+        }
+    }
+}
+
 /// Claims up to `most` places.
 fn claim_up_to(alloc: Global, pool: &IndexPool, seat: DrawSeat, most: usize) -> Drawn
     requires { seat.pool ≡ pool.now }
@@ -178,7 +189,7 @@ fn stop_after_ten(alloc: Global, pool: &IndexPool, seat: DrawSeat) -> Drawn
     (seat, places)
 }
 
-/// Each seat claims in a thread of its own, up to `most` places; where one is to stop the pool, the first does, after ten.
+/// Each seat claims in a thread of its own, all at once, up to `most` places; where one is to stop the pool, the first does, after ten.
 fn drawn_by_all<R: Threads + Sync>(
     rt: &R,
     alloc: Global,
@@ -190,6 +201,8 @@ fn drawn_by_all<R: Threads + Sync>(
     requires { All (λ seat. seat.pool ≡ pool.now) seats.items }
     ensures { IfOk result (λ all. All (λ drawn. drawn.0.pool ≡ pool.now) all.items) }
 {
+    let threads = seats.len();
+    let begun = AtomicUsize::new(0);
     let all = thread::map_vec(
         rt,
         seats,
@@ -197,6 +210,7 @@ fn drawn_by_all<R: Threads + Sync>(
             requires { seat.pool ≡ pool.now }
             ensures { result.0.pool ≡ pool.entry.now }
         {
+            begin_together(&begun, threads);
             if stops && seat.number() == 0 {
                 stop_after_ten(alloc, pool, seat)
             } else {
@@ -276,5 +290,16 @@ fn a_thread_stops_the_pool(rt: HostRuntime) -> Result<(), Fail> {
     let tally = drawn_at_once(&rt, 1000, 4, 1025, true)?;
     assert_eq!(rt; tally.left, 0);
     assert_eq!(rt; tally.claimed.saturating_add(tally.stopped), 1000);
+    Ok(())
+}
+
+#[test]
+fn faults_say_what_failed(rt: HostRuntime) -> Result<(), Fail> {
+    assert_eq!(rt; Ended.to_string(rt.alloc())?.as_str(), "the pool has ended");
+    let missing = MissingSeats { present: 1 };
+    assert_eq!(rt;
+        missing.to_string(rt.alloc())?.as_str(),
+        "seats are missing: 1 came"
+    );
     Ok(())
 }

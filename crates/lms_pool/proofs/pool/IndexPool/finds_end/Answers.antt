@@ -7,7 +7,7 @@ use Rattle.lms_pool.specs.Rule.{peeked}
 use Rattle.lms_pool.specs.States.{PoolState, SeatState, Calls, seen}
 use Rattle.lms_pool.proofs.Steps.{peeks}
 use Rattle.lms_pool.proofs.Seats.{seat_with, asks, peek_stays, peek_tells}
-use Rattle.lms_pool.proofs.pool.IndexPool.is_ended.Goals as goal
+use Rattle.lms_pool.proofs.pool.IndexPool.finds_end.Goals as goal
 
 pub load-requires : goal.load-requires
 load-requires c =
