@@ -1,0 +1,52 @@
+-- Batches of signatures, and what a collector has of one.
+use Rattle.std.specs.Prelude.{◌≡◌, ℕ, ◌+◌, ◌≤◌, ◌<◌, ◌^◌, List, [], ◌∷◌, Option, None, Some, length, map, replicate, slice_set, Vec}
+use Rattle.std.specs.Global.{Global}
+use Rattle.std.specs.Option.{option_map}
+use Rattle.lms_hss.specs.declared.key.HssKey.{HssKey as KeyOfCode}
+use Rattle.lms_batch.specs.Jobs.{JobText, SignedJob, signature_of}
+
+-- the signatures of the jobs, at one index after another
+abbrev pub batch_of : KeyOfCode → ℕ → List JobText → List (List ℕ)
+batch_of key start [] = []
+batch_of key start (j ∷ js) = signature_of key start j ∷ batch_of key (start + 1) js
+
+-- each slot is empty or holds the item of its place
+abbrev pub HoldsOnly : List (List ℕ) → List (Option (List ℕ)) → Type 0
+HoldsOnly [] [] = Unit {0}
+HoldsOnly (x ∷ xs) (None ∷ slots) = HoldsOnly xs slots
+HoldsOnly (x ∷ xs) (Some y ∷ slots) = (y ≡ x) × HoldsOnly xs slots
+HoldsOnly [] (slot ∷ slots) = ⊥
+HoldsOnly (x ∷ xs) [] = ⊥
+
+-- what slots hold
+abbrev pub contents : List (Option (Vec ℕ Global)) → List (Option (List ℕ))
+contents slots = map (option_map (λ v. v.items)) slots
+
+-- the jobs of a key from a start, and a slot for each
+pub record Gathered : Type 0 where
+  pub key : KeyOfCode
+  pub start : ℕ
+  pub jobs : List JobText
+  pub slots : List (Option (List ℕ))
+
+-- none of the jobs is signed
+abbrev pub none_of : KeyOfCode → ℕ → List JobText → Gathered
+none_of key start jobs = record { key = key; start = start; jobs = jobs; slots = replicate (length jobs) None }
+
+-- the signature stands in the slot of its place
+abbrev pub with_signature : Gathered → SignedJob → Gathered
+with_signature gathered signed = record gathered { slots = slice_set gathered.slots signed.place (Some signed.signature) }
+
+-- both gather the same jobs of the same key from the same start
+pub record IsSameBatch (old new : Gathered) : Type 0 where
+  pub key : new.key ≡ old.key
+  pub start : new.start ≡ old.start
+  pub jobs : new.jobs ≡ old.jobs
+
+-- what a collector of so many jobs keeps: each slot is empty or holds the signature of its job, and there is room to list all
+pub record IsGathering (gathered : Gathered) (jobs slots : ℕ) (listed : List (Vec ℕ Global)) (room : ℕ) : Type 0 where
+  pub holds : HoldsOnly (batch_of gathered.key gathered.start gathered.jobs) gathered.slots
+  pub one_each : slots ≡ jobs
+  pub none_listed : listed ≡ []
+  pub fits : slots ≤ room
+  pub bounded : gathered.start + jobs < 2 ^ 64

@@ -1,0 +1,4 @@
+pub mod Jobs
+pub mod Signs
+pub mod Batches
+pub mod Takes

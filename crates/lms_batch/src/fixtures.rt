@@ -1,0 +1,89 @@
+//! Keys, leases and jobs of the tests. Memory that is refused once is asked for again.
+ghost use Rattle.std.specs.Prelude.{◌≡◌, ◌≤◌, IfOk};
+
+use crate::{Job, OpenLease};
+use lms_book::{Book, Lease, MemoryStore};
+use lms_hss::{HssKey, Levels};
+use lms_image::{Image, encode_image};
+use lms_params::{LmsType, OtsType};
+use lms_pool::DrawSeat;
+use std::alloc::Global;
+use std::test::Fail;
+use std::thread::Threads;
+
+/// The levels 5/8,5/8, with 1024 indices.
+pub(crate) const LEVELS: [(LmsType, OtsType); 2] = [(LmsType::H5, OtsType::W8); 2];
+
+/// The key of these levels, and of a seed of this byte.
+pub(crate) fn key_of(seed: u8) -> Result<HssKey, Fail> {
+    let levels = Levels::new(&LEVELS)
+        .ok()
+        .ok_or("the signer takes the levels")?;
+    Ok(HssKey::new(levels, [seed; 32], [0x22; 16]))
+}
+
+/// A book of the key whose next index is this one.
+fn book_at(alloc: Global, key: HssKey, start: u64) -> Result<Book<MemoryStore>, Fail> {
+    if start > key.capacity() {
+        return Err(Fail::from("a start past the capacity"));
+    }
+    let image = encode_image(&Image {
+        key,
+        counter: start,
+    });
+    let store = MemoryStore::new(alloc, Some(image.as_slice()), 1);
+    let store = store.or_else(|_| MemoryStore::new(alloc, Some(image.as_slice()), 1))?;
+    let book = Book::open(alloc, store).or_else(|(_, store)| Book::open(alloc, store));
+    Ok(book.ok().ok_or("the store opens")?)
+}
+
+/// A lease of `len` indices of such a key from `start` on.
+pub(crate) fn lease(alloc: Global, seed: u8, start: u64, len: u64) -> Result<Lease, Fail>
+    requires some { 1 ≤ len }
+    requires at_most { len ≤ 1024 }
+    ensures { IfOk result (λ lease. lease.len ≡ len) }
+{
+    let mut book = book_at(alloc, key_of(seed)?, start)?;
+    let lease = match book.reserve(len) {
+        Ok(lease) => Ok(lease),
+        Err(_) => book.reserve(len),
+    };
+    Ok(lease.ok().ok_or("the indices are left")?)
+}
+
+/// Such a lease, opened, with one seat.
+pub(crate) fn opened(
+    rt: &(impl AllocGlobal + Threads + Sync),
+    seed: u8,
+    start: u64,
+    len: u64,
+) -> Result<(OpenLease, DrawSeat), Fail>
+    requires some { 1 ≤ len }
+    requires at_most { len ≤ 1024 }
+    ensures { IfOk result (λ r. r.1.pool ≡ r.0) }
+{
+    let lease = lease(rt.alloc(), seed, start, len)?;
+    let made = match OpenLease::new(rt, rt.alloc(), lease, 1) {
+        Ok(made) => Ok(made),
+        Err((_, lease)) => OpenLease::new(rt, rt.alloc(), lease, 1),
+    };
+    let (lease, mut seats) = match made {
+        Ok(made) => made,
+        Err((_, lease)) => {
+            lease.end();
+            return Err(Fail::from("memory for an open lease"));
+        }
+    };
+    let seat = seats.pop().ok_or("one seat")?;
+    Ok((lease, seat))
+}
+
+/// A job of this message.
+pub(crate) fn job(alloc: Global, message: &[u8]) -> Result<Job, Fail> {
+    let text = Vec::from_slice(alloc, message);
+    let message = text.or_else(|_| Vec::from_slice(alloc, message))?;
+    Ok(Job {
+        c: [0x33; 32],
+        message,
+    })
+}

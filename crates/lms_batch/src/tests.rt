@@ -1,0 +1,239 @@
+ghost use Rattle.std.specs.Prelude.{◌≡◌, ◌≤◌, length};
+
+use crate::fixtures::{LEVELS, job, key_of, opened};
+use crate::{Batch, Collector, Job, OpenLease, Receipt, SignFault, TakeFault};
+use lms_hss::verify;
+use lms_params::OutOfMemory;
+use lms_pool::{DrawSeat, IndexPass, MissingSeats, Tally};
+use lms_slow::{SlowKey, slow_sign};
+use std::alloc::Global;
+use std::test::Fail;
+use std::thread::Threads;
+
+/// The slow signer's signature of a job by an index.
+fn slow(alloc: Global, g: u64, job: &Job) -> Result<Vec<u8>, Fail> {
+    let key = SlowKey {
+        levels: &LEVELS,
+        seed: [0x11; 32],
+        id: [0x22; 16],
+    };
+    Ok(slow_sign(alloc, &key, g, &job.c, &job.message)?)
+}
+
+/// Signs a job at the next place. Takes no runtime, so it waits for nobody. Where memory was refused, the pass is tried again.
+fn signed<'j>(lease: &OpenLease, seat: &mut DrawSeat, job: &'j Job) -> Result<Receipt<'j>, Fail>
+    requires { seat.old.pool ≡ lease.now }
+    ensures { seat.new.pool ≡ lease.now }
+{
+    match lease.sign(seat, job) {
+        Ok(receipt) => Ok(receipt),
+        Err(SignFault::Ended) => Err(Fail::from("no place is left")),
+        Err(SignFault::OutOfMemory(pass)) => signed_again(lease, pass, job),
+    }
+}
+
+/// Signs a job with a pass.
+fn signed_again<'j>(lease: &OpenLease, pass: IndexPass, job: &'j Job) -> Result<Receipt<'j>, Fail>
+    requires { pass.pool ≡ lease.now }
+{
+    match lease.sign_with(pass, job) {
+        Ok(receipt) => Ok(receipt),
+        Err((_, pass)) => {
+            pass.burn();
+            Err(Fail::from("memory for a signature"))
+        }
+    }
+}
+
+/// Whether no place is left to sign a job at.
+fn has_ended(lease: &OpenLease, seat: &mut DrawSeat, job: &Job) -> bool
+    requires { seat.old.pool ≡ lease.now }
+    ensures { seat.new.pool ≡ lease.now }
+{
+    match lease.sign(seat, job) {
+        Ok(_) => false,
+        Err(SignFault::Ended) => true,
+        Err(SignFault::OutOfMemory(pass)) => {
+            pass.burn();
+            false
+        }
+    }
+}
+
+/// Whether the next receipt is of this place and index, and its signature the slow signer's.
+fn signs_at(
+    alloc: Global,
+    lease: &OpenLease,
+    seat: &mut DrawSeat,
+    job: &Job,
+    place: u64,
+    index: u64,
+) -> Result<bool, Fail>
+    requires { seat.old.pool ≡ lease.now }
+    ensures { seat.new.pool ≡ lease.now }
+{
+    let receipt = signed(lease, seat, job)?;
+    let is_there = receipt.place() == place && receipt.index() == index;
+    Ok(is_there && receipt.signature() == slow(alloc, index, job)?.as_slice())
+}
+
+/// Ends a lease whose one seat is there.
+fn finished(alloc: Global, lease: OpenLease, seat: DrawSeat) -> Result<Tally, Fail>
+    requires { seat.pool ≡ lease }
+{
+    let none = Vec::new(alloc);
+    let Err((missing, lease, mut seats)) = lease.finish(none) else {
+        return Err(Fail::from("the seat is missing"));
+    };
+    if missing != (MissingSeats { present: 0 }) {
+        return Err(Fail::from("no seat is there"));
+    }
+    seats.push(seat)?;
+    Ok(lease.finish(seats).ok().ok_or("the seat is there")?)
+}
+
+#[test]
+fn signs_without_a_wait(rt: HostRuntime) -> Result<(), Fail> {
+    let (lease, mut seat) = opened(&rt, 0x11, 31, 4)?;
+    let job = job(rt.alloc(), b"abc")?;
+    assert!(rt; signs_at(rt.alloc(), &lease, &mut seat, &job, 0, 31)?);
+    assert!(rt; signs_at(rt.alloc(), &lease, &mut seat, &job, 1, 32)?);
+    assert_eq!(rt; lease.look(&mut seat), 2);
+    assert_eq!(rt; lease.stop(&mut seat), 2);
+    assert!(rt; has_ended(&lease, &mut seat, &job));
+    let tally = finished(rt.alloc(), lease, seat)?;
+    assert_eq!(rt; (tally.claimed, tally.stopped, tally.left), (2, 2, 0));
+    Ok(())
+}
+
+/// Why a receipt is not taken, `None` where it is.
+fn refusal<'j>(collector: &mut Collector<'j>, receipt: Receipt<'j>) -> Option<TakeFault> {
+    match collector.take(receipt) {
+        Ok(()) => None,
+        Err((fault, _)) => Some(fault),
+    }
+}
+
+/// The seat after so many claims, whose passes are burnt.
+fn after_claims(lease: &OpenLease, seat: DrawSeat, claims: u64) -> DrawSeat
+    requires { seat.pool ≡ lease.now }
+    ensures { result.pool ≡ lease.now }
+{
+    let mut seat = seat;
+    for _ in 0..claims {
+        if let Ok(pass) = lease.claim(&mut seat) {
+            pass.burn();
+        }
+    }
+    seat
+}
+
+/// Why the receipt of a job is not taken that another book of a key of this seed signed, at a place of a lease from `start` on.
+fn refusal_of_another<'j>(
+    rt: &(impl AllocGlobal + Threads + Sync),
+    collector: &mut Collector<'j>,
+    seed: u8,
+    start: u64,
+    place: u64,
+    job: &'j Job,
+) -> Result<Option<TakeFault>, Fail>
+    requires { place ≤ 8 }
+{
+    let (lease, seat) = opened(rt, seed, start, place + 1)?;
+    let mut seat = after_claims(&lease, seat, place);
+    let receipt = signed(&lease, &mut seat, job)?;
+    Ok(refusal(collector, receipt))
+}
+
+#[test]
+fn a_place_takes_its_receipt_once(rt: HostRuntime) -> Result<(), Fail> {
+    let jobs = [job(rt.alloc(), b"abc")?, job(rt.alloc(), b"")?];
+    let [first, second] = &jobs;
+    let mut collector = Collector::new(rt.alloc(), key_of(0x11)?, 30, &jobs)?;
+    let none = refusal_of_another(&rt, &mut collector, 0x11, 30, 0, first)?;
+    assert_eq!(rt; none, None);
+    let twice = refusal_of_another(&rt, &mut collector, 0x11, 30, 0, first)?;
+    assert_eq!(rt; twice, Some(TakeFault::Twice));
+    for (seed, start, before) in [(0x12, 30, 1), (0x11, 29, 1), (0x11, 30, 2)] {
+        let stranger = refusal_of_another(&rt, &mut collector, seed, start, before, second)?;
+        assert_eq!(rt;
+            stranger,
+            Some(TakeFault::Stranger),
+            "{seed} {start} {before}"
+        );
+    }
+    let stranger = refusal_of_another(&rt, &mut collector, 0x11, 30, 1, first)?;
+    assert_eq!(rt; stranger, Some(TakeFault::Stranger));
+    let Batch::Partial { start, slots } = collector.finish() else {
+        return Err(Fail::from("a slot is empty"));
+    };
+    assert_eq!(rt; start, 30);
+    assert!(rt; slots.as_slice() == [Some(slow(rt.alloc(), 30, first)?), None].as_slice());
+    Ok(())
+}
+
+/// Whether a batch is complete, from this index on, with the slow signer's signatures of these jobs, which the verifier accepts.
+fn is_complete(
+    rt: &(impl AllocGlobal + Threads + Sync),
+    batch: &Batch,
+    first: u64,
+    jobs: &[Job],
+) -> Result<bool, Fail>
+    requires { first ≤ 900 }
+{
+    let Batch::Complete { start, signatures } = batch else {
+        return Ok(false);
+    };
+    let public = key_of(0x11)?.public_key(rt, rt.alloc())?;
+    let mut is_right = *start == first && signatures.len() == jobs.len();
+    for ((signature, job), g) in signatures.iter().zip(jobs).zip(first..1024) {
+        let slow = slow(rt.alloc(), g, job)?;
+        is_right = is_right && *signature == slow && verify(&public, &job.message, signature);
+    }
+    Ok(is_right)
+}
+
+#[test]
+fn a_batch_is_in_the_order_of_its_jobs(rt: HostRuntime) -> Result<(), Fail> {
+    let jobs = [job(rt.alloc(), b"a")?, job(rt.alloc(), b"b")?];
+    let (lease, mut seat) = opened(&rt, 0x11, 31, 2)?;
+    let mut collector = Collector::new(rt.alloc(), key_of(0x11)?, 31, &jobs)?;
+    let first = signed(&lease, &mut seat, &jobs[0])?;
+    let second = signed(&lease, &mut seat, &jobs[1])?;
+    assert_eq!(rt; refusal(&mut collector, second), None);
+    assert_eq!(rt; refusal(&mut collector, first), None);
+    assert!(rt; is_complete(&rt, &collector.finish(), 31, &jobs)?);
+    Ok(())
+}
+
+/// A collector for jobs from index 5 on. Memory that is refused once is asked for again.
+fn collector_of(alloc: Global, jobs: &[Job]) -> Result<Collector<'_>, Fail>
+    requires { length jobs.now ≤ 1024 }
+{
+    let key = key_of(0x11)?;
+    match Collector::new(alloc, key, 5, jobs) {
+        Ok(collector) => Ok(collector),
+        Err(OutOfMemory) => Ok(Collector::new(alloc, key, 5, jobs)?),
+    }
+}
+
+/// `tests/refused` refuses each request for memory in turn.
+#[test]
+fn a_lease_signs_after_refused_memory(rt: HostRuntime) -> Result<(), Fail> {
+    let jobs = [job(rt.alloc(), b"abc")?];
+    let (lease, mut seat) = opened(&rt, 0x11, 5, 1)?;
+    let receipt = signed(&lease, &mut seat, &jobs[0])?;
+    assert_eq!(rt; (receipt.place(), receipt.index()), (0, 5));
+    let mut collector = collector_of(rt.alloc(), &jobs)?;
+    assert_eq!(rt; refusal(&mut collector, receipt), None);
+    assert!(rt;
+        matches!(
+            collector.finish(),
+            Batch::Complete {
+                start: 5,
+                signatures: _
+            }
+        )
+    );
+    Ok(())
+}
