@@ -1,5 +1,5 @@
 -- What an open lease answers.
-use Rattle.std.specs.Prelude.{◌≡◌, ℕ, ◌+◌, ◌<◌, List, Some, slice_get, Result, Ok, Err}
+use Rattle.std.specs.Prelude.{◌≡◌, ℕ, ◌+◌, ◌<◌, Result, Ok, Err}
 use Rattle.lms_hss.specs.Covered.{Covered}
 use Rattle.lms_pool.specs.declared.history.Reply.{Reply}
 use Rattle.lms_pool.specs.declared.history.Reply.TheVariants as replies
@@ -30,9 +30,3 @@ sign_reply (Err (OutOfMemory pass)) = replies.Place pass.place
 abbrev pub IsSignFault : PoolState → SignFault → Type 0
 IsSignFault pool Ended = Unit {0}
 IsSignFault pool (OutOfMemory pass) = pass.pool ≡ pool
-
--- the job of its place was signed, at a place of the lease
-pub record IsOfLease (pool : PoolState) (jobs : List JobText) (signed : SignedJob) : Type 0 where
-  pub key : signed.key ≡ pool.key
-  pub index : signed.index ≡ pool.start + signed.place
-  pub job_is : slice_get jobs signed.place ≡ Some signed.job

@@ -15,8 +15,8 @@ use thiserror::Error;
 /// Why a receipt was not taken.
 #[derive(Clone, Copy, Debug, PartialEq, Eq, Error)]
 pub enum TakeFault {
-    /// It is of another key, index or job than its place in the batch.
-    #[error("the receipt is none of this batch")]
+    /// Its key, index or job is not that of its place in the batch, or there is no such place.
+    #[error("the receipt is not of this batch")]
     Stranger,
     /// Its place has a signature.
     #[error("the place has a signature")]
@@ -31,7 +31,7 @@ pub enum Batch {
         start: u64,
         signatures: Vec<Vec<u8>>,
     },
-    /// Of some of them: a slot a job, in their order, one of them empty at least.
+    /// Of some of them or none: a slot a job, in their order, one of them empty at least.
     Partial {
         start: u64,
         slots: Vec<Option<Vec<u8>>>,
@@ -113,7 +113,7 @@ impl<'j> Collector<'j> {
         Ok(())
     }
 
-    /// Whether the receipt is of the job at its place.
+    /// Whether the receipt is of the key, with the index and the job of its place.
     fn awaits(&self, receipt: &Receipt<'j>) -> bool
         ensures { IsTrue result ↔ Belongs self.now receipt.now }
     {

@@ -8,7 +8,7 @@ use crate::job::Job;
 use lms_hss::HssKey;
 use std::marker::Model;
 
-/// The signature of a job, with its place and its index. `OpenLease` alone makes one.
+/// The signature of a job, with its place and its index. `OpenLease::sign_with` alone makes one. It has the private key in it.
 #[derive(Drop)]
 pub struct Receipt<'j> {
     pub(crate) key: HssKey,
@@ -41,7 +41,7 @@ impl<'j> Model for Receipt<'j> {
 }
 
 impl<'j> Receipt<'j> {
-    /// The key that signed.
+    /// The private key that signed.
     pub fn key(&self) -> HssKey
         ensures { result ≡ self.now.key }
     {
