@@ -1,5 +1,5 @@
 -- What an open lease answers.
-use Rattle.std.specs.Prelude.{◌≡◌, ℕ, ◌+◌, ◌<◌, Result, Ok, Err}
+use Rattle.std.specs.Prelude.{◌≡◌, ℕ, ◌+◌, ◌<◌, ◌≤◌, Result, Ok, Err}
 use Rattle.lms_hss.specs.Covered.{Covered}
 use Rattle.lms_pool.specs.declared.history.Reply.{Reply}
 use Rattle.lms_pool.specs.declared.history.Reply.TheVariants as replies
@@ -26,7 +26,8 @@ sign_reply (Ok signed) = replies.Place signed.place
 sign_reply (Err Ended) = replies.Ended
 sign_reply (Err (OutOfMemory pass)) = replies.Place pass.place
 
--- what a refusal hands back
-abbrev pub IsSignFault : PoolState → SignFault → Type 0
-IsSignFault pool Ended = Unit {0}
-IsSignFault pool (OutOfMemory pass) = pass.pool ≡ pool
+-- what a refusal says, where the seat had seen so many places go before and after: all are gone, or a pass of a place that it had not
+-- seen go is handed back
+abbrev pub IsSignFault : PoolState → ℕ → ℕ → SignFault → Type 0
+IsSignFault pool before after Ended = after ≡ pool.len
+IsSignFault pool before after (OutOfMemory pass) = (pass.pool ≡ pool) × (before ≤ pass.place)
