@@ -1,17 +1,18 @@
 -- Slots, and the signatures in them.
-use Rattle.std.proofs.Common.{◌≡◌, ℕ, zero, suc, ◌+◌, List, [], ◌∷◌, length, map, ◌++◌, append_assoc, append-nil, Option, None, Some, true, replicate, refl, ap, sym, ◌∙◌, arith, subst, Vec, Global}
+use Rattle.std.proofs.Common.{◌≡◌, ℕ, zero, suc, ◌+◌, ◌<◌, List, [], ◌∷◌, length, map, ◌++◌, append_assoc, append-nil, Option, None, Some, true, replicate, refl, ap, sym, ◌∙◌, arith, subst, Vec, Global}
 use Rattle.std.proofs.Math.ListN.{set}
 use Rattle.std.specs.List.{slice_get, filter_map}
 use Rattle.std.specs.Option.{option_map}
 use Rattle.std.specs.Prelude.{All, IsSome, is_some, false}
-use Rattle.std.proofs.lemmas.Option.{slice_get-map}
+use Rattle.std.proofs.lemmas.Option.{slice_get-map, slice_get_within}
 use Rattle.std.proofs.lemmas.List.{map-set}
 use Rattle.std.proofs.lemmas.List.Elements.{All-head, All-tail}
 use Rattle.std.proofs.lemmas.Bool.{false≢true, true≢false}
 use Rattle.std.proofs.lemmas.Grind.{common_steps}
 use Rattle.lms_hss.specs.declared.key.HssKey.{HssKey as KeyOfCode}
-use Rattle.lms_batch.specs.Jobs.{JobText, signature_of}
-use Rattle.lms_batch.specs.Batches.{batch_of, HoldsOnly, contents}
+use Rattle.lms_batch.specs.Jobs.{JobText, SignedJob, signature_of}
+use Rattle.lms_batch.specs.Batches.{Gathered, batch_of, HoldsOnly, contents}
+use Rattle.lms_batch.specs.Takes.{Belongs}
 
 pub length-batch_of : (key : KeyOfCode) (start : ℕ) (jobs : List JobText) → length (batch_of key start jobs) ≡ length jobs
 length-batch_of key start [] = refl
@@ -85,3 +86,7 @@ pub slice_get-contents-some : (slots : List (Option (Vec ℕ Global))) (k : ℕ)
     → (x : List ℕ) × (slice_get (contents slots) k ≡ Some (Some x))
 slice_get-contents-some slots k None at some = absurd (false≢true some)
 slice_get-contents-some slots k (Some v) at some = (v.items, rw (slice_get-map (option_map (λ v. v.items)) slots k, at) refl)
+
+-- a place of the batch is that of a slot
+pub place-within : (batch : Gathered) (signed : SignedJob) (slots : ℕ) → Belongs batch signed → slots ≡ length batch.jobs → signed.place < slots
+place-within batch signed slots belongs one_each = omega (arith, one_each, slice_get_within batch.jobs signed.place signed.job belongs.job)

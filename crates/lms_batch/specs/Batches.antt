@@ -1,5 +1,5 @@
 -- Batches of signatures, and what a collector has of one.
-use Rattle.std.specs.Prelude.{◌≡◌, ℕ, ◌+◌, ◌≤◌, ◌<◌, ◌^◌, List, [], ◌∷◌, Option, None, Some, length, map, replicate, slice_set, Vec}
+use Rattle.std.specs.Prelude.{◌≡◌, ℕ, ◌+◌, ◌≤◌, List, [], ◌∷◌, Option, None, Some, length, map, replicate, slice_set, Vec}
 use Rattle.std.specs.Global.{Global}
 use Rattle.std.specs.Option.{option_map}
 use Rattle.lms_hss.specs.declared.key.HssKey.{HssKey as KeyOfCode}
@@ -43,10 +43,9 @@ pub record IsSameBatch (old new : Gathered) : Type 0 where
   pub start : new.start ≡ old.start
   pub jobs : new.jobs ≡ old.jobs
 
--- what a collector of so many jobs keeps: each slot is empty or holds the signature of its job, and there is room to list all
-pub record IsGathering (gathered : Gathered) (jobs slots : ℕ) (listed : List (Vec ℕ Global)) (room : ℕ) : Type 0 where
+-- what a collector keeps: each slot is empty or holds the signature of its job, and there is room to list all
+pub record IsGathering (gathered : Gathered) (slots : ℕ) (listed : List (Vec ℕ Global)) (room : ℕ) : Type 0 where
   pub holds : HoldsOnly (batch_of gathered.key gathered.start gathered.jobs) gathered.slots
-  pub one_each : slots ≡ jobs
+  pub one_each : slots ≡ length gathered.jobs
   pub none_listed : listed ≡ []
   pub fits : slots ≤ room
-  pub bounded : gathered.start + jobs < 2 ^ 64

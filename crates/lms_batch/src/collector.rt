@@ -1,5 +1,5 @@
 //! Receipts are gathered into a batch.
-ghost use Rattle.std.specs.Prelude.{◌≡◌, ◌+◌, ◌<◌, ◌^◌, ◌↔◌, Some, None, IfOk, OnOk, IfErr, IsTrue, IsSome, MatchBool, Contains, All, length};
+ghost use Rattle.std.specs.Prelude.{◌≡◌, ◌↔◌, Some, None, IfOk, OnOk, IfErr, IsTrue, IsSome, MatchBool, Contains, All};
 ghost use Rattle.lms_batch.specs.Jobs.{texts_of};
 ghost use Rattle.lms_batch.specs.Batches.{IsSameBatch, none_of, with_signature};
 ghost use Rattle.lms_batch.specs.Takes.{Belongs, IsEmpty, IsFault, IsBatchOf};
@@ -50,7 +50,7 @@ pub struct Collector<'j> {
 }
 
 impl<'j> Model for Collector<'j> {
-    ghost use Rattle.std.specs.Prelude.{length, vec_len, vec_capacity};
+    ghost use Rattle.std.specs.Prelude.{vec_len, vec_capacity};
     ghost use Rattle.lms_batch.specs.Jobs.{texts_of};
     ghost use Rattle.lms_batch.specs.Batches.{Gathered, IsGathering, contents};
 
@@ -65,15 +65,13 @@ impl<'j> Model for Collector<'j> {
 
     ghost invariant = { λ c. IsGathering
         (record { key = c.key; start = c.start; jobs = texts_of c.jobs.now; slots = contents c.slots.items })
-        (length c.jobs.now) (vec_len c.slots) c.signatures.items (vec_capacity c.signatures) };
+        (vec_len c.slots) c.signatures.items (vec_capacity c.signatures) };
 }
 
 impl<'j> Collector<'j> {
-    /// A collector for these jobs, of which the one at place k is to be signed by index `start` + k of the key. `start` and the
-    /// number of jobs add up to less than 2^64. All memory that it and its batch need is taken here: `OutOfMemory` where it is
-    /// refused.
+    /// A collector for these jobs, of which the one at place k is to be signed by index `start` + k of the key. All memory that
+    /// it and its batch need is taken here: `OutOfMemory` where it is refused.
     pub fn new(alloc: Global, key: HssKey, start: u64, jobs: &'j [Job]) -> Result<Self, OutOfMemory>
-        requires { start + length jobs.now < 2 ^ 64 }
         ensures { IfOk result (λ c. c ≡ none_of key start (texts_of jobs.now)) }
     {
         let mut slots = Vec::with_capacity(alloc, jobs.len())?;
@@ -102,7 +100,7 @@ impl<'j> Collector<'j> {
             × (self.new ≡ self.old) × (e.1 ≡ receipt.entry)) }
         ensures batch { IsSameBatch self.old self.new }
     {
-        if !self.awaits(&receipt) {
+        if !self.is_of_batch(&receipt) {
             return Err((TakeFault::Stranger, receipt));
         }
         let place = receipt.place() as usize;
@@ -114,7 +112,7 @@ impl<'j> Collector<'j> {
     }
 
     /// Whether the receipt is of the key, with the index and the job of its place.
-    fn awaits(&self, receipt: &Receipt<'j>) -> bool
+    fn is_of_batch(&self, receipt: &Receipt<'j>) -> bool
         ensures { IsTrue result ↔ Belongs self.now receipt.now }
     {
         let place = receipt.place();
@@ -122,7 +120,7 @@ impl<'j> Collector<'j> {
             return false;
         }
         same_key(&receipt.key(), &self.key)
-            && receipt.index() == self.start + place
+            && receipt.index().checked_sub(self.start) == Some(place)
             && receipt.job().is_same(&self.jobs[place as usize])
     }
 

@@ -1,5 +1,5 @@
 //! Keys, leases and jobs of the tests. Memory that is refused once is asked for again.
-ghost use Rattle.std.specs.Prelude.{◌≡◌, ◌≤◌, IfOk};
+ghost use Rattle.std.specs.Prelude.{◌≡◌, ◌≤◌, [], IfOk};
 
 use crate::{Job, OpenLease};
 use lms_book::{Book, Lease, MemoryStore};
@@ -10,6 +10,9 @@ use lms_pool::DrawSeat;
 use std::alloc::Global;
 use std::test::Fail;
 use std::thread::Threads;
+
+/// How many writes a store has room for.
+const WRITES: usize = 8;
 
 /// The levels 5/8,5/8, with 1024 indices.
 pub(crate) const LEVELS: [(LmsType, OtsType); 2] = [(LmsType::H5, OtsType::W8); 2];
@@ -22,8 +25,9 @@ pub(crate) fn key_of(seed: u8) -> Result<HssKey, Fail> {
     Ok(HssKey::new(levels, [seed; 32], [0x22; 16]))
 }
 
-/// A book of the key whose next index is this one.
-fn book_at(alloc: Global, key: HssKey, start: u64) -> Result<Book<MemoryStore>, Fail> {
+/// A store that holds the image of such a key whose next index is this one.
+pub(crate) fn store_at(alloc: Global, seed: u8, start: u64) -> Result<MemoryStore, Fail> {
+    let key = key_of(seed)?;
     if start > key.capacity() {
         return Err(Fail::from("a start past the capacity"));
     }
@@ -31,10 +35,20 @@ fn book_at(alloc: Global, key: HssKey, start: u64) -> Result<Book<MemoryStore>, 
         key,
         counter: start,
     });
-    let store = MemoryStore::new(alloc, Some(image.as_slice()), 1);
-    let store = store.or_else(|_| MemoryStore::new(alloc, Some(image.as_slice()), 1))?;
-    let book = Book::open(alloc, store).or_else(|(_, store)| Book::open(alloc, store));
-    Ok(book.ok().ok_or("the store opens")?)
+    match MemoryStore::new(alloc, Some(image.as_slice()), WRITES) {
+        Ok(store) => Ok(store),
+        Err(_) => Ok(MemoryStore::new(alloc, Some(image.as_slice()), WRITES)?),
+    }
+}
+
+/// The book of a store that opens.
+pub(crate) fn book_of(alloc: Global, store: MemoryStore) -> Result<Book<MemoryStore>, Fail>
+    ensures { IfOk result (λ book. book.history ≡ []) }
+{
+    match Book::open(alloc, store) {
+        Ok(book) => Ok(book),
+        Err((_, store)) => Ok(Book::open(alloc, store).ok().ok_or("the store opens")?),
+    }
 }
 
 /// A lease of `len` indices of such a key from `start` on.
@@ -43,7 +57,7 @@ pub(crate) fn lease(alloc: Global, seed: u8, start: u64, len: u64) -> Result<Lea
     requires at_most { len ≤ 1024 }
     ensures { IfOk result (λ lease. lease.len ≡ len) }
 {
-    let mut book = book_at(alloc, key_of(seed)?, start)?;
+    let mut book = book_of(alloc, store_at(alloc, seed, start)?)?;
     let lease = match book.reserve(len) {
         Ok(lease) => Ok(lease),
         Err(_) => book.reserve(len),

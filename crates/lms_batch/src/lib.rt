@@ -3,15 +3,21 @@
 #![tactic(auto)]
 
 mod collector;
+mod crew;
 #[cfg(test)]
 mod fixtures;
+mod gate;
 mod job;
 mod open_lease;
 mod receipt;
+mod service;
 #[cfg(test)]
 mod tests;
+mod worker;
 
 pub use crate::collector::{Batch, Collector, TakeFault};
+pub use crate::gate::{Gate, OpenGate};
 pub use crate::job::Job;
 pub use crate::open_lease::{OpenLease, SignFault};
 pub use crate::receipt::Receipt;
+pub use crate::service::{BatchFault, SigningService};

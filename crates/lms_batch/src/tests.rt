@@ -173,7 +173,7 @@ fn a_place_takes_its_receipt_once(rt: HostRuntime) -> Result<(), Fail> {
 }
 
 /// Whether a batch is complete, from this index on, with the slow signer's signatures of these jobs, which the verifier accepts.
-fn is_complete(
+pub(crate) fn is_complete(
     rt: &(impl AllocGlobal + Threads + Sync),
     batch: &Batch,
     first: u64,

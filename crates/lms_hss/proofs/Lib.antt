@@ -4,3 +4,4 @@ pub mod SameKeys
 pub mod Ranges
 pub mod Sets
 pub mod SignedKeys
+pub mod Sent

@@ -1,29 +1,14 @@
 -- A pool may be shared by threads, and it and its seats may go to another thread.
 use borrow.Author.Rules.{rules}
-use denote.Param.Send.{IsSend, IsSync, sendable, struct_send, struct_sync}
+use denote.Param.Send.{IsSend, IsSync, sendable}
 use denote.Memory.{part_of}
-use denote.Struct.Struct.{Struct}
-use denote.Struct.Declared.{shape}
 use types.Keyed.{entry}
 use Rattle.std.proofs.Crossing.{crosses}
 use Rattle.atomic_table.proofs.shared.Shared.TheSendSync.{the_sync as table_sync, the_send as table_send}
 use Rattle.atomic_table.proofs.send_lease.SendLease.TheSendSync.{the_sync as memory_sync, the_send as memory_send}
-use Rattle.lms_hss.specs.contracts.levels.Levels as levels
-use Rattle.lms_hss.specs.contracts.key.HssKey as key
+use Rattle.lms_hss.proofs.Sent.{key_is_shared, key_is_sent}
 use Rattle.lms_pool.specs.contracts.pool.IndexPool as pool
 use Rattle.lms_pool.specs.contracts.seat.DrawSeat as draw_seat
-
-levels_are_shared : IsSync levels.the_row
-levels_are_shared = search sendable depth 20
-
-levels_are_sent : IsSend levels.the_row
-levels_are_sent = search sendable depth 20
-
-pub key_is_shared : IsSync (Struct (shape key.the_type))
-key_is_shared = struct_sync (shape key.the_type) (levels_are_shared, (search sendable depth 20, (search sendable depth 20, tt)))
-
-pub key_is_sent : IsSend (Struct (shape key.the_type))
-key_is_sent = struct_send (shape key.the_type) (levels_are_sent, (search sendable depth 20, (search sendable depth 20, tt)))
 
 pub pool_is_shared : IsSync pool.the_row
 pool_is_shared = search (table_sync, memory_sync, key_is_shared, sendable, crosses) depth 20

@@ -13,10 +13,9 @@ empty c =
 pub invariant_of-result : goal.invariant_of-result
 invariant_of-result c = record {
   holds = rw (empty c) (HoldsOnly-none _ _ (length-batch_of c.args.key c.args.start (texts_of c.args.jobs.now)));
-  one_each = omega arith;
+  one_each = omega (arith, length-map c.args.jobs.now text_of);
   none_listed = search rules;
   fits = search rules;
-  bounded = c.requires;
 }
 
 pub returns : goal.returns

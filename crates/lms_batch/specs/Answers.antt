@@ -1,0 +1,50 @@
+-- What a service answers to a list of jobs.
+use Rattle.std.specs.Prelude.{◌≡◌, ℕ, ◌<◌, List, [], Option, Result, Ok, Err, min}
+use Rattle.lms_hss.specs.declared.key.HssKey.{HssKey as KeyOfCode}
+use Rattle.lms_book.specs.declared.refusals.BookFault.{BookFault}
+use Rattle.lms_book.specs.States.{BookState, LeaseState}
+use Rattle.lms_book.specs.Books.{ReservesInOrder}
+use Rattle.lms_shared_book.specs.Desks.{Sums, sums, plus, Counts}
+use Rattle.lms_batch.specs.Jobs.{JobText}
+use Rattle.lms_batch.specs.Takes.{IsBatchOf}
+use Rattle.lms_batch.specs.declared.collector.Batch.{Batch}
+use Rattle.lms_batch.specs.declared.collector.Batch.TheVariants.{Complete, Partial}
+use Rattle.lms_batch.specs.declared.service.BatchFault.{BatchFault}
+use Rattle.lms_batch.specs.declared.service.BatchFault.TheVariants.{TooMany, Book, OutOfMemory}
+
+-- the signatures of all jobs by indices from a start on; or those of some, each in its slot, and an empty slot
+abbrev pub IsAnswerTo : KeyOfCode → ℕ → List JobText → Batch → Type 0
+IsAnswerTo key start jobs batch =
+    (slots : List (Option (List ℕ))) × IsBatchOf (record { key = key; start = start; jobs = jobs; slots = slots }) batch
+
+abbrev pub start_of : Batch → ℕ
+start_of (Complete start signatures) = start
+start_of (Partial start slots) = start
+
+-- the batch of no jobs
+abbrev pub IsNone : Batch → Type 0
+IsNone (Complete start signatures) = (start ≡ 0) × (signatures.items ≡ [])
+IsNone (Partial start slots) = ⊥
+
+-- what a desk counts of a batch of so many jobs: one entry, where there are any, and an index received for each
+abbrev pub CountsBatch : ℕ → Sums → Result Batch BatchFault → Sums → Type 0
+CountsBatch count old (Ok batch) new = new ≡ plus old (sums (min 1 count) count 0)
+CountsBatch count old (Err TooMany) new = (1024 < count) × (new ≡ old)
+CountsBatch count old (Err (Book fault)) new = Counts count old (Err fault) new
+CountsBatch count old (Err (OutOfMemory burnt)) new = (burnt ≡ count) × (new ≡ plus old (sums 1 count 0))
+
+-- what is answered where the reservation was answered so: a lease's batch begins with its first index
+abbrev pub IsAnswerAfter : Result LeaseState BookFault → Result Batch BatchFault → Type 0
+IsAnswerAfter (Ok lease) (Ok batch) = start_of batch ≡ lease.start
+IsAnswerAfter (Ok lease) (Err (OutOfMemory burnt)) = burnt ≡ lease.len
+IsAnswerAfter (Err refused) (Err (Book fault)) = fault ≡ refused
+IsAnswerAfter (Ok lease) (Err TooMany) = ⊥
+IsAnswerAfter (Ok lease) (Err (Book fault)) = ⊥
+IsAnswerAfter (Err refused) (Ok batch) = ⊥
+IsAnswerAfter (Err refused) (Err TooMany) = ⊥
+IsAnswerAfter (Err refused) (Err (OutOfMemory burnt)) = ⊥
+
+-- the answer is that of one reservation of so many indices of the key
+abbrev pub ReservesOnce : KeyOfCode → ℕ → Result Batch BatchFault → Type 0
+ReservesOnce key count answer = (old new : BookState) × (reserved : Result LeaseState BookFault) × (old.key ≡ key)
+    × ReservesInOrder count old reserved new × IsAnswerAfter reserved answer

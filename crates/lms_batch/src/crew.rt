@@ -1,0 +1,129 @@
+//! The workers of a batch, each in a thread of its own where one can be started.
+ghost use Rattle.std.specs.Prelude.{◌≡◌, ◌+◌, ◌<◌, ◌≤◌, ◌^◌, All, IfOk, IfErr, length, vec_len, vec_capacity};
+ghost use Rattle.lms_batch.specs.Jobs.{texts_of};
+ghost use Rattle.lms_batch.specs.Batches.{none_of};
+ghost use Rattle.lms_batch.specs.Answers.{IsAnswerTo};
+
+use crate::collector::{Batch, Collector};
+use crate::gate::Gate;
+use crate::job::Job;
+use crate::open_lease::OpenLease;
+use crate::receipt::Receipt;
+use crate::worker::Worker;
+use lms_book::Lease;
+use lms_hss::HssKey;
+use lms_params::OutOfMemory;
+use lms_pool::DrawSeat;
+use std::alloc::Global;
+use std::thread::{self, Threads};
+
+/// All memory of a batch but its signatures and its open lease: a collector, and for each worker a place and room for the
+/// receipts of all jobs.
+#[derive(Drop)]
+struct Crew<'a> {
+    collector: Collector<'a>,
+    jobs: &'a [Job],
+    rooms: Vec<Vec<Receipt<'a>>>,
+    workers: Vec<Worker<'a>>,
+    ghost none: { collector ≡ none_of collector.key collector.start (texts_of jobs.now) },
+    ghost room: { All (λ room. (vec_len room ≡ 0) × (length jobs.now ≤ vec_capacity room)) rooms.items },
+    ghost fits: { vec_len workers + vec_len rooms ≤ vec_capacity workers },
+}
+
+impl<'a> Crew<'a> {
+    /// A crew of so many workers for jobs that are signed by indices of the key from `start` on.
+    fn new(
+        alloc: Global,
+        key: HssKey,
+        start: u64,
+        jobs: &'a [Job],
+        workers: usize,
+    ) -> Result<Crew<'a>, OutOfMemory>
+        requires { start + length jobs.now < 2 ^ 64 }
+        ensures batch { IfOk result (λ crew. crew.collector ≡ none_of key start (texts_of jobs.now)) }
+        ensures jobs { IfOk result (λ crew. crew.jobs.now ≡ jobs.now) }
+        ensures rooms { IfOk result (λ crew. vec_len crew.rooms ≡ workers) }
+    {
+        let collector = Collector::new(alloc, key, start, jobs)?;
+        let mut rooms = Vec::with_capacity(alloc, workers)?;
+        for _ in 0..workers {
+            rooms.push(Vec::with_capacity(alloc, jobs.len())?)?;
+        }
+        Ok(Crew {
+            collector,
+            jobs,
+            rooms,
+            workers: Vec::with_capacity(alloc, workers)?,
+        })
+    }
+}
+
+impl<'a> Crew<'a> {
+    /// Gives each worker a seat of the open lease.
+    fn seated(self, lease: &'a OpenLease, seats: Vec<DrawSeat>) -> (Collector<'a>, Vec<Worker<'a>>)
+        requires places { lease.now.len ≡ length self.jobs.now }
+        requires own { All (λ seat. seat.pool ≡ lease.now) seats.items }
+        ensures { result.0 ≡ self.entry.collector }
+    {
+        let Crew {
+            collector,
+            jobs,
+            mut rooms,
+            mut workers,
+        } = self;
+        let mut seats = seats;
+        while let (Some(seat), Some(room)) = (seats.pop(), rooms.pop()) {
+            workers.push_reserved(Worker::new(lease, jobs, seat, room));
+        }
+        (collector, workers)
+    }
+}
+
+/// The batch of the receipts of all workers.
+fn gathered<'a>(collector: Collector<'a>, workers: Vec<Worker<'a>>) -> Batch
+    ensures { IsAnswerTo collector.entry.key collector.entry.start collector.entry.jobs result }
+{
+    let mut collector = collector;
+    for worker in workers {
+        for receipt in worker.into_receipts() {
+            // Each is of this batch, and of a place of its own.
+            let _ = collector.take(receipt);
+        }
+    }
+    collector.finish()
+}
+
+/// Signs the jobs by the indices of the lease, one for each, by 1 to 64 workers.
+///
+/// `OutOfMemory` where memory is refused before any worker runs, with the lease handed back as it was.
+pub(crate) fn sign_leased<R: Threads + Sync, G: Gate>(
+    rt: &R,
+    alloc: Global,
+    lease: Lease,
+    jobs: &[Job],
+    workers: usize,
+    gate: &G,
+) -> Result<Batch, (OutOfMemory, Lease)>
+    requires some { 1 ≤ workers }
+    requires at_most { workers ≤ 64 }
+    requires len { lease.len ≡ length jobs.now }
+    ensures ok { IfOk result (IsAnswerTo lease.key lease.start (texts_of jobs.now)) }
+    ensures err { IfErr result (λ e. e.1 ≡ lease) }
+{
+    let crew = match Crew::new(alloc, lease.key(), lease.start(), jobs, workers) {
+        Ok(crew) => crew,
+        Err(refused) => return Err((refused, lease)),
+    };
+    let (opened, seats) = OpenLease::new(rt, alloc, lease, workers)?;
+    let (collector, mut workers) = crew.seated(&opened, seats);
+    let threads = workers.len();
+    if threads > 0 {
+        thread::for_each_mut(
+            rt,
+            &mut workers,
+            threads,
+            &|_, worker: &mut Worker| { worker.work(gate) },
+        );
+    }
+    Ok(gathered(collector, workers))
+}

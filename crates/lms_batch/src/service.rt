@@ -1,0 +1,122 @@
+//! Batches over a shared book.
+ghost use Rattle.std.specs.Prelude.{◌≡◌, ◌<◌, ◌≤◌, ◌+◌, ◌↔◌, Err, IfOk, length};
+ghost use Rattle.lms_spec.specs.Hss.{capacity_of};
+ghost use Rattle.lms_hss.specs.Keys.{hss_key_of};
+ghost use Rattle.lms_batch.specs.Jobs.{texts_of};
+ghost use Rattle.lms_batch.specs.Answers.{IsAnswerTo, IsNone, CountsBatch, ReservesOnce, start_of};
+
+use crate::collector::Batch;
+use crate::crew::sign_leased;
+use crate::gate::Gate;
+use crate::job::Job;
+use lms_book::{BookFault, StateStore};
+use lms_hss::HssKey;
+use lms_shared_book::{Desk, SharedBook, Tally};
+use std::alloc::Global;
+use std::marker::{Model, Sync};
+use std::sync::Wait;
+use std::thread::Threads;
+use thiserror::Error;
+
+#[cfg(test)]
+mod tests;
+
+/// Why no batch was made.
+#[derive(Clone, Copy, Debug, PartialEq, Eq, Error)]
+pub enum BatchFault {
+    /// There are more than 1024 jobs.
+    #[error("too many jobs")]
+    TooMany,
+    /// The reservation was refused.
+    #[error("{0}")]
+    Book(BookFault),
+    /// Memory was refused after the reservation, whose indices are burnt.
+    #[error("out of memory: {burnt} burnt")]
+    OutOfMemory { burnt: u64 },
+}
+
+/// Signs batches by the indices of a shared book. Contracts see what they see of the book.
+#[derive(Drop)]
+pub struct SigningService<S: StateStore, E: Tally, G: Tally, B: Tally> {
+    book: SharedBook<S, E, G, B>,
+}
+
+impl<S: StateStore, E: Tally, G: Tally, B: Tally> Model for SigningService<S, E, G, B> {
+    ghost use Rattle.lms_shared_book.specs.Desks.{SharedState};
+
+    ghost Value = { SharedState };
+
+    ghost view = { λ s. s.book };
+}
+
+impl<S: StateStore, E: Tally, G: Tally, B: Tally> SigningService<S, E, G, B> {
+    /// The service over a shared book.
+    pub fn over(book: SharedBook<S, E, G, B>) -> Self
+        ensures { result ≡ book }
+    {
+        SigningService { book }
+    }
+
+    /// The key of the book that is shared.
+    pub fn key(&self) -> HssKey
+        ensures { result ≡ self.now.key }
+    {
+        self.book.key()
+    }
+
+    /// Hands the shared book back.
+    pub fn into_book(self) -> SharedBook<S, E, G, B>
+        ensures { result ≡ self }
+    {
+        self.book
+    }
+
+    /// Reserves as many indices as there are jobs, at most 1024, and signs the job at place k by the k-th of them, by 1 to 64
+    /// workers at once, the caller's thread among them. Waits for the book's lock, and for the workers. No jobs make a complete
+    /// batch of none from 0 on, and take no index.
+    ///
+    /// `TooMany` over 1024 jobs, with nothing reserved. `Book` where the reservation is refused, as `SharedBook::reserve`
+    /// answers it. `OutOfMemory` where memory is refused after it, before any worker ran: all its indices are burnt. A worker
+    /// that is refused memory burns the indices that no worker has claimed, and the batch is `Partial`. Where no thread can be
+    /// started for a worker, it runs after another one.
+    pub fn sign_batch<R: Threads + Wait + Sync, W: Gate>(
+        &self,
+        rt: &R,
+        alloc: Global,
+        desk: &mut Desk<E, G, B>,
+        jobs: &[Job],
+        workers: usize,
+        gate: &W,
+    ) -> Result<Batch, BatchFault>
+        requires some { 1 ≤ workers }
+        requires at_most { workers ≤ 64 }
+        ensures answer { IfOk result (λ batch. IsAnswerTo self.now.key (start_of batch) (texts_of jobs.now) batch) }
+        ensures within { IfOk result (λ batch. start_of batch + length jobs.now ≤ capacity_of (hss_key_of self.now.key)) }
+        ensures none { length jobs.now ≡ 0 → IfOk result IsNone }
+        ensures too_many { (result ≡ Err BatchFault.TooMany) ↔ (1024 < length jobs.now) }
+        ensures desk { CountsBatch (length jobs.now) desk.old result desk.new }
+        ensures once { 1 ≤ length jobs.now → length jobs.now ≤ 1024 → ReservesOnce self.now.key (length jobs.now) result }
+    {
+        if jobs.len() > 1024 {
+            return Err(BatchFault::TooMany);
+        }
+        if jobs.is_empty() {
+            return Ok(Batch::Complete {
+                start: 0,
+                signatures: Vec::new(alloc),
+            });
+        }
+        let count = jobs.len() as u64;
+        let lease = match self.book.reserve(rt, desk, count) {
+            Ok(lease) => lease,
+            Err(refused) => return Err(BatchFault::Book(refused)),
+        };
+        match sign_leased(rt, alloc, lease, jobs, workers, gate) {
+            Ok(batch) => Ok(batch),
+            Err((_, lease)) => {
+                self.book.give_back(lease);
+                Err(BatchFault::OutOfMemory { burnt: count })
+            }
+        }
+    }
+}

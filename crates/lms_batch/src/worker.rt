@@ -1,0 +1,81 @@
+//! Workers, each of which signs the jobs of the places that it claims.
+ghost use Rattle.std.specs.Prelude.{◌≡◌, ◌+◌, ◌≤◌, length, vec_len, vec_capacity};
+
+use crate::gate::Gate;
+use crate::job::Job;
+use crate::open_lease::OpenLease;
+use crate::receipt::Receipt;
+use lms_pool::DrawSeat;
+
+/// A worker at a seat of an open lease. It has room for a receipt of each job that it may still sign.
+#[derive(Drop)]
+pub(crate) struct Worker<'a> {
+    lease: &'a OpenLease,
+    jobs: &'a [Job],
+    seat: DrawSeat,
+    to_sign: usize,
+    receipts: Vec<Receipt<'a>>,
+    ghost own: { seat.pool ≡ lease.now },
+    ghost places: { lease.now.len ≡ length jobs.now },
+    ghost room: { vec_len receipts + to_sign ≤ vec_capacity receipts },
+}
+
+impl<'a> Worker<'a> {
+    /// A worker for these jobs, one for each place of the lease, with room for their receipts.
+    pub(crate) fn new(
+        lease: &'a OpenLease,
+        jobs: &'a [Job],
+        seat: DrawSeat,
+        room: Vec<Receipt<'a>>,
+    ) -> Worker<'a>
+        requires own { seat.pool ≡ lease.now }
+        requires places { lease.now.len ≡ length jobs.now }
+        requires empty { vec_len room ≡ 0 }
+        requires room { length jobs.now ≤ vec_capacity room }
+    {
+        Worker {
+            lease,
+            jobs,
+            seat,
+            to_sign: jobs.len(),
+            receipts: room,
+        }
+    }
+
+    /// Signs the jobs of the places that it claims, until no place is left or memory is refused.
+    pub(crate) fn work<G: Gate>(&mut self, gate: &G) {
+        while self.to_sign > 0 {
+            let Some(receipt) = self.sign_next(gate) else {
+                break;
+            };
+            self.to_sign -= 1;
+            self.receipts.push_reserved(receipt);
+        }
+    }
+
+    /// Claims a place and signs its job. `None` where no place is left, and where memory is refused: then the pass is burnt and
+    /// the pool stopped.
+    fn sign_next<G: Gate>(&mut self, gate: &G) -> Option<Receipt<'a>>
+        ensures { self.new.to_sign ≡ self.old.to_sign }
+    {
+        let pass = self.lease.claim(&mut self.seat).ok()?;
+        let place = pass.place();
+        gate.before_sign(place);
+        match self.lease.sign_with(pass, &self.jobs[place as usize]) {
+            Ok(receipt) => {
+                gate.after_sign(place);
+                Some(receipt)
+            }
+            Err((_, pass)) => {
+                pass.burn();
+                self.lease.stop(&mut self.seat);
+                None
+            }
+        }
+    }
+
+    /// The receipts of the jobs that it signed.
+    pub(crate) fn into_receipts(self) -> Vec<Receipt<'a>> {
+        self.receipts
+    }
+}
