@@ -25,6 +25,17 @@ pub(crate) fn key_of(seed: u8) -> Result<HssKey, Fail> {
     Ok(HssKey::new(levels, [seed; 32], [0x22; 16]))
 }
 
+/// The public key of a key.
+pub(crate) fn public_key(
+    rt: &(impl AllocGlobal + Threads + Sync),
+    key: HssKey,
+) -> Result<[u8; 60], Fail> {
+    match key.public_key(rt, rt.alloc()) {
+        Ok(public) => Ok(public),
+        Err(_) => Ok(key.public_key(rt, rt.alloc())?),
+    }
+}
+
 /// A store that holds the image of such a key whose next index is this one.
 pub(crate) fn store_at(alloc: Global, seed: u8, start: u64) -> Result<MemoryStore, Fail> {
     let key = key_of(seed)?;

@@ -80,7 +80,7 @@ impl<'j> Receipt<'j> {
     }
 
     /// The signature, for keeping.
-    pub(crate) fn into_signature(self) -> Vec<u8>
+    pub fn into_signature(self) -> Vec<u8>
         ensures value { result.items ≡ self.entry.signature }
         ensures signed { IsSigned self.entry }
     {

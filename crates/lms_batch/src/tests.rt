@@ -1,7 +1,8 @@
-ghost use Rattle.std.specs.Prelude.{◌≡◌, ◌≤◌, length};
+ghost use Rattle.std.specs.Prelude.{◌≡◌, ◌≤◌};
 
-use crate::fixtures::{LEVELS, job, key_of, opened};
-use crate::{Batch, Collector, Job, OpenLease, Receipt, SignFault, TakeFault};
+use crate::fixtures::{LEVELS, job, key_of, opened, public_key};
+use crate::{Batch, BatchFault, Collector, Job, OpenLease, Receipt, SignFault, TakeFault};
+use lms_book::BookFault;
 use lms_hss::verify;
 use lms_params::OutOfMemory;
 use lms_pool::{DrawSeat, IndexPass, MissingSeats, Tally};
@@ -20,7 +21,7 @@ fn slow(alloc: Global, g: u64, job: &Job) -> Result<Vec<u8>, Fail> {
     Ok(slow_sign(alloc, &key, g, &job.c, &job.message)?)
 }
 
-/// Signs a job at the next place. Takes no runtime, so it waits for nobody. Where memory was refused, the pass is tried again.
+/// Signs a job at the next place. Takes no runtime, so it waits for nobody.
 fn signed<'j>(lease: &OpenLease, seat: &mut DrawSeat, job: &'j Job) -> Result<Receipt<'j>, Fail>
     requires { seat.old.pool ≡ lease.now }
     ensures { seat.new.pool ≡ lease.now }
@@ -28,21 +29,51 @@ fn signed<'j>(lease: &OpenLease, seat: &mut DrawSeat, job: &'j Job) -> Result<Re
     match lease.sign(seat, job) {
         Ok(receipt) => Ok(receipt),
         Err(SignFault::Ended) => Err(Fail::from("no place is left")),
-        Err(SignFault::OutOfMemory(pass)) => signed_again(lease, pass, job),
-    }
-}
-
-/// Signs a job with a pass.
-fn signed_again<'j>(lease: &OpenLease, pass: IndexPass, job: &'j Job) -> Result<Receipt<'j>, Fail>
-    requires { pass.pool ≡ lease.now }
-{
-    match lease.sign_with(pass, job) {
-        Ok(receipt) => Ok(receipt),
-        Err((_, pass)) => {
+        Err(SignFault::OutOfMemory(pass)) => {
             pass.burn();
             Err(Fail::from("memory for a signature"))
         }
     }
+}
+
+/// Claims the next place, and signs a job there. Takes no runtime.
+fn signed_after_claim<'j>(
+    lease: &OpenLease,
+    seat: &mut DrawSeat,
+    job: &'j Job,
+) -> Result<Receipt<'j>, Fail>
+    requires { seat.old.pool ≡ lease.now }
+    ensures { seat.new.pool ≡ lease.now }
+{
+    match lease.claim(seat) {
+        Ok(pass) => signed_with(lease, pass, job),
+        Err(_) => Err(Fail::from("no place is left")),
+    }
+}
+
+/// Signs a job at the next place, with the pass that is handed back where memory was refused.
+fn signed_at_last<'j>(
+    lease: &OpenLease,
+    seat: &mut DrawSeat,
+    job: &'j Job,
+) -> Result<Receipt<'j>, Fail>
+    requires { seat.old.pool ≡ lease.now }
+    ensures { seat.new.pool ≡ lease.now }
+{
+    match lease.sign(seat, job) {
+        Ok(receipt) => Ok(receipt),
+        Err(SignFault::Ended) => Err(Fail::from("no place is left")),
+        Err(SignFault::OutOfMemory(pass)) => signed_with(lease, pass, job),
+    }
+}
+
+/// Signs a job with a pass.
+fn signed_with<'j>(lease: &OpenLease, pass: IndexPass, job: &'j Job) -> Result<Receipt<'j>, Fail>
+    requires { pass.pool ≡ lease.now }
+{
+    let signed = lease.sign_with(pass, job);
+    let signed = signed.map_err(|(_, pass)| pass.burn());
+    Ok(signed.ok().ok_or("memory for a signature")?)
 }
 
 /// Whether no place is left to sign a job at.
@@ -60,21 +91,33 @@ fn has_ended(lease: &OpenLease, seat: &mut DrawSeat, job: &Job) -> bool
     }
 }
 
-/// Whether the next receipt is of this place and index, and its signature the slow signer's.
-fn signs_at(
+/// Whether a receipt is of this place and index, and its signature the slow signer's of the job.
+fn is_at(
+    alloc: Global,
+    receipt: &Receipt,
+    job: &Job,
+    place: u64,
+    index: u64,
+) -> Result<bool, Fail> {
+    let is_there = receipt.place() == place && receipt.index() == index;
+    Ok(is_there && receipt.signature() == slow(alloc, index, job)?.as_slice())
+}
+
+/// Whether the next receipt is right, and the one after it, made by a claim and a signature.
+fn signs_twice(
     alloc: Global,
     lease: &OpenLease,
     seat: &mut DrawSeat,
     job: &Job,
-    place: u64,
-    index: u64,
+    start: u64,
 ) -> Result<bool, Fail>
-    requires { seat.old.pool ≡ lease.now }
+    requires within { start ≤ 900 }
+    requires own { seat.old.pool ≡ lease.now }
     ensures { seat.new.pool ≡ lease.now }
 {
-    let receipt = signed(lease, seat, job)?;
-    let is_there = receipt.place() == place && receipt.index() == index;
-    Ok(is_there && receipt.signature() == slow(alloc, index, job)?.as_slice())
+    let first = signed(lease, seat, job)?;
+    let second = signed_after_claim(lease, seat, job)?;
+    Ok(is_at(alloc, &first, job, 0, start)? && is_at(alloc, &second, job, 1, start + 1)?)
 }
 
 /// Ends a lease whose one seat is there.
@@ -96,8 +139,7 @@ fn finished(alloc: Global, lease: OpenLease, seat: DrawSeat) -> Result<Tally, Fa
 fn signs_without_a_wait(rt: HostRuntime) -> Result<(), Fail> {
     let (lease, mut seat) = opened(&rt, 0x11, 31, 4)?;
     let job = job(rt.alloc(), b"abc")?;
-    assert!(rt; signs_at(rt.alloc(), &lease, &mut seat, &job, 0, 31)?);
-    assert!(rt; signs_at(rt.alloc(), &lease, &mut seat, &job, 1, 32)?);
+    assert!(rt; signs_twice(rt.alloc(), &lease, &mut seat, &job, 31)?);
     assert_eq!(rt; lease.look(&mut seat), 2);
     assert_eq!(rt; lease.stop(&mut seat), 2);
     assert!(rt; has_ended(&lease, &mut seat, &job));
@@ -145,30 +187,37 @@ fn refusal_of_another<'j>(
     Ok(refusal(collector, receipt))
 }
 
+/// Receipts of another book: the seed of its key, where its lease begins, the place of the lease, which of two jobs, and why it is
+/// not taken, one after another.
+const RECEIPTS: [(u8, u64, u64, usize, Option<TakeFault>); 7] = [
+    (0x11, 30, 0, 0, None),
+    (0x11, 30, 0, 0, Some(TakeFault::Twice)),
+    (0x12, 30, 0, 0, Some(TakeFault::Stranger)),
+    (0x12, 30, 1, 1, Some(TakeFault::Stranger)),
+    (0x11, 29, 1, 1, Some(TakeFault::Stranger)),
+    (0x11, 30, 2, 1, Some(TakeFault::Stranger)),
+    (0x11, 30, 1, 0, Some(TakeFault::Stranger)),
+];
+
+/// Whether a batch begins with index 30 and has the slow signer's signature of its first job alone.
+fn has_the_first_alone(alloc: Global, batch: &Batch, first: &Job) -> Result<bool, Fail> {
+    let Batch::Partial { start, slots } = batch else {
+        return Ok(false);
+    };
+    let expected = [Some(slow(alloc, 30, first)?), None];
+    Ok(*start == 30 && slots.as_slice() == expected.as_slice())
+}
+
 #[test]
 fn a_place_takes_its_receipt_once(rt: HostRuntime) -> Result<(), Fail> {
     let jobs = [job(rt.alloc(), b"abc")?, job(rt.alloc(), b"")?];
-    let [first, second] = &jobs;
     let mut collector = Collector::new(rt.alloc(), key_of(0x11)?, 30, &jobs)?;
-    let none = refusal_of_another(&rt, &mut collector, 0x11, 30, 0, first)?;
-    assert_eq!(rt; none, None);
-    let twice = refusal_of_another(&rt, &mut collector, 0x11, 30, 0, first)?;
-    assert_eq!(rt; twice, Some(TakeFault::Twice));
-    for (seed, start, before) in [(0x12, 30, 1), (0x11, 29, 1), (0x11, 30, 2)] {
-        let stranger = refusal_of_another(&rt, &mut collector, seed, start, before, second)?;
-        assert_eq!(rt;
-            stranger,
-            Some(TakeFault::Stranger),
-            "{seed} {start} {before}"
-        );
+    for (seed, start, place, of, expected) in RECEIPTS {
+        let job = jobs.get(of).ok_or("one of two jobs")?;
+        let found = refusal_of_another(&rt, &mut collector, seed, start, place, job)?;
+        assert_eq!(rt; found, expected, "{seed} {start} {place} {of}");
     }
-    let stranger = refusal_of_another(&rt, &mut collector, 0x11, 30, 1, first)?;
-    assert_eq!(rt; stranger, Some(TakeFault::Stranger));
-    let Batch::Partial { start, slots } = collector.finish() else {
-        return Err(Fail::from("a slot is empty"));
-    };
-    assert_eq!(rt; start, 30);
-    assert!(rt; slots.as_slice() == [Some(slow(rt.alloc(), 30, first)?), None].as_slice());
+    assert!(rt; has_the_first_alone(rt.alloc(), &collector.finish(), &jobs[0])?);
     Ok(())
 }
 
@@ -184,7 +233,7 @@ pub(crate) fn is_complete(
     let Batch::Complete { start, signatures } = batch else {
         return Ok(false);
     };
-    let public = key_of(0x11)?.public_key(rt, rt.alloc())?;
+    let public = public_key(rt, key_of(0x11)?)?;
     let mut is_right = *start == first && signatures.len() == jobs.len();
     for ((signature, job), g) in signatures.iter().zip(jobs).zip(first..1024) {
         let slow = slow(rt.alloc(), g, job)?;
@@ -207,9 +256,7 @@ fn a_batch_is_in_the_order_of_its_jobs(rt: HostRuntime) -> Result<(), Fail> {
 }
 
 /// A collector for jobs from index 5 on. Memory that is refused once is asked for again.
-fn collector_of(alloc: Global, jobs: &[Job]) -> Result<Collector<'_>, Fail>
-    requires { length jobs.now ≤ 1024 }
-{
+fn collector_of(alloc: Global, jobs: &[Job]) -> Result<Collector<'_>, Fail> {
     let key = key_of(0x11)?;
     match Collector::new(alloc, key, 5, jobs) {
         Ok(collector) => Ok(collector),
@@ -222,7 +269,7 @@ fn collector_of(alloc: Global, jobs: &[Job]) -> Result<Collector<'_>, Fail>
 fn a_lease_signs_after_refused_memory(rt: HostRuntime) -> Result<(), Fail> {
     let jobs = [job(rt.alloc(), b"abc")?];
     let (lease, mut seat) = opened(&rt, 0x11, 5, 1)?;
-    let receipt = signed(&lease, &mut seat, &jobs[0])?;
+    let receipt = signed_at_last(&lease, &mut seat, &jobs[0])?;
     assert_eq!(rt; (receipt.place(), receipt.index()), (0, 5));
     let mut collector = collector_of(rt.alloc(), &jobs)?;
     assert_eq!(rt; refusal(&mut collector, receipt), None);
@@ -235,5 +282,27 @@ fn a_lease_signs_after_refused_memory(rt: HostRuntime) -> Result<(), Fail> {
             }
         )
     );
+    Ok(())
+}
+
+#[test]
+fn faults_say_what_failed(rt: HostRuntime) -> Result<(), Fail> {
+    let said = [
+        TakeFault::Stranger.to_string(rt.alloc())?,
+        TakeFault::Twice.to_string(rt.alloc())?,
+        BatchFault::TooMany.to_string(rt.alloc())?,
+        BatchFault::Book(BookFault::Exhausted { left: 3 }).to_string(rt.alloc())?,
+        BatchFault::OutOfMemory { burnt: 4 }.to_string(rt.alloc())?,
+    ];
+    let expected = [
+        "the receipt is not of this batch",
+        "the place has a signature",
+        "too many jobs",
+        "exhausted: 3 left",
+        "out of memory: 4 burnt",
+    ];
+    for (said, expected) in said.iter().zip(expected) {
+        assert_eq!(rt; said.as_str(), expected);
+    }
     Ok(())
 }

@@ -1,8 +1,6 @@
 -- Why a book's next index signed nothing, as told of the state in its world.
-use Rattle.std.proofs.Common.{◌≡◌, ◌∙◌, ◌⊎◌, inl, inr, ⊎_elim, ℕ, ◌+◌, ◌<◌, List, refl, sym, ap, subst, arith}
+use Rattle.std.proofs.Common.{◌≡◌, ◌∙◌, inl, inr, ⊎_elim, ℕ, ◌+◌, List, refl, sym, ap, subst, arith}
 use Rattle.std.specs.Prelude.{◌↔◌}
-use Rattle.lms_spec.specs.Hss.{capacity_of}
-use Rattle.lms_hss.specs.Keys.{hss_key_of}
 use Rattle.lms_image.specs.Image.{image_of, HasImage}
 use Rattle.lms_book.specs.declared.refusals.BookFault.TheVariants as book
 use Rattle.lms_book.specs.Stops.{MayLeave, StoreView}

@@ -21,7 +21,7 @@ pub use crate::fault::{Fault, print_fault};
 pub use crate::info::describe;
 pub use crate::keygen::{key_from, make_key};
 pub use crate::options::{LevelsTextFault, read_levels};
-pub use crate::signing::{SignFault, Signed, sign_file, sign_next};
+pub use crate::signing::sign_file;
 pub use crate::status::Status;
 pub use crate::verdict::{Verdict, judge};
 pub use crate::verifying::verify_files;

@@ -1,5 +1,5 @@
 //! `sign`: a message signed with the next index of a key's state.
-ghost use Rattle.std.specs.Prelude.{◌≡◌, ◌≢◌, ◌⊎◌, ◌+◌, ℕ, List, IfErr, IfOk, Ok, OnOk, Some, codes, length};
+ghost use Rattle.std.specs.Prelude.{◌≡◌, ◌≢◌, ◌⊎◌, ◌+◌, ℕ, List, IfErr, IfOk, Ok, OnOk, codes, length};
 ghost use Rattle.std.specs.Io.KnownBytes.{Appends};
 ghost use Rattle.hex.specs.Hex.{decode_of};
 ghost use Rattle.lms_spec.specs.Hss.{hss_signature, hss_public_key, HssAccepts};
@@ -8,7 +8,7 @@ ghost use Rattle.lms_book.specs.Books.{counter};
 ghost use Rattle.lms_image.specs.Image.{image_of};
 ghost use Rattle.lms_book.specs.States.{IsOpenedFrom};
 ghost use Rattle.lms_book.specs.Stops.{Texts};
-ghost use Rattle.lms_commands.specs.Faults.{of_signing, text_of};
+ghost use Rattle.lms_commands.specs.Faults.{of_signing};
 ghost use Rattle.lms_commands.specs.Descriptions.{number_line};
 ghost use Rattle.lms_commands.specs.Keygen.{IsHexOf};
 ghost use Rattle.lms_commands.specs.Known.{IsPrintedLast, SameFiles, SameFilesBut, Stays};
@@ -19,18 +19,16 @@ use crate::fault::Fault;
 use crate::files::{lock_state, open_state, read_file, write_file};
 use crate::options::read_bytes;
 use crate::world::World;
+use lms_batch::{Job, OpenLease, SignFault as LeaseFault};
 use lms_book::{Book, BookFault, Lease, StateStore};
-use lms_hss::Forest;
 use lms_params::OutOfMemory;
 use std::alloc::Global;
-use std::error::Error;
-use std::fmt;
 use std::io::Write;
 use std::thread::Threads;
 
 /// Why a message was not signed.
-#[derive(Clone, Copy, Debug, PartialEq, Eq)]
-pub enum SignFault {
+#[derive(Clone, Copy)]
+enum SignFault {
     /// No index was reserved.
     Book(BookFault),
     /// Memory was refused after the reservation: the index is used, and signed nothing.
@@ -48,21 +46,11 @@ impl From<SignFault> for Fault {
     }
 }
 
-impl fmt::Display for SignFault {
-    ghost output = { λ fault. Some (text_of (of_signing fault)) };
-
-    fn fmt<W: fmt::Write>(&self, f: &mut fmt::Formatter<W>) -> fmt::Result {
-        write!(f, "{}", Fault::from(*self))
-    }
-}
-
-impl Error for SignFault {}
-
 /// A signature, and the index that made it.
 #[derive(Drop)]
-pub struct Signed {
-    pub index: u64,
-    pub signature: Vec<u8>,
+struct Signed {
+    index: u64,
+    signature: Vec<u8>,
 }
 
 /// Signs the message in a file with the next index of a state's key, under a randomizer of 64 hexadecimal digits, writes
@@ -93,8 +81,12 @@ pub fn sign_file<W: World, O: Write>(
 {
     let randomizer = randomizer_from(random)?;
     let message = read_file(alloc, world, message)?;
+    let job = Job {
+        c: randomizer,
+        message,
+    };
     let _lock = lock_state(alloc, world, state)?;
-    let signed = sign_by_state(rt, alloc, world, state, &randomizer, &message)?;
+    let signed = sign_by_state(rt, alloc, world, state, &job)?;
     deliver(world, out, &signed, output)
 }
 
@@ -140,18 +132,17 @@ fn sign_by_state<W: World>(
     alloc: Global,
     world: &mut W,
     state: &str,
-    c: &[u8; 32],
-    msg: &[u8],
+    job: &Job,
 ) -> Result<Signed, Fault>
     ensures signed { IfOk result (λ signed. SignsNext (W.known world.old)
-        (W.known world.new) state.now c.now msg.now
+        (W.known world.new) state.now job.now.c job.now.message.items
         signed.signature.items signed.index) }
     ensures failed { IfErr result (FailsToSignNext (W.known world.old)
         (W.known world.new) state.now) }
     ensures files { SameFiles (W.known world.old) (W.known world.new) }
 {
     let mut book = open_state(alloc, world, state)?;
-    let signed = sign_next(rt, alloc, &mut book, c, msg);
+    let signed = sign_next(rt, alloc, &mut book, job);
     world.put_back(state, book.close());
     match signed {
         Ok(signed) => Ok(signed),
@@ -159,15 +150,14 @@ fn sign_by_state<W: World>(
     }
 }
 
-/// Signs a message with the next index of a book, under the randomizer `c` (RFC 8554, 6.2). The use of the index is stored
-/// before the signature is made. `Book` where no index was reserved; `OutOfMemory` where memory is refused after that, and
-/// the index stays used. A crash at any moment leaves what it could leave before, or the image that counts the index.
-pub fn sign_next<S: StateStore>(
+/// Signs a job with the next index of a book (RFC 8554, 6.2). The use of the index is stored before the signature is made.
+/// `Book` where no index was reserved; `OutOfMemory` where memory is refused after that, and the index stays used. A crash
+/// at any moment leaves what it could leave before, or the image that counts the index.
+fn sign_next<S: StateStore>(
     rt: &(impl Threads + Sync),
     alloc: Global,
     book: &mut Book<S>,
-    c: &[u8; 32],
-    msg: &[u8],
+    job: &Job,
 ) -> Result<Signed, SignFault>
     ensures key { book.new.key ≡ book.old.key }
     ensures base { book.new.base ≡ book.old.base }
@@ -176,33 +166,49 @@ pub fn sign_next<S: StateStore>(
     ensures reserved { IfOk result (λ _. GivesOne book.old book.new) }
     ensures failed { IfErr result (λ fault. SignsNothing book.old fault book.new) }
     ensures signature { IfOk result (λ signed. signed.signature.items
-        ≡ hss_signature (hss_key_of book.old.key) signed.index c.now msg.now) }
+        ≡ hss_signature (hss_key_of book.old.key) signed.index job.now.c job.now.message.items) }
     ensures accepted { IfOk result (λ signed.
-        HssAccepts (hss_public_key (hss_key_of book.old.key)) msg.now signed.signature.items) }
+        HssAccepts (hss_public_key (hss_key_of book.old.key)) job.now.message.items signed.signature.items) }
 {
     let lease = book.reserve(1).map_err(|fault| SignFault::Book(fault))?;
-    let signed = sign_lease(rt, alloc, &lease, c, msg);
-    book.give_back(lease);
+    let signed = sign_lease(rt, alloc, lease, job);
     signed.map_err(|_| SignFault::OutOfMemory)
 }
 
-/// Signs a message with the first index of a lease.
+/// Signs a job with the index of a lease of one. `OutOfMemory` where memory is refused; the index is spent in any case.
 fn sign_lease(
     rt: &(impl Threads + Sync),
     alloc: Global,
-    lease: &Lease,
-    c: &[u8; 32],
-    msg: &[u8],
+    lease: Lease,
+    job: &Job,
 ) -> Result<Signed, OutOfMemory>
-    ensures index { IfOk result (λ signed. signed.index ≡ lease.now.start) }
+    requires { lease.len ≡ 1 }
+    ensures index { IfOk result (λ signed. signed.index ≡ lease.start) }
     ensures signature { IfOk result (λ signed. signed.signature.items
-        ≡ hss_signature (hss_key_of lease.now.key) signed.index c.now msg.now) }
+        ≡ hss_signature (hss_key_of lease.key) signed.index job.now.c job.now.message.items) }
     ensures accepted { IfOk result (λ signed.
-        HssAccepts (hss_public_key (hss_key_of lease.now.key)) msg.now signed.signature.items) }
+        HssAccepts (hss_public_key (hss_key_of lease.key)) job.now.message.items signed.signature.items) }
 {
-    let index = lease.start();
-    let len = lease.len();
-    let forest = Forest::cover(rt, alloc, lease.key(), index, len)?;
-    let signature = forest.sign(index, c, msg)?;
-    Ok(Signed { index, signature })
+    let (opened, mut seats) = match OpenLease::new(rt, alloc, lease, 1) {
+        Ok(made) => made,
+        Err((refused, lease)) => {
+            lease.end();
+            return Err(refused);
+        }
+    };
+    let Some(mut seat) = seats.pop() else {
+        unreachable!()
+    };
+    match opened.sign(&mut seat, job) {
+        Ok(receipt) => Ok(Signed {
+            index: receipt.index(),
+            signature: receipt.into_signature(),
+        }),
+        Err(LeaseFault::OutOfMemory(pass)) => {
+            pass.burn();
+            Err(OutOfMemory)
+        }
+        // A pool's first claim finds a place where nobody else has a seat.
+        Err(LeaseFault::Ended) => Err(OutOfMemory),
+    }
 }

@@ -2,7 +2,7 @@ ghost use Rattle.std.specs.Prelude.{◌≡◌, ◌≤◌, []};
 ghost use Rattle.lms_shared_book.specs.Desks.{BlankFits};
 
 use super::{BatchFault, SigningService};
-use crate::fixtures::{book_of, job, key_of, store_at};
+use crate::fixtures::{book_of, job, public_key, store_at};
 use crate::tests::is_complete;
 use crate::{Batch, Gate, Job, OpenGate};
 use lms_book::{Book, BookFault, Entry, Left, MemoryStore};
@@ -29,6 +29,8 @@ enum Scenario {
     FailedWrite,
     /// Two batches by each of four threads.
     AtOnce,
+    /// Four jobs by four workers, where any request for memory may be refused.
+    RefusedMemory,
     /// Two jobs by one or two workers, each of which waits a while until the other one has begun.
     Meeting { workers: usize },
 }
@@ -47,7 +49,10 @@ fn carried_out<E: Tally + Send + Sync, G: Tally + Send + Sync, B: Tally + Send +
     requires burnt { BlankFits blanks.burnt B.name B.parts 5 }
     requires before { (E.before ≡ 0) × (G.before ≡ 0) × (B.before ≡ 0) }
 {
-    let shared = SharedBook::<MemoryStore, E, G, B>::share(rt.alloc(), book, blanks, 4);
+    let shared = match SharedBook::<MemoryStore, E, G, B>::share(rt.alloc(), book, blanks, 4) {
+        Err((_, book, blanks)) => SharedBook::share(rt.alloc(), book, blanks, 4),
+        answer => answer,
+    };
     let (shared, desks) = shared.ok().ok_or("memory for desks")?;
     let service = SigningService::over(shared);
     match scenario {
@@ -55,6 +60,7 @@ fn carried_out<E: Tally + Send + Sync, G: Tally + Send + Sync, B: Tally + Send +
         Scenario::TooFewAndTooMany => too_few_and_too_many(rt, service, desks),
         Scenario::FailedWrite => failed_write(rt, service, desks),
         Scenario::AtOnce => at_once(rt, service, desks),
+        Scenario::RefusedMemory => refused_memory(rt, service, desks),
         Scenario::Meeting { workers } => meet(rt, service, desks, workers),
     }
 }
@@ -74,11 +80,17 @@ fn carry_out(
     carried_out::<Brand, Brand, Brand>(rt, book, blanks, scenario)
 }
 
-/// As many jobs, whose messages are the numbers from 0 on.
+/// As many jobs, whose messages are the numbers from 0 on, and whose randomizers begin with them.
 fn jobs_of(alloc: Global, count: usize) -> Result<Vec<Job>, Fail> {
-    let mut jobs = Vec::new(alloc);
+    let mut jobs = match Vec::with_capacity(alloc, count) {
+        Ok(jobs) => jobs,
+        Err(_) => Vec::with_capacity(alloc, count)?,
+    };
     for number in 0..count {
-        jobs.push(job(alloc, &(number as u64).to_be_bytes())?)?;
+        let number = (number as u64).to_be_bytes();
+        let mut job = job(alloc, &number)?;
+        job.c[..8].copy_from_slice(&number);
+        jobs.push(job)?;
     }
     Ok(jobs)
 }
@@ -248,7 +260,7 @@ fn at_once<E: Tally + Send + Sync, G: Tally + Send + Sync, B: Tally + Send + Syn
     desks: Vec<Desk<E, G, B>>,
 ) -> Result<(), Fail> {
     let jobs = jobs_of(rt.alloc(), 8)?;
-    let public = service.key().public_key(rt, rt.alloc())?;
+    let public = public_key(rt, service.key())?;
     let (lent, jobs) = (&service, jobs.as_slice());
     let visits = thread::map_vec(
         rt,
@@ -324,4 +336,57 @@ fn two_workers_sign_at_once(rt: HostRuntime) -> Result<(), Fail> {
         carry_out(&rt, store, Scenario::Meeting { workers })?;
     }
     Ok(())
+}
+
+/// Whether each slot is empty or has a signature of its job that is accepted, and one at least is empty.
+fn is_partly_valid(public: &[u8], slots: &[Option<Vec<u8>>], jobs: &[Job]) -> bool {
+    let mut is_valid = slots.len() == jobs.len();
+    let mut has_gap = false;
+    for (slot, job) in slots.iter().zip(jobs) {
+        match slot {
+            Some(signature) => is_valid = is_valid && verify(public, &job.message, signature),
+            None => has_gap = true,
+        }
+    }
+    is_valid && has_gap
+}
+
+/// Whether a batch begins with index 30 and has valid signatures of the jobs, or of some of them.
+fn is_from_30(public: &[u8], batch: &Batch, jobs: &[Job]) -> bool {
+    match batch {
+        Batch::Complete { .. } => start_of_valid(public, batch, jobs) == Some(30),
+        Batch::Partial { start, slots } => *start == 30 && is_partly_valid(public, slots, jobs),
+    }
+}
+
+/// All jobs are signed, or some, or none, with their indices used; or nothing is reserved.
+fn refused_memory<E: Tally, G: Tally, B: Tally>(
+    rt: &(impl Abort + AllocGlobal + Threads + Wait + Sync),
+    service: SigningService<MemoryStore, E, G, B>,
+    desks: Vec<Desk<E, G, B>>,
+) -> Result<(), Fail> {
+    let mut desks = desks;
+    let desk = desks.first_mut().ok_or("a desk")?;
+    let jobs = jobs_of(rt.alloc(), 4)?;
+    let public = public_key(rt, service.key())?;
+    let answer = service.sign_batch(rt, rt.alloc(), desk, &jobs, 4, &OpenGate);
+    let used = match answer {
+        Ok(batch) => is_from_30(&public, &batch, &jobs),
+        Err(BatchFault::OutOfMemory { burnt }) => burnt == 4,
+        Err(fault) => {
+            assert_eq!(rt; fault, BatchFault::Book(BookFault::OutOfMemory));
+            assert_eq!(rt; counts(desk), (0, 0, 0));
+            return settled(rt, service, desks, &[], 30);
+        }
+    };
+    assert!(rt; used);
+    assert_eq!(rt; counts(desk), (1, 4, 0));
+    settled(rt, service, desks, &[Entry::Given { len: 4 }], 34)
+}
+
+/// `tests/refused` refuses each request for memory in turn.
+#[test]
+fn a_batch_after_refused_memory(rt: HostRuntime) -> Result<(), Fail> {
+    let store = store_at(rt.alloc(), 0x11, 30)?;
+    carry_out(&rt, store, Scenario::RefusedMemory)
 }

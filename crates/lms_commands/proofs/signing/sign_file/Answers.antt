@@ -1,4 +1,3 @@
-use Rattle.std.proofs.Common.{List, ℕ, subst, sym}
 use Rattle.std.proofs.lemmas.Result.{IfErr-weaker}
 use Rattle.lms_commands.proofs.Failing.{both_ok, not_delivered, signed_still}
 use Rattle.lms_commands.proofs.signing.sign_file.Goals as goal
@@ -9,9 +8,9 @@ returns-clause-signed g c =
     let mid = g.W.World.known c.sign_by_state.new.world in
     let new = g.W.World.known c.deliver.new.world in
     let randomizer = c.in_ok-randomizer.randomizer in
-    let text = c.deref.result.now in
+    let text = c.in_ok-message.message.items in
     let signed = c.in_ok-signed.signed in
-    let given = subst (λ (bytes : List ℕ). old.gives c.args.message.now bytes) (sym c.deref.ensures.value) c.in_ok-message.ensures.given in
+    let given = c.in_ok-message.ensures.given in
     both_ok c.deliver.result _ _ _
     (λ written printed. record {
       randomizer = randomizer;
@@ -32,9 +31,9 @@ returns-clause-failed g c =
     let mid = g.W.World.known c.sign_by_state.new.world in
     let new = g.W.World.known c.deliver.new.world in
     let randomizer = c.in_ok-randomizer.randomizer in
-    let text = c.deref.result.now in
+    let text = c.in_ok-message.message.items in
     let signed = c.in_ok-signed.signed in
-    let given = subst (λ (bytes : List ℕ). old.gives c.args.message.now bytes) (sym c.deref.ensures.value) c.in_ok-message.ensures.given in
+    let given = c.in_ok-message.ensures.given in
     IfErr-weaker c.deliver.result _ _
     (not_delivered old new c.args.state.now c.args.random.now c.args.message.now c.args.out.now (g.O.Write.contents c.args.output.now) (g.O.Write.contents c.deliver.new.output)
     randomizer text signed.signature.items signed.index c.in_ok-randomizer.ensures.read given
