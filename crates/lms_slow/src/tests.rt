@@ -1,5 +1,5 @@
 use crate::vectors::{VECTORS, Vector};
-use crate::{SlowKey, SlowTree, planted, slow_digits, slow_public, slow_sign};
+use crate::{PlantedTexts, SlowKey, SlowTree, planted, slow_digits, slow_public, slow_sign};
 use hex::FromHex;
 use lms_params::{LmsType, OtsType};
 use sha2::{Digest, Sha256};
@@ -24,9 +24,14 @@ fn check_vector(rt: &(impl Abort + AllocGlobal), vector: Vector) -> Result<(), F
     Ok(())
 }
 
+/// What another implementation made.
+fn vectors() -> [Vector; 7] {
+    VECTORS
+}
+
 #[test]
 fn equals_another_implementation(rt: HostRuntime) -> Result<(), Fail> {
-    for vector in VECTORS {
+    for vector in vectors() {
         check_vector(&rt, vector)?;
     }
     Ok(())
@@ -84,22 +89,34 @@ fn digest_of(alloc: Global, first: &[u8], second: &[u8]) -> Result<String, Alloc
     hex::encode(alloc, hasher.finalize())
 }
 
+/// The public key of these levels and their signature of `abc` by index `g` have these lengths and this digest.
+fn check_signed(
+    rt: &(impl Abort + AllocGlobal),
+    levels: &[(LmsType, OtsType)],
+    g: u64,
+    length: usize,
+    digest: &str,
+) -> Result<(), Fail> {
+    let key = SlowKey {
+        levels,
+        seed: [0x11; 32],
+        id: [0x22; 16],
+    };
+    assert!(rt; !levels.is_empty() && levels.len() <= 8);
+    let public = slow_public(rt.alloc(), &key)?;
+    let signature = slow_sign(rt.alloc(), &key, g, &[0x33; 32], b"abc")?;
+    assert!(rt; public.len() == 60 && signature.len() == length, "{digest}");
+    assert_eq!(rt;
+        digest_of(rt.alloc(), &public, &signature)?.as_str(),
+        digest
+    );
+    Ok(())
+}
+
 #[test]
 fn signs_by_one_to_eight_levels(rt: HostRuntime) -> Result<(), Fail> {
     for (levels, g, length, digest) in SIGNED {
-        let key = SlowKey {
-            levels,
-            seed: [0x11; 32],
-            id: [0x22; 16],
-        };
-        assert!(rt; !levels.is_empty() && levels.len() <= 8);
-        let public = slow_public(rt.alloc(), &key)?;
-        let signature = slow_sign(rt.alloc(), &key, g, &[0x33; 32], b"abc")?;
-        assert_eq!(rt; (public.len(), signature.len()), (60, length));
-        assert_eq!(rt;
-            digest_of(rt.alloc(), &public, &signature)?.as_str(),
-            digest
-        );
+        check_signed(&rt, levels, g, length, digest)?;
     }
     Ok(())
 }
@@ -141,19 +158,25 @@ const DIGITS: [(OtsType, [u8; 32], &[u8], &[u8]); 12] = [
     ),
 ];
 
+/// Whether the digits of a hash repeat these, and end with those of its checksum.
+fn are_digits(digits: &[u8], ots: OtsType, repeated: &[u8], checksum: &[u8]) -> bool {
+    let Some(message_digits) = digits.strip_suffix(checksum) else {
+        return false;
+    };
+    message_digits.len() == 256 / ots.w() as usize
+        && message_digits
+            .chunks(repeated.len().max(1))
+            .all(|part| part == repeated)
+}
+
 #[test]
 fn digits_of_worked_rows(rt: HostRuntime) -> Result<(), Fail> {
     for (ots, hash, repeated, checksum) in DIGITS {
         let digits = slow_digits(rt.alloc(), &hash, ots)?;
-        let message_digits = repeated
-            .iter()
-            .copied()
-            .cycle()
-            .take(256 / ots.w() as usize);
-        let expected: Vec<u8> = message_digits
-            .chain(checksum.iter().copied())
-            .collect(rt.alloc())?;
-        assert_eq!(rt; digits, expected, "{ots:?} {hash:?}");
+        assert!(rt;
+            are_digits(&digits, ots, repeated, checksum),
+            "{ots:?} {hash:?}"
+        );
     }
     Ok(())
 }
@@ -167,6 +190,36 @@ const TREES: [(LmsType, u8, u8, u32); 5] = [
     (LmsType::H25, 9, 25, 33554431),
 ];
 
+/// A tree of these sets.
+fn tree_of(lms: LmsType, ots: OtsType) -> SlowTree {
+    SlowTree {
+        lms,
+        ots,
+        seed: [0x11; 32],
+        id: [0x22; 16],
+    }
+}
+
+/// Whether a public key has the layout of RFC 8554, 5.3, with these typecodes.
+fn is_public(public: &[u8], lms_code: u8, code: u8) -> bool {
+    public.len() == 60 && public.starts_with(&[0, 0, 0, 1, 0, 0, 0, lms_code, 0, 0, 0, code])
+}
+
+/// Whether a signature by leaf q begins with its number and the typecode `code`.
+fn has_head(signature: &[u8], q: u32, code: u8) -> bool {
+    signature.starts_with(&[0; 4])
+        && signature.get(4..8) == Some(q.to_be_bytes().as_slice())
+        && signature.get(8..12) == Some([0, 0, 0, code].as_slice())
+}
+
+/// Whether after p chains a signature has the typecode `lms_code` and a planted path of `height` values.
+fn has_path(signature: &[u8], p: u16, lms_code: u8, height: u8) -> bool {
+    let path_at = 16 + 32 * (usize::from(p) + 1);
+    signature.len() == path_at + 32 * usize::from(height)
+        && signature.get(path_at - 4..path_at + 1) == Some([0, 0, 0, lms_code, 1].as_slice())
+        && signature.ends_with(&[height; 32])
+}
+
 /// A planted pair has the layout of RFC 8554, 5.3 and 5.4, for the typecode `code` and p chains.
 fn check_layout(
     rt: &(impl Abort + AllocGlobal),
@@ -175,32 +228,20 @@ fn check_layout(
     p: u16,
 ) -> Result<(), Fail> {
     for (lms, lms_code, height, q) in TREES {
-        let tree = SlowTree {
-            lms,
-            ots,
-            seed: [0x11; 32],
-            id: [0x22; 16],
-        };
-        let made = planted(rt.alloc(), &tree, q, &[0x33; 32], b"abc")?;
-        let public_head = [0, 0, 0, 1, 0, 0, 0, lms_code, 0, 0, 0, code];
+        let tree = tree_of(lms, ots);
+        let PlantedTexts { public, signature } = planted(
+            rt.alloc(),
+            &tree,
+            q,
+            &[0x33; 32],
+            b"abc",
+        )?;
+        assert!(rt; is_public(&public, lms_code, code), "{lms:?} {ots:?}");
+        assert!(rt; has_head(&signature, q, code), "{lms:?} {ots:?}");
         assert!(rt;
-            made.public.len() == 60 && made.public.starts_with(&public_head),
+            has_path(&signature, p, lms_code, height),
             "{lms:?} {ots:?}"
         );
-        let path_at = 16 + 32 * (usize::from(p) + 1);
-        assert_eq!(rt;
-            made.signature.len(),
-            path_at + 32 * usize::from(height),
-            "{lms:?} {ots:?}"
-        );
-        assert!(rt; made.signature.starts_with(&[0; 4]));
-        assert_eq!(rt; made.signature.get(4..8), Some(q.to_be_bytes().as_slice()));
-        assert_eq!(rt; made.signature.get(8..12), Some([0, 0, 0, code].as_slice()));
-        assert_eq!(rt;
-            made.signature.get(path_at - 4..path_at + 1),
-            Some([0, 0, 0, lms_code, 1].as_slice())
-        );
-        assert!(rt; made.signature.ends_with(&[height; 32]));
     }
     Ok(())
 }
@@ -250,12 +291,7 @@ const PLANTED: [(LmsType, OtsType, u32, &str); 5] = [
 #[test]
 fn plants_the_root_of_the_climb(rt: HostRuntime) -> Result<(), Fail> {
     for (lms, ots, q, digest) in PLANTED {
-        let tree = SlowTree {
-            lms,
-            ots,
-            seed: [0x11; 32],
-            id: [0x22; 16],
-        };
+        let tree = tree_of(lms, ots);
         let made = planted(rt.alloc(), &tree, q, &[0x33; 32], b"abc")?;
         assert_eq!(rt;
             digest_of(rt.alloc(), &made.public, &made.signature)?.as_str(),
@@ -267,12 +303,7 @@ fn plants_the_root_of_the_climb(rt: HostRuntime) -> Result<(), Fail> {
 
 #[test]
 fn climbs_from_leaves_to_the_root(rt: HostRuntime) -> Result<(), Fail> {
-    let tree = SlowTree {
-        lms: LmsType::H5,
-        ots: OtsType::W8,
-        seed: [0x11; 32],
-        id: [0x22; 16],
-    };
+    let tree = tree_of(LmsType::H5, OtsType::W8);
     let root = tree.node(1);
     for q in [0, 21, 31] {
         let path = tree.path(rt.alloc(), tree.leaf_number(q))?;
