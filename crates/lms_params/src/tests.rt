@@ -4,33 +4,51 @@ use std::array;
 use std::process::Abort;
 use std::test::Fail;
 
-#[test]
-fn knows_the_codes_of_the_tables(rt: HostRuntime) {
-    let one_time = [
+/// The codes of one-time signatures, and no other one up to 16.
+fn check_ots_codes(rt: &impl Abort) {
+    let rows = [
         (1, OtsType::W1),
         (2, OtsType::W2),
         (3, OtsType::W4),
         (4, OtsType::W8),
     ];
-    let trees = [
+    for (code, ots) in rows {
+        assert!(rt; ots.code() == code, "{code}");
+        assert!(rt; OtsType::from_code(code) == Some(ots), "{code}");
+    }
+    assert!(rt; OtsType::from_code(0).is_none());
+    for code in 5..=16 {
+        assert!(rt; OtsType::from_code(code).is_none(), "{code}");
+    }
+    assert!(rt; OtsType::from_code(u32::MAX).is_none());
+}
+
+/// The same for trees.
+fn check_lms_codes(rt: &impl Abort) {
+    let rows = [
         (5, LmsType::H5),
         (6, LmsType::H10),
         (7, LmsType::H15),
         (8, LmsType::H20),
         (9, LmsType::H25),
     ];
-    for code in (0..=16).chain([u32::MAX]) {
-        let ots = one_time.iter().find(|row| row.0 == code).map(|row| row.1);
-        let lms = trees.iter().find(|row| row.0 == code).map(|row| row.1);
-        assert_eq!(rt; OtsType::from_code(code), ots, "{code}");
-        assert_eq!(rt; LmsType::from_code(code), lms, "{code}");
+    for (code, lms) in rows {
+        assert!(rt; lms.code() == code, "{code}");
+        assert!(rt; LmsType::from_code(code) == Some(lms), "{code}");
     }
-    for (code, ots) in one_time {
-        assert_eq!(rt; ots.code(), code);
+    for code in 0..=4 {
+        assert!(rt; LmsType::from_code(code).is_none(), "{code}");
     }
-    for (code, lms) in trees {
-        assert_eq!(rt; lms.code(), code);
+    for code in 10..=16 {
+        assert!(rt; LmsType::from_code(code).is_none(), "{code}");
     }
+    assert!(rt; LmsType::from_code(u32::MAX).is_none());
+}
+
+#[test]
+fn knows_the_codes_of_the_tables(rt: HostRuntime) {
+    check_ots_codes(&rt);
+    check_lms_codes(&rt);
 }
 
 #[test]
@@ -42,10 +60,8 @@ fn has_the_rows_of_the_tables(rt: HostRuntime) {
         (OtsType::W8, 8, 34, 0, 1124),
     ];
     for (ots, w, p, ls, sig_len) in rows {
-        assert_eq!(rt;
-            (ots.w(), ots.p(), ots.ls(), ots.sig_len()),
-            (w, p, ls, sig_len)
-        );
+        assert!(rt; ots.w() == w && ots.p() == p, "{ots:?}");
+        assert!(rt; ots.ls() == ls && ots.sig_len() == sig_len, "{ots:?}");
     }
     let heights = [
         (LmsType::H5, 5, true),
@@ -55,8 +71,8 @@ fn has_the_rows_of_the_tables(rt: HostRuntime) {
         (LmsType::H25, 25, false),
     ];
     for (lms, height, signed) in heights {
-        assert_eq!(rt; lms.height(), height);
-        assert_eq!(rt; lms.is_signed(), signed);
+        assert!(rt; lms.height() == height, "{lms:?}");
+        assert!(rt; lms.is_signed() == signed, "{lms:?}");
     }
 }
 
@@ -137,12 +153,9 @@ fn cuts_the_worked_digits(rt: HostRuntime) {
 
 #[test]
 fn splits_a_number_off(rt: HostRuntime) {
-    assert_eq!(rt;
-        split_u32(&[0, 1, 2, 3, 9]),
-        Some((0x10203, [9].as_slice()))
-    );
-    assert_eq!(rt; split_u32(&[0, 1, 2, 3]), Some((0x10203, [].as_slice())));
-    assert_eq!(rt; split_u32(&[0, 1, 2]), None);
+    assert!(rt; split_u32(&[0, 1, 2, 3, 9]) == Some((0x10203, &[9])));
+    assert!(rt; split_u32(&[0, 1, 2, 3]) == Some((0x10203, &[])));
+    assert!(rt; split_u32(&[0, 1, 2]).is_none());
 }
 
 #[test]
