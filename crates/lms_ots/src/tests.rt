@@ -2,7 +2,7 @@ use crate::{OtsId, candidate, chain, hasher_at, public_hash, secret, sign_into};
 use hex::FromHex;
 use lms_params::{LmsType, OtsType};
 use lms_slow::SlowTree;
-use lms_slow::vectors::ONE_10_8;
+use lms_slow::vectors::{ONE_10_8, Vector};
 use sha2::Digest;
 use std::alloc::{AllocError, Global};
 use std::test::Fail;
@@ -96,40 +96,47 @@ fn equals_the_slow_signer(rt: HostRuntime) -> Result<(), Fail> {
     Ok(())
 }
 
+/// Whether a text is no signature of `abc` by leaf 0.
+fn is_refused(ots: OtsType, text: &[u8]) -> bool {
+    candidate(ots, OtsId { i: ID, q: 0 }, text, b"abc").is_none()
+}
+
 #[test]
-fn refuses_other_sets_and_lengths(rt: HostRuntime) {
+fn refuses_other_sets_and_lengths(rt: HostRuntime) -> Result<(), Fail> {
+    let mut text = signature(rt.alloc(), OtsType::W8, 0)?;
     let id = OtsId { i: ID, q: 0 };
-    let mut text = [0; 1124];
-    sign_into(OtsType::W8, &SEED, id, &RANDOMIZER, b"abc", &mut text);
-    let mut longer = [0; 1125];
-    longer[..1124].copy_from_slice(&text);
-    let mut other_code = text;
-    other_code[3] = 3;
-    let shorter = text.get(..1123).unwrap_or(&[]);
     let public = public_hash(OtsType::W8, &SEED, id);
-    assert_eq!(rt; candidate(OtsType::W8, id, &text, b"abc"), Some(public));
-    assert_eq!(rt; candidate(OtsType::W4, id, &text, b"abc"), None);
-    assert_eq!(rt; candidate(OtsType::W8, id, &longer, b"abc"), None);
-    assert_eq!(rt; candidate(OtsType::W8, id, shorter, b"abc"), None);
-    assert_eq!(rt; candidate(OtsType::W8, id, &other_code, b"abc"), None);
+    assert!(rt; candidate(OtsType::W8, id, &text, b"abc") == Some(public));
+    assert!(rt; is_refused(OtsType::W4, &text));
+    assert!(rt; is_refused(OtsType::W8, text.get(..1123).unwrap_or(&[])));
+    text.push(0)?;
+    assert!(rt; is_refused(OtsType::W8, &text));
+    let mut other_code = signature(rt.alloc(), OtsType::W8, 0)?;
+    if let Some(code) = other_code.get_mut(3) {
+        *code = 3;
+    }
+    assert!(rt; is_refused(OtsType::W8, &other_code));
+    Ok(())
+}
+
+/// What another implementation signs by a tree of 10/8.
+fn vector() -> Vector {
+    ONE_10_8
 }
 
 #[test]
 fn signs_as_another_implementation(rt: HostRuntime) -> Result<(), Fail> {
-    let expected = hex::decode(rt.alloc(), ONE_10_8.signature)?;
+    let vector = vector();
     let id = OtsId {
-        i: FromHex::from_hex(ONE_10_8.id)?,
+        i: FromHex::from_hex(vector.id)?,
         q: 700,
     };
+    let seed = FromHex::from_hex(vector.seed)?;
+    let randomizer = FromHex::from_hex(vector.randomizer)?;
+    let message = vector.message.as_bytes();
     let mut text = [0; 1124];
-    sign_into(
-        OtsType::W8,
-        &FromHex::from_hex(ONE_10_8.seed)?,
-        id,
-        &FromHex::from_hex(ONE_10_8.randomizer)?,
-        ONE_10_8.message.as_bytes(),
-        &mut text,
-    );
+    sign_into(OtsType::W8, &seed, id, &randomizer, message, &mut text);
+    let expected = hex::decode(rt.alloc(), vector.signature)?;
     assert_eq!(rt; Some(text.as_slice()), expected.get(8..1132));
     Ok(())
 }
