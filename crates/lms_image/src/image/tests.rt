@@ -47,16 +47,21 @@ struct Fields {
 }
 
 impl Fields {
-    /// The text, with the right digest at its end.
-    fn text(&self, alloc: Global) -> Result<Vec<u8>, AllocError> {
-        let mut text = Vec::new(alloc);
-        text.extend_from_slice(&self.start)?;
+    /// The bytes before those of the key.
+    fn head(&self, alloc: Global) -> Result<Vec<u8>, AllocError> {
+        let mut text = Vec::from_slice(alloc, &self.start)?;
         text.extend_from_slice(&self.version.to_be_bytes())?;
         text.extend_from_slice(&self.count.to_be_bytes())?;
         for (lms, ots) in self.codes {
             text.extend_from_slice(&lms.to_be_bytes())?;
             text.extend_from_slice(&ots.to_be_bytes())?;
         }
+        Ok(text)
+    }
+
+    /// The text, with the right digest at its end.
+    fn text(&self, alloc: Global) -> Result<Vec<u8>, AllocError> {
+        let mut text = self.head(alloc)?;
         text.extend_from_slice(&[0x11; 32])?;
         text.extend_from_slice(&[0x22; 16])?;
         text.extend_from_slice(&self.counter.to_be_bytes())?;
@@ -80,20 +85,25 @@ fn fault(text: &[u8]) -> Option<ImageFault> {
     decode_image(text).err()
 }
 
+/// The image of a key of these levels with this counter has this length and these digits.
+fn check_image(
+    rt: &(impl Abort + AllocGlobal),
+    sets: &[(LmsType, OtsType)],
+    counter: u64,
+    length: usize,
+    digits: &str,
+) -> Result<(), Fail> {
+    let text = encode_image(&image_of(rt, sets, counter));
+    let expected = hex::decode(rt.alloc(), digits)?;
+    assert!(rt; text.as_slice().len() == length, "{length}");
+    assert!(rt; text.as_slice() == expected.as_slice(), "{length}");
+    Ok(())
+}
+
 #[test]
 fn writes_what_another_program_writes(rt: HostRuntime) -> Result<(), Fail> {
-    let one = encode_image(&image_of(&rt, &[H5_W8], 5));
-    assert_eq!(rt; one.as_slice().len(), 108);
-    let two = encode_image(&image_of(&rt, &[H5_W8, H10_W4], 258));
-    assert_eq!(rt;
-        one.as_slice(),
-        hex::decode(rt.alloc(), ONE_LEVEL)?.as_slice()
-    );
-    assert_eq!(rt;
-        two.as_slice(),
-        hex::decode(rt.alloc(), TWO_LEVELS)?.as_slice()
-    );
-    Ok(())
+    check_image(&rt, &[H5_W8], 5, 108, ONE_LEVEL)?;
+    check_image(&rt, &[H5_W8, H10_W4], 258, 116, TWO_LEVELS)
 }
 
 #[test]
@@ -115,21 +125,28 @@ fn reads_what_was_written(rt: HostRuntime) {
     }
 }
 
+/// The first bytes of an image are refused for their number.
+fn check_cut(rt: &impl Abort, text: &[u8], cut: usize) {
+    let expected = if cut < 12 {
+        ImageFault::Truncated
+    } else {
+        ImageFault::WrongLength
+    };
+    assert!(rt;
+        fault(text.get(..cut).unwrap_or(&[])) == Some(expected),
+        "{cut}"
+    );
+}
+
 #[test]
 fn refuses_each_other_length(rt: HostRuntime) -> Result<(), Fail> {
     let mut text = SOUND.text(rt.alloc())?;
-    assert_eq!(rt; fault(&text), None);
+    assert!(rt; fault(&text).is_none());
     for cut in 0..108 {
-        let fault = fault(text.get(..cut).unwrap_or(&[]));
-        let expected = if cut < 12 {
-            ImageFault::Truncated
-        } else {
-            ImageFault::WrongLength
-        };
-        assert_eq!(rt; fault, Some(expected), "{cut}");
+        check_cut(&rt, &text, cut);
     }
     text.push(0)?;
-    assert_eq!(rt; fault(&text), Some(ImageFault::WrongLength));
+    assert!(rt; fault(&text) == Some(ImageFault::WrongLength));
     Ok(())
 }
 
@@ -267,9 +284,13 @@ const WITH_THEIR_DIGEST: [(Fields, Option<ImageFault>); 16] = [
     ),
 ];
 
+fn with_their_digest() -> [(Fields, Option<ImageFault>); 16] {
+    WITH_THEIR_DIGEST
+}
+
 #[test]
 fn names_the_fault_of_a_text_with_its_digest(rt: HostRuntime) -> Result<(), Fail> {
-    for (fields, expected) in WITH_THEIR_DIGEST {
+    for (fields, expected) in with_their_digest() {
         let text = fields.text(rt.alloc())?;
         assert_eq!(rt; fault(&text), expected);
     }
@@ -292,6 +313,11 @@ fn damage_comes_before_what_the_bytes_name(rt: HostRuntime) -> Result<(), Fail> 
     Ok(())
 }
 
+/// Whether a fault is printed so.
+fn prints(alloc: Global, fault: ImageFault, name: &str) -> Result<bool, AllocError> {
+    Ok(fault.to_string(alloc)?.as_str() == name)
+}
+
 #[test]
 fn a_fault_prints_its_name(rt: HostRuntime) -> Result<(), Fail> {
     let rows = [
@@ -306,7 +332,7 @@ fn a_fault_prints_its_name(rt: HostRuntime) -> Result<(), Fail> {
         (ImageFault::CounterTooHigh, "CounterTooHigh"),
     ];
     for (fault, name) in rows {
-        assert_eq!(rt; fault.to_string(rt.alloc())?.as_str(), name);
+        assert!(rt; prints(rt.alloc(), fault, name)?, "{name}");
     }
     Ok(())
 }
