@@ -134,7 +134,10 @@ fn check_node(
     let start = 1132 + 32 * usize::from(place);
     assert!(rt; 1 <= r && r < 64);
     let value = tree.key().subtree_root(r);
-    assert_eq!(rt; text.get(start..start + 32), Some(value.as_slice()), "{r}");
+    assert!(rt;
+        text.get(start..start + 32) == Some(value.as_slice()),
+        "{r}"
+    );
     Ok(())
 }
 
@@ -192,7 +195,7 @@ fn check_band(
 ) -> Result<Vec<u8>, Fail> {
     let text = signature(rt, tree, q, &RANDOMIZER, b"abc")?;
     let expected = signature(rt, whole, q, &RANDOMIZER, b"abc")?;
-    assert_eq!(rt; text.as_slice(), expected.as_slice(), "{q}");
+    assert!(rt; text.as_slice() == expected.as_slice(), "{q}");
     Ok(text)
 }
 
@@ -231,7 +234,7 @@ fn check_root(rt: &impl Abort, public: &[u8; 56]) -> Result<(), Fail> {
     let root: [u8; 32] = FromHex::from_hex(
         "28e3dc7b80074fec49ce0b1ae3ee30d584559e28f04b471ad793d8b0c5b5809c",
     )?;
-    assert_eq!(rt; public.get(24..), Some(root.as_slice()));
+    assert!(rt; public.ends_with(&root));
     Ok(())
 }
 
@@ -260,6 +263,10 @@ const AT_EDGE: [(u32, u32, &str); 4] = [
     ),
 ];
 
+fn at_edge() -> [(u32, u32, &'static str); 4] {
+    AT_EDGE
+}
+
 /// A band of a tree of 15/2 signs as the whole tree does, with node r at place 10 of the path.
 fn check_path(
     rt: &(impl Abort + AllocGlobal),
@@ -272,7 +279,7 @@ fn check_path(
     let text = check_band(rt, whole, tree, q)?;
     assert!(rt; 1 <= r && r < 64);
     let value = whole.key().subtree_root(r);
-    assert_eq!(rt; text.get(4620..4652), Some(value.as_slice()), "{q}");
+    assert!(rt; text.get(4620..4652) == Some(value.as_slice()), "{q}");
     assert!(rt; has_digest(&text, digest), "{q}");
     Ok(())
 }
@@ -285,7 +292,7 @@ fn check_edge(
 ) -> Result<(), Fail> {
     let tree = band(rt, key, 1000, 1100)?;
     assert_eq!(rt; public_bytes(&tree), public_bytes(whole));
-    for (q, r, digest) in AT_EDGE {
+    for (q, r, digest) in at_edge() {
         check_path(rt, whole, &tree, q, r, digest)?;
     }
     Ok(())
