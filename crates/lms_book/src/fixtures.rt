@@ -26,9 +26,10 @@ pub(crate) fn store_of(alloc: Global, text: &[u8]) -> Result<MemoryStore, Fail> 
     if text.len() > 256 {
         return Err(Fail::from("a text of over 256 bytes"));
     }
-    let made = MemoryStore::new(alloc, Some(text), ROOM);
-    let made = made.or_else(|_| MemoryStore::new(alloc, Some(text), ROOM));
-    Ok(made.ok().ok_or("memory for a store")?)
+    match MemoryStore::new(alloc, Some(text), ROOM) {
+        Ok(store) => Ok(store),
+        Err(_) => Ok(MemoryStore::new(alloc, Some(text), ROOM)?),
+    }
 }
 
 /// A store that holds the image of this key and this counter.

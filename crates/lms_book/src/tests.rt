@@ -6,6 +6,7 @@ use lms_hss::HssKey;
 use lms_image::{Image, ImageFault, encode_image};
 use lms_params::{LmsType, OtsType};
 use std::alloc::Global;
+use std::fmt::Display;
 use std::test::Fail;
 
 mod lives;
@@ -20,6 +21,13 @@ fn opened(alloc: Global, store: MemoryStore) -> Result<Book<MemoryStore>, Fail>
         }
         Err((_, _)) => Err(Fail::from("the store opens")),
     }
+}
+
+/// A book over a store that holds the image of 5/8 and this counter.
+fn small_book(alloc: Global, counter: u64) -> Result<Book<MemoryStore>, Fail>
+    ensures { IfOk result (λ book. book.history ≡ []) }
+{
+    opened(alloc, small_store(alloc, counter)?)
 }
 
 /// The book after a stop of the program.
@@ -70,6 +78,11 @@ fn counts(book: &Book<MemoryStore>, base: u64, counter: u64, stored: u64) -> boo
     book.base() == base && book.counter() == counter && book.stored() == stored
 }
 
+/// Whether the book's history is this one.
+fn has_history(book: &Book<MemoryStore>, history: &[Entry]) -> bool {
+    book.history() == history
+}
+
 /// Whether the book's store holds the image of this key with all of its indices used.
 fn leaves_used_up(book: Book<MemoryStore>, key: HssKey) -> bool {
     let last = encode_image(&Image {
@@ -81,7 +94,7 @@ fn leaves_used_up(book: Book<MemoryStore>, key: HssKey) -> bool {
 
 #[test]
 fn ranges_follow_each_other(rt: HostRuntime) -> Result<(), Fail> {
-    let mut book = opened(rt.alloc(), small_store(rt.alloc(), 0)?)?;
+    let mut book = small_book(rt.alloc(), 0)?;
     assert!(rt; gives(&mut book, 10, 0));
     assert!(rt; gives(&mut book, 20, 10));
     assert!(rt; refuses(&mut book, 3, 2));
@@ -93,7 +106,7 @@ fn ranges_follow_each_other(rt: HostRuntime) -> Result<(), Fail> {
         Entry::Given { len: 20 },
         Entry::Given { len: 2 },
     ];
-    assert_eq!(rt; book.history(), history.as_slice());
+    assert!(rt; has_history(&book, &history));
     let key = key_of(&LEVELS, 0x11)?;
     assert!(rt; book.key() == key);
     assert!(rt; leaves_used_up(book, key));
@@ -110,13 +123,13 @@ fn gives_leases_of_each_length(rt: HostRuntime) -> Result<(), Fail> {
         assert!(rt; gives(&mut book, n, start));
     }
     assert!(rt; counts(&book, 0, 524800, 524800));
-    assert_eq!(rt; book.history().len(), 1024);
+    assert!(rt; book.history().len() == 1024);
     Ok(())
 }
 
 #[test]
 fn an_exhausted_key_opens(rt: HostRuntime) -> Result<(), Fail> {
-    let mut book = opened(rt.alloc(), small_store(rt.alloc(), 32)?)?;
+    let mut book = small_book(rt.alloc(), 32)?;
     assert!(rt; counts(&book, 32, 32, 32));
     assert!(rt; refuses(&mut book, 1, 0));
     Ok(())
@@ -126,18 +139,19 @@ fn an_exhausted_key_opens(rt: HostRuntime) -> Result<(), Fail> {
 /// from 1 to 4, and the second call works.
 #[test]
 fn a_book_works_after_refused_memory(rt: HostRuntime) -> Result<(), Fail> {
-    let mut book = opened(rt.alloc(), small_store(rt.alloc(), 5)?)?;
+    let mut book = small_book(rt.alloc(), 5)?;
     let lease = match book.reserve(3) {
         Err(fault) => {
-            assert_eq!(rt; fault, BookFault::OutOfMemory);
-            assert!(rt; counts(&book, 5, 5, 5));
-            assert!(rt; book.history().is_empty());
+            assert!(rt; fault == BookFault::OutOfMemory);
+            assert!(rt; counts(&book, 5, 5, 5) && has_history(&book, &[]));
             book.reserve(3)
         }
         answer => answer,
     };
-    let lease = lease.ok().ok_or("a second try reserves")?;
-    assert_eq!(rt; (lease.start(), lease.len()), (5, 3));
+    let Ok(lease) = lease else {
+        return Err(Fail::from("a second try reserves"));
+    };
+    assert!(rt; lease.start() == 5 && lease.len() == 3);
     book.give_back(lease);
     assert!(rt; counts(&book, 5, 8, 8));
     Ok(())
@@ -159,19 +173,29 @@ fn a_failed_write_burns(rt: HostRuntime) -> Result<(), Fail> {
             Entry::Burnt { len: 5 },
             Entry::Given { len: 5 },
         ];
-        assert_eq!(rt; book.history(), history.as_slice());
+        assert!(rt; has_history(&book, &history));
     }
     Ok(())
+}
+
+/// Why a store does not open, and the store. Memory that is refused once is asked for again.
+fn refused(alloc: Global, store: MemoryStore) -> Result<(OpenFault, MemoryStore), Fail> {
+    let answer = match Book::open(alloc, store) {
+        Err((OpenFault::OutOfMemory, store)) => Book::open(alloc, store),
+        answer => answer,
+    };
+    match answer {
+        Ok(_) => Err(Fail::from("the store is not opened")),
+        Err(refused) => Ok(refused),
+    }
 }
 
 #[test]
 fn a_failed_read_hands_the_store_back(rt: HostRuntime) -> Result<(), Fail> {
     let mut store = small_store(rt.alloc(), 0)?;
     store.fail_read(1);
-    let Err((fault, store)) = Book::open(rt.alloc(), store) else {
-        return Err(Fail::from("the read fails"));
-    };
-    assert_eq!(rt; fault, OpenFault::Store);
+    let (fault, store) = refused(rt.alloc(), store)?;
+    assert!(rt; fault == OpenFault::Store);
     let book = opened(rt.alloc(), store)?;
     assert!(rt; counts(&book, 0, 0, 0));
     Ok(())
@@ -180,18 +204,9 @@ fn a_failed_read_hands_the_store_back(rt: HostRuntime) -> Result<(), Fail> {
 #[test]
 fn a_bad_text_hands_the_store_back(rt: HostRuntime) -> Result<(), Fail> {
     let store = store_of(rt.alloc(), b"HSSK")?;
-    let (mut fault, mut store) = match Book::open(rt.alloc(), store) {
-        Ok(_) => return Err(Fail::from("four bytes are no image")),
-        Err(refused) => refused,
-    };
-    if fault == OpenFault::OutOfMemory {
-        (fault, store) = match Book::open(rt.alloc(), store) {
-            Ok(_) => return Err(Fail::from("four bytes are no image")),
-            Err(refused) => refused,
-        };
-    }
-    assert_eq!(rt; fault, OpenFault::Image(ImageFault::Truncated));
-    assert_eq!(rt; store.text(), Some(b"HSSK".as_slice()));
+    let (fault, store) = refused(rt.alloc(), store)?;
+    assert!(rt; fault == OpenFault::Image(ImageFault::Truncated));
+    assert!(rt; store.text() == Some(b"HSSK".as_slice()));
     Ok(())
 }
 
@@ -208,44 +223,47 @@ fn a_tall_key_is_used_up(rt: HostRuntime) -> Result<(), Fail> {
     Ok(())
 }
 
-/// Whether a book knows a lease of its own, and another one that lease just where `by_other` says so.
-fn is_known(
-    book: &mut Book<MemoryStore>,
-    other: &Book<MemoryStore>,
-    n: u64,
-    by_other: bool,
-) -> Result<bool, BookFault>
+/// Whether a book reserves a lease and knows it, and another one knows it just where `by_other` says so.
+fn is_known(book: &mut Book<MemoryStore>, other: &Book<MemoryStore>, n: u64, by_other: bool) -> bool
     requires some { 1 ≤ n }
     requires at_most { n ≤ 1024 }
 {
-    let lease = match book.reserve(n) {
-        Err(BookFault::OutOfMemory) => book.reserve(n)?,
-        answer => answer?,
+    let answer = match book.reserve(n) {
+        Err(BookFault::OutOfMemory) => book.reserve(n),
+        answer => answer,
+    };
+    let Ok(lease) = answer else {
+        return false;
     };
     let is_known = book.knows(&lease) && other.knows(&lease) == by_other;
     lease.end();
-    Ok(is_known)
+    is_known
 }
 
 #[test]
 fn a_book_knows_its_leases(rt: HostRuntime) -> Result<(), Fail> {
-    let mut book = opened(rt.alloc(), small_store(rt.alloc(), 0)?)?;
-    let mut equal = opened(rt.alloc(), small_store(rt.alloc(), 0)?)?;
-    assert!(rt; is_known(&mut book, &equal, 4, false)?);
-    assert!(rt; is_known(&mut book, &equal, 3, false)?);
+    let mut book = small_book(rt.alloc(), 0)?;
+    let mut equal = small_book(rt.alloc(), 0)?;
+    assert!(rt; is_known(&mut book, &equal, 4, false));
+    assert!(rt; is_known(&mut book, &equal, 3, false));
     assert!(rt; gives(&mut equal, 4, 0));
-    assert!(rt; is_known(&mut equal, &book, 3, true)?);
+    assert!(rt; is_known(&mut equal, &book, 3, true));
     Ok(())
 }
 
 /// A lease over the same indices of another key.
 #[test]
 fn a_book_knows_no_other_keys_leases(rt: HostRuntime) -> Result<(), Fail> {
-    let mut book = opened(rt.alloc(), small_store(rt.alloc(), 0)?)?;
+    let mut book = small_book(rt.alloc(), 0)?;
     let mut other = opened(rt.alloc(), another_store(rt.alloc())?)?;
     assert!(rt; gives(&mut book, 4, 0));
-    assert!(rt; is_known(&mut other, &book, 4, false)?);
+    assert!(rt; is_known(&mut other, &book, 4, false));
     Ok(())
+}
+
+/// Whether this is what a fault says.
+fn says<T: Display>(alloc: Global, fault: &T, text: &str) -> Result<bool, Fail> {
+    Ok(fault.to_string(alloc)?.as_str() == text)
 }
 
 #[test]
@@ -256,7 +274,7 @@ fn faults_say_what_failed(rt: HostRuntime) -> Result<(), Fail> {
         (OpenFault::OutOfMemory, "out of memory"),
     ];
     for (fault, text) in opening {
-        assert_eq!(rt; fault.to_string(rt.alloc())?.as_str(), text);
+        assert!(rt; says(rt.alloc(), &fault, text)?, "{text}");
     }
     let reserving = [
         (BookFault::Exhausted { left: 2 }, "exhausted: 2 left"),
@@ -282,15 +300,9 @@ fn faults_say_what_failed(rt: HostRuntime) -> Result<(), Fail> {
         ),
     ];
     for (fault, text) in reserving {
-        assert_eq!(rt; fault.to_string(rt.alloc())?.as_str(), text);
+        assert!(rt; says(rt.alloc(), &fault, text)?, "{text}");
     }
-    assert_eq!(rt;
-        ReadFault::Device.to_string(rt.alloc())?.as_str(),
-        "cannot read state"
-    );
-    assert_eq!(rt;
-        StoreFault.to_string(rt.alloc())?.as_str(),
-        "cannot write state"
-    );
+    assert!(rt; says(rt.alloc(), &ReadFault::Device, "cannot read state")?);
+    assert!(rt; says(rt.alloc(), &StoreFault, "cannot write state")?);
     Ok(())
 }

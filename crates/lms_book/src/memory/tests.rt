@@ -1,25 +1,33 @@
 use super::MemoryStore;
 use crate::plans::Left;
-use crate::store::{ReadFault, StateStore, StoreFault};
+use crate::store::{ReadFault, StateStore};
 use std::alloc::Global;
 use std::test::Fail;
 
 /// A store that holds `a`, with room for 8 writes. Memory that is refused once is asked for again, here and below.
 fn store_of_a(alloc: Global) -> Result<MemoryStore, Fail> {
-    let made = MemoryStore::new(alloc, Some(b"a".as_slice()), 8);
-    let made = made.or_else(|_| MemoryStore::new(alloc, Some(b"a".as_slice()), 8));
-    Ok(made.ok().ok_or("memory for a store")?)
+    match MemoryStore::new(alloc, Some(b"a".as_slice()), 8) {
+        Ok(store) => Ok(store),
+        Err(_) => Ok(MemoryStore::new(alloc, Some(b"a".as_slice()), 8)?),
+    }
 }
 
-/// Replaces the text of a store, and answers whether that was done and what the store holds then.
-fn replaced(alloc: Global, store: &mut MemoryStore, text: &[u8]) -> Result<(bool, Vec<u8>), Fail> {
-    let answer = store.replace(text);
-    let held = store.text().ok_or("a text is held")?;
-    let held = match Vec::from_slice(alloc, held) {
-        Ok(held) => held,
-        Err(_) => Vec::from_slice(alloc, held)?,
-    };
-    Ok((answer == Ok(()), held))
+/// Whether a store takes this text.
+fn takes(store: &mut MemoryStore, text: &[u8]) -> bool {
+    store.replace(text) == Ok(())
+}
+
+/// Whether a store holds this text.
+fn holds(store: &MemoryStore, text: &[u8]) -> bool {
+    store.text() == Some(text)
+}
+
+/// Whether a store can't be read.
+fn fails(alloc: Global, store: &mut MemoryStore) -> bool {
+    match store.read(alloc) {
+        Ok(_) => false,
+        Err(fault) => fault == ReadFault::Device,
+    }
 }
 
 #[test]
@@ -37,17 +45,11 @@ fn a_store_fails_where_it_is_told_to(rt: HostRuntime) -> Result<(), Fail> {
         (b"g", false, b"f"),
     ];
     for (text, taken, left) in held {
-        let answer = replaced(rt.alloc(), &mut store, text)?;
-        assert!(rt; answer.0 == taken && answer.1.as_slice() == left.as_slice());
+        assert!(rt; takes(&mut store, text) == taken && holds(&store, left));
     }
-    assert_eq!(rt;
-        store.read(rt.alloc()).err(),
-        Some(ReadFault::Device),
-        "stopped"
-    );
+    assert!(rt; fails(rt.alloc(), &mut store), "stopped");
     let mut store = store.restart();
-    let answer = replaced(rt.alloc(), &mut store, b"h")?;
-    assert!(rt; answer.0 && answer.1.as_slice() == b"h".as_slice());
+    assert!(rt; takes(&mut store, b"h") && holds(&store, b"h"));
     Ok(())
 }
 
@@ -70,7 +72,7 @@ fn a_store_reads_unless_told_to_fail(rt: HostRuntime) -> Result<(), Fail> {
     store.fail_read(1);
     store.fail_read(2);
     for _ in 0..2 {
-        assert_eq!(rt; store.read(rt.alloc()).err(), Some(ReadFault::Device));
+        assert!(rt; fails(rt.alloc(), &mut store));
     }
     assert!(rt; gives(rt.alloc(), &mut store, b"a"));
     Ok(())
@@ -82,18 +84,14 @@ fn a_store_refuses_what_it_has_no_room_for(rt: HostRuntime) -> Result<(), Fail> 
         Ok(store) => store,
         Err(_) => MemoryStore::new(rt.alloc(), None, 1)?,
     };
-    assert_eq!(rt; store.text(), None);
-    assert_eq!(rt;
-        store.read(rt.alloc()).err(),
-        Some(ReadFault::Device),
-        "no text"
-    );
-    assert_eq!(rt; store.replace(&[7; 257]), Err(StoreFault), "257 bytes");
-    assert_eq!(rt; store.text(), None);
-    assert_eq!(rt; store.replace(&[7; 256]), Ok(()));
-    assert_eq!(rt; store.replace(b"a"), Err(StoreFault), "past the room");
-    assert_eq!(rt; store.text(), Some([7; 256].as_slice()));
+    assert!(rt; store.text().is_none());
+    assert!(rt; fails(rt.alloc(), &mut store), "no text");
+    assert!(rt; !takes(&mut store, &[7; 257]), "257 bytes");
+    assert!(rt; store.text().is_none());
+    assert!(rt; takes(&mut store, &[7; 256]));
+    assert!(rt; !takes(&mut store, b"a"), "past the room");
+    assert!(rt; holds(&store, &[7; 256]));
     let mut store = store.restart();
-    assert_eq!(rt; store.replace(b"a"), Ok(()));
+    assert!(rt; takes(&mut store, b"a"));
     Ok(())
 }

@@ -1,8 +1,8 @@
-ghost use Rattle.std.specs.Prelude.{◌≤◌};
+ghost use Rattle.std.specs.Prelude.{◌≡◌, ◌≤◌, [], IfOk};
 
 use super::{burns, counts, gives, opened, refuses, reopened, reserved};
 use crate::fixtures::small_store;
-use crate::{BookFault, Left};
+use crate::{Book, BookFault, Left, MemoryStore};
 use std::alloc::Global;
 use std::test::Fail;
 
@@ -55,11 +55,11 @@ fn mark(given: &mut [bool; 32], range: (u64, u64)) -> Result<(), Fail> {
     Ok(())
 }
 
-/// Reserves 1 to 6 with a failure at the k-th write, starts again, and reserves 1 until the key is exhausted. Answers
-/// how many indices were given, each of them once.
-fn given_with_failure(alloc: Global, k: usize, left: Left, stops: bool) -> Result<usize, Fail>
+/// A book whose k-th write fails, or stops.
+fn failing_book(alloc: Global, k: usize, left: Left, stops: bool) -> Result<Book<MemoryStore>, Fail>
     requires first { 1 ≤ k }
     requires at_most { k ≤ 8 }
+    ensures { IfOk result (λ book. book.history ≡ []) }
 {
     let mut store = small_store(alloc, 0)?;
     if stops {
@@ -67,24 +67,43 @@ fn given_with_failure(alloc: Global, k: usize, left: Left, stops: bool) -> Resul
     } else {
         store.fail_replace(k, left);
     }
-    let mut book = opened(alloc, store)?;
-    let mut given = [false; 32];
+    opened(alloc, store)
+}
+
+/// Reserves 1 to 6, and marks what is given.
+fn mark_six(book: &mut Book<MemoryStore>, given: &mut [bool; 32]) -> Result<(), Fail> {
     for n in 1..7 {
-        if let Ok(range) = reserved(&mut book, n) {
-            mark(&mut given, range)?;
+        if let Ok(range) = reserved(book, n) {
+            mark(given, range)?;
         }
     }
-    let mut book = reopened(alloc, book)?;
+    Ok(())
+}
+
+/// Reserves 1 until the key is exhausted, and marks what is given.
+fn mark_rest(book: &mut Book<MemoryStore>, given: &mut [bool; 32]) -> Result<(), Fail> {
     for _ in 0..33 {
-        match reserved(&mut book, 1) {
-            Ok(range) => mark(&mut given, range)?,
-            Err(fault) if fault == (BookFault::Exhausted { left: 0 }) => {
-                return Ok(given.iter().filter(|given| **given).count());
-            }
+        match reserved(book, 1) {
+            Ok(range) => mark(given, range)?,
+            Err(BookFault::Exhausted { left: 0 }) => return Ok(()),
             Err(_) => return Err(Fail::from("only exhaustion is left")),
         }
     }
     Err(Fail::from("the key is exhausted"))
+}
+
+/// Reserves 1 to 6 with a failure at the k-th write, starts again, and reserves 1 until the key is exhausted. Answers
+/// how many indices were given, each of them once.
+fn given_with_failure(alloc: Global, k: usize, left: Left, stops: bool) -> Result<usize, Fail>
+    requires first { 1 ≤ k }
+    requires at_most { k ≤ 8 }
+{
+    let mut book = failing_book(alloc, k, left, stops)?;
+    let mut given = [false; 32];
+    mark_six(&mut book, &mut given)?;
+    let mut book = reopened(alloc, book)?;
+    mark_rest(&mut book, &mut given)?;
+    Ok(given.iter().filter(|given| **given).count())
 }
 
 #[test]
