@@ -1,5 +1,5 @@
 //! What tests of this crate share.
-ghost use Rattle.std.specs.Prelude.{◌≡◌};
+ghost use Rattle.std.specs.Prelude.{◌≡◌, ◌≤◌, length};
 
 mod forests;
 mod keys;
@@ -7,8 +7,9 @@ mod verification;
 
 use crate::{Forest, HssKey, KeyFault, Levels};
 use lms_params::{LmsType, OtsType};
-use lms_slow::SlowKey;
 use lms_slow::vectors::{VECTORS, Vector};
+use lms_slow::{PlantedTexts, SlowKey, slow_public, slow_sign};
+use std::alloc::{AllocError, Global};
 use std::process::Abort;
 use std::test::Fail;
 use std::thread::Threads;
@@ -39,6 +40,17 @@ fn slow_key(levels: &[(LmsType, OtsType)]) -> SlowKey<'_>
         seed: [0x11; 32],
         id: [0x22; 16],
     }
+}
+
+/// The public key of these levels, and its signature of `abc` by this index.
+fn signed(alloc: Global, levels: &[(LmsType, OtsType)], g: u64) -> Result<PlantedTexts, AllocError>
+    requires some { 1 ≤ length levels.now }
+    requires eight_at_most { length levels.now ≤ 8 }
+{
+    let key = slow_key(levels);
+    let public = slow_public(alloc, &key)?;
+    let signature = slow_sign(alloc, &key, g, &RANDOMIZER, b"abc")?;
+    Ok(PlantedTexts { public, signature })
 }
 
 /// The key of these levels.

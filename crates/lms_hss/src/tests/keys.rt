@@ -90,22 +90,27 @@ fn knows_the_places_of_an_index(rt: HostRuntime) -> Result<(), Fail> {
 fn makes_the_public_key(rt: HostRuntime) -> Result<(), Fail> {
     let public = key_of(&THREE_LEVELS)?.public_key(&rt, rt.alloc())?;
     let slow = slow_public(rt.alloc(), &slow_key(&THREE_LEVELS))?;
-    assert_eq!(rt; public.as_slice(), slow.as_slice());
+    assert!(rt; public.as_slice() == slow.as_slice());
     Ok(())
+}
+
+/// Keys that are not that of `LEVEL`.
+fn other_keys() -> Result<[HssKey; 5], KeyFault> {
+    let levels = Levels::new(&[LEVEL])?;
+    Ok([
+        key_of(&[LEVEL; 2])?,
+        key_of(&[(LmsType::H5, OtsType::W1)])?,
+        key_of(&[(LmsType::H10, OtsType::W8)])?,
+        HssKey::new(levels, [0x12; 32], [0x22; 16]),
+        HssKey::new(levels, [0x11; 32], [0x23; 16]),
+    ])
 }
 
 #[test]
 fn tells_keys_apart(rt: HostRuntime) -> Result<(), Fail> {
     let key = key_of(&[LEVEL])?;
     assert!(rt; same_key(&key, &key_of(&[LEVEL])?));
-    let others = [
-        key_of(&[LEVEL; 2])?,
-        key_of(&[(LmsType::H5, OtsType::W1)])?,
-        key_of(&[(LmsType::H10, OtsType::W8)])?,
-        HssKey::new(Levels::new(&[LEVEL])?, [0x12; 32], [0x22; 16]),
-        HssKey::new(Levels::new(&[LEVEL])?, [0x11; 32], [0x23; 16]),
-    ];
-    for other in others {
+    for other in other_keys()? {
         assert!(rt; !same_key(&key, &other) && same_key(&other, &other));
     }
     Ok(())

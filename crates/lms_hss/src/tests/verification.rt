@@ -1,4 +1,4 @@
-use crate::tests::{LEVEL, RANDOMIZER, THREE_LEVELS, slow_key, vectors};
+use crate::tests::{LEVEL, RANDOMIZER, THREE_LEVELS, signed, slow_key, vectors};
 use crate::verify;
 use lms_params::{LmsType, OtsType};
 use lms_slow::vectors::{THREE, TWO, Vector};
@@ -6,6 +6,11 @@ use lms_slow::{PlantedTexts, SlowTree, planted, slow_public, slow_sign};
 use std::alloc::{AllocError, Global};
 use std::process::Abort;
 use std::test::Fail;
+
+/// Whether these are a public key and a signature of `abc` under it.
+fn verifies(texts: &PlantedTexts) -> bool {
+    verify(&texts.public, b"abc", &texts.signature)
+}
 
 /// A text with four of its bytes replaced.
 fn with_number(alloc: Global, text: &[u8], at: usize, number: u32) -> Result<Vec<u8>, AllocError> {
@@ -29,6 +34,19 @@ fn with_flip(alloc: Global, text: &[u8], at: usize) -> Result<Vec<u8>, AllocErro
     Ok(changed)
 }
 
+/// Whether a signature of `abc` is refused with the lowest bit of one byte changed.
+fn refuses_flip(alloc: Global, texts: &PlantedTexts, at: usize) -> Result<bool, AllocError> {
+    let other = with_flip(alloc, &texts.signature, at)?;
+    Ok(!verify(&texts.public, b"abc", &other))
+}
+
+/// Whether a signature of `abc` is refused with one byte more.
+fn refuses_longer(texts: PlantedTexts) -> Result<bool, Fail> {
+    let mut longer = texts.signature;
+    longer.push(0)?;
+    Ok(!verify(&texts.public, b"abc", &longer))
+}
+
 /// Where a text is changed: at its first byte, in its middle and at its last byte.
 fn places(text: &[u8]) -> [usize; 3] {
     [0, text.len() / 2, text.len().saturating_sub(1)]
@@ -38,9 +56,9 @@ fn places(text: &[u8]) -> [usize; 3] {
 fn check_parts(rt: &impl Abort, public: &[u8], signature: &[u8]) {
     let head = [0, 0, 0, 1, 0, 0, 0, 5, 0, 0, 0, 4];
     assert!(rt; public.starts_with(&head) && public.len() == 60);
-    assert_eq!(rt; public.get(12..28), Some([0x22; 16].as_slice()));
+    assert!(rt; public.get(12..28) == Some([0x22; 16].as_slice()));
     assert!(rt; signature.starts_with(&[0, 0, 0, 0, 0, 0, 0, 5, 0, 0, 0, 4]));
-    assert_eq!(rt; signature.get(1132..1136), Some([0, 0, 0, 5].as_slice()));
+    assert!(rt; signature.get(1132..1136) == Some([0, 0, 0, 5].as_slice()));
 }
 
 /// A signature of `abc` is refused with another number in it.
@@ -70,32 +88,34 @@ fn check_levels(
 
 #[test]
 fn decides_on_a_signature(rt: HostRuntime) -> Result<(), Fail> {
-    let public = slow_public(rt.alloc(), &slow_key(&[LEVEL]))?;
-    let signature = slow_sign(rt.alloc(), &slow_key(&[LEVEL]), 5, &RANDOMIZER, b"abc")?;
-    check_parts(&rt, &public, &signature);
-    assert!(rt; verify(&public, b"abc", &signature));
-    assert!(rt; !verify(&public, b"abd", &signature));
-    check_number(&rt, &public, &signature, 4, 32)?;
-    check_number(&rt, &public, &signature, 0, 1)?;
+    let made = signed(rt.alloc(), &[LEVEL], 5)?;
+    check_parts(&rt, &made.public, &made.signature);
+    assert!(rt; verifies(&made));
+    assert!(rt; !verify(&made.public, b"abd", &made.signature));
+    check_number(&rt, &made.public, &made.signature, 4, 32)?;
+    check_number(&rt, &made.public, &made.signature, 0, 1)?;
     for levels in [0, 2, 9] {
-        check_levels(&rt, &public, &signature, levels)?;
+        check_levels(&rt, &made.public, &made.signature, levels)?;
     }
     Ok(())
 }
 
-#[test]
-fn wants_the_exact_lengths(rt: HostRuntime) -> Result<(), Fail> {
-    let public = slow_public(rt.alloc(), &slow_key(&[LEVEL]))?;
-    let mut signature = slow_sign(rt.alloc(), &slow_key(&[LEVEL]), 5, &RANDOMIZER, b"abc")?;
-    assert_eq!(rt; signature.len(), 1296);
+/// A signature of `abc` is refused at each shorter length, and under a public key that lacks its last byte.
+fn check_cuts(rt: &impl Abort, public: &[u8], signature: &[u8]) {
     for length in 0..1296 {
         let cut = signature.get(..length).unwrap_or(&[]);
-        assert!(rt; !verify(&public, b"abc", cut), "cut to {length}");
+        assert!(rt; !verify(public, b"abc", cut), "cut to {length}");
     }
     let cut = public.get(..59).unwrap_or(&[]);
-    assert!(rt; !verify(cut, b"abc", &signature));
-    signature.push(0)?;
-    assert!(rt; !verify(&public, b"abc", &signature));
+    assert!(rt; !verify(cut, b"abc", signature));
+}
+
+#[test]
+fn wants_the_exact_lengths(rt: HostRuntime) -> Result<(), Fail> {
+    let made = signed(rt.alloc(), &[LEVEL], 5)?;
+    assert!(rt; made.signature.len() == 1296);
+    check_cuts(&rt, &made.public, &made.signature);
+    assert!(rt; refuses_longer(made)?);
     Ok(())
 }
 
@@ -108,6 +128,22 @@ const TREES: [(LmsType, u32); 5] = [
     (LmsType::H25, 33554432),
 ];
 
+/// Whether a planted signature by the last leaf is valid, and one past it is not, nor the last one's with the number past it.
+fn takes_leaves(alloc: Global, tree: &SlowTree, leaves: u32) -> Result<bool, AllocError> {
+    let last = planted(alloc, tree, leaves.saturating_sub(1), &RANDOMIZER, b"abc")?;
+    let past = planted(alloc, tree, leaves, &RANDOMIZER, b"abc")?;
+    let other = with_number(alloc, &last.signature, 4, leaves)?;
+    Ok(verifies(&last) && !verifies(&past) && !verify(&last.public, b"abc", &other))
+}
+
+/// Whether a planted signature by the last leaf is refused with one byte more and with one less.
+fn wants_length(alloc: Global, tree: &SlowTree, leaves: u32) -> Result<bool, Fail> {
+    let made = planted(alloc, tree, leaves.saturating_sub(1), &RANDOMIZER, b"abc")?;
+    let shorter = made.signature.len().saturating_sub(1);
+    let shorter = made.signature.get(..shorter).unwrap_or(&[]);
+    Ok(!verify(&made.public, b"abc", shorter) && refuses_longer(made)?)
+}
+
 /// A planted signature by the last leaf of each height is valid, and each change of it is not.
 fn check_heights(rt: &(impl Abort + AllocGlobal), ots: OtsType) -> Result<(), Fail> {
     for (lms, leaves) in TREES {
@@ -117,24 +153,8 @@ fn check_heights(rt: &(impl Abort + AllocGlobal), ots: OtsType) -> Result<(), Fa
             seed: [0x11; 32],
             id: [0x22; 16],
         };
-        let made = planted(rt.alloc(), &tree, leaves - 1, &RANDOMIZER, b"abc")?;
-        assert!(rt;
-            verify(&made.public, b"abc", &made.signature),
-            "{lms:?} {ots:?}"
-        );
-        let past = with_number(rt.alloc(), &made.signature, 4, leaves)?;
-        assert!(rt; !verify(&made.public, b"abc", &past), "{lms:?} {ots:?}");
-        let past = planted(rt.alloc(), &tree, leaves, &RANDOMIZER, b"abc")?;
-        assert!(rt;
-            !verify(&past.public, b"abc", &past.signature),
-            "{lms:?} {ots:?}"
-        );
-        let mut longer = made.signature;
-        longer.push(0)?;
-        assert!(rt; !verify(&made.public, b"abc", &longer), "{lms:?} {ots:?}");
-        let _zero = longer.pop();
-        let _last = longer.pop();
-        assert!(rt; !verify(&made.public, b"abc", &longer), "{lms:?} {ots:?}");
+        assert!(rt; takes_leaves(rt.alloc(), &tree, leaves)?, "{lms:?} {ots:?}");
+        assert!(rt; wants_length(rt.alloc(), &tree, leaves)?, "{lms:?} {ots:?}");
     }
     Ok(())
 }
@@ -165,12 +185,13 @@ fn check_typecode(
 ) -> Result<(), Fail> {
     let at = usize::from(at);
     let made = planted(rt.alloc(), tree, 3, &RANDOMIZER, b"abc")?;
-    assert_eq!(rt; made.signature.len(), length);
+    assert!(rt; made.signature.len() == length, "{code}");
     let typecode = made.signature.get(at..at + 4);
-    assert_eq!(rt; typecode, Some([0, 0, 0, code].as_slice()));
-    assert!(rt; verify(&made.public, b"abc", &made.signature), "{code}");
-    let other = with_flip(rt.alloc(), &made.signature, at + 3)?;
-    assert!(rt; !verify(&made.public, b"abc", &other), "{code}");
+    assert!(rt; typecode == Some([0, 0, 0, code].as_slice()), "{code}");
+    assert!(rt;
+        verifies(&made) && refuses_flip(rt.alloc(), &made, at + 3)?,
+        "{code}"
+    );
     Ok(())
 }
 
@@ -255,49 +276,47 @@ const NUMBERS: [u16; 14] = [
     0, 4, 8, 1132, 1296, 1300, 1352, 1356, 3536, 3700, 3704, 3756, 3760, 8052,
 ];
 
+/// A signature under `THREE_LEVELS` is refused with any of its numbers changed.
+fn check_numbers(rt: &(impl Abort + AllocGlobal), made: &PlantedTexts) -> Result<(), Fail> {
+    for at in NUMBERS {
+        assert!(rt;
+            refuses_flip(rt.alloc(), made, usize::from(at) + 3)?,
+            "{at}"
+        );
+    }
+    Ok(())
+}
+
 #[test]
 fn verifies_every_level(rt: HostRuntime) -> Result<(), Fail> {
-    let public = slow_public(rt.alloc(), &slow_key(&THREE_LEVELS))?;
-    let signature = slow_sign(
-        rt.alloc(),
-        &slow_key(&THREE_LEVELS),
-        1025,
-        &RANDOMIZER,
-        b"abc",
-    )?;
-    assert_eq!(rt; signature.len(), 8216);
-    assert!(rt; verify(&public, b"abc", &signature));
-    for at in NUMBERS {
-        let other = with_flip(rt.alloc(), &signature, usize::from(at) + 3)?;
-        assert!(rt; !verify(&public, b"abc", &other), "{at}");
-    }
+    let made = signed(rt.alloc(), &THREE_LEVELS, 1025)?;
+    assert!(rt; made.signature.len() == 8216);
+    assert!(rt; verifies(&made));
+    check_numbers(&rt, &made)?;
     for levels in [0, 1, 2, 4, 9] {
-        let other = with_number(rt.alloc(), &public, 0, levels)?;
-        assert!(rt; !verify(&other, b"abc", &signature), "{levels} levels");
+        check_levels(&rt, &made.public, &made.signature, levels)?;
     }
     Ok(())
 }
 
 #[test]
 fn verifies_eight_levels(rt: HostRuntime) -> Result<(), Fail> {
-    let key = slow_key(&[(LmsType::H5, OtsType::W4); 8]);
-    let public = slow_public(rt.alloc(), &key)?;
-    let mut signature = slow_sign(rt.alloc(), &key, 34359738367, &RANDOMIZER, b"abc")?;
-    assert!(rt; verify(&public, b"abc", &signature));
-    signature.push(0)?;
-    assert!(rt; !verify(&public, b"abc", &signature));
+    let made = signed(rt.alloc(), &[(LmsType::H5, OtsType::W4); 8], 34359738367)?;
+    assert!(rt; verifies(&made));
+    assert!(rt; refuses_longer(made)?);
     Ok(())
 }
 
 #[test]
 fn verifies_levels_of_different_heights(rt: HostRuntime) -> Result<(), Fail> {
-    let key = slow_key(&[(LmsType::H10, OtsType::W4), LEVEL]);
-    let public = slow_public(rt.alloc(), &key)?;
-    let signature = slow_sign(rt.alloc(), &key, 32 * 700 + 9, &RANDOMIZER, b"abc")?;
-    assert_eq!(rt; signature.len(), 4 + 2508 + 56 + 1292);
-    assert!(rt; verify(&public, b"abc", &signature));
-    let other = with_flip(rt.alloc(), &signature, 4 + 2508 + 3)?;
-    assert!(rt; !verify(&public, b"abc", &other));
+    let made = signed(
+        rt.alloc(),
+        &[(LmsType::H10, OtsType::W4), LEVEL],
+        32 * 700 + 9,
+    )?;
+    assert!(rt; made.signature.len() == 4 + 2508 + 56 + 1292);
+    assert!(rt; verifies(&made));
+    assert!(rt; refuses_flip(rt.alloc(), &made, 4 + 2508 + 3)?);
     Ok(())
 }
 
@@ -352,6 +371,13 @@ fn below_a_top(alloc: Global, child: &PlantedTexts) -> Result<PlantedTexts, Allo
     Ok(PlantedTexts { public, signature })
 }
 
+/// The texts of a child with typecode 10 in its key and in its signature.
+fn with_typecode(alloc: Global, child: &PlantedTexts) -> Result<PlantedTexts, AllocError> {
+    let public = with_number(alloc, &child.public, 4, 10)?;
+    let signature = with_number(alloc, &child.signature, 8524, 10)?;
+    Ok(PlantedTexts { public, signature })
+}
+
 #[test]
 fn takes_the_sets_of_a_child_from_its_key(rt: HostRuntime) -> Result<(), Fail> {
     let child = SlowTree {
@@ -360,16 +386,11 @@ fn takes_the_sets_of_a_child_from_its_key(rt: HostRuntime) -> Result<(), Fail> {
         seed: [0x44; 32],
         id: [0x55; 16],
     };
-    let mut made = planted(rt.alloc(), &child, 33554431, &RANDOMIZER, b"abc")?;
+    let made = planted(rt.alloc(), &child, 33554431, &RANDOMIZER, b"abc")?;
     let whole = below_a_top(rt.alloc(), &made)?;
-    assert_eq!(rt; whole.signature.len(), 4 + 1292 + 56 + 9324);
-    assert!(rt; verify(&whole.public, b"abc", &whole.signature));
-    made.public = with_number(rt.alloc(), &made.public, 4, 10)?;
-    made.signature = with_number(rt.alloc(), &made.signature, 8524, 10)?;
-    let whole = below_a_top(rt.alloc(), &made)?;
-    assert!(rt;
-        !verify(&whole.public, b"abc", &whole.signature),
-        "typecode 10"
-    );
+    assert!(rt; whole.signature.len() == 4 + 1292 + 56 + 9324);
+    assert!(rt; verifies(&whole));
+    let other = with_typecode(rt.alloc(), &made)?;
+    assert!(rt; !verifies(&below_a_top(rt.alloc(), &other)?), "typecode 10");
     Ok(())
 }
