@@ -1,5 +1,5 @@
 -- Slots, and the signatures in them.
-use Rattle.std.proofs.Common.{◌≡◌, ℕ, zero, suc, ◌+◌, ◌<◌, List, [], ◌∷◌, length, map, ◌++◌, append_assoc, append-nil, Option, None, Some, true, replicate, refl, ap, sym, ◌∙◌, arith, subst, Vec, Global}
+use Rattle.std.proofs.Common.{◌≡◌, ℕ, zero, suc, ◌+◌, ◌<◌, List, [], ◌∷◌, length, map, ◌++◌, append_assoc, append-nil, Option, None, Some, true, replicate, refl, ap, sym, ◌∙◌, arith, subst, ◌⊎◌, inl, inr, ⊎_elim, Vec, Global}
 use Rattle.std.proofs.Math.ListN.{set}
 use Rattle.std.specs.List.{slice_get, filter_map}
 use Rattle.std.specs.Option.{option_map}
@@ -11,7 +11,8 @@ use Rattle.std.proofs.lemmas.Bool.{false≢true, true≢false}
 use Rattle.std.proofs.lemmas.Grind.{common_steps}
 use Rattle.lms_hss.specs.declared.key.HssKey.{HssKey as KeyOfCode}
 use Rattle.lms_batch.specs.Jobs.{JobText, SignedJob, signature_of}
-use Rattle.lms_batch.specs.Batches.{Gathered, batch_of, HoldsOnly, contents}
+use Rattle.lms_spec.specs.Hss.{HssAccepts}
+use Rattle.lms_batch.specs.Batches.{AreAccepted, Gathered, batch_of, HoldsOnly, contents}
 use Rattle.lms_batch.specs.Takes.{Belongs}
 
 pub length-batch_of : (key : KeyOfCode) (start : ℕ) (jobs : List JobText) → length (batch_of key start jobs) ≡ length jobs
@@ -43,6 +44,42 @@ HoldsOnly-set (x ∷ xs) (Some z ∷ slots) zero y holds is = ((grind (arith, co
 HoldsOnly-set (x ∷ xs) (None ∷ slots) (suc k) y holds is = HoldsOnly-set xs slots k y holds is
 HoldsOnly-set (x ∷ xs) (Some z ∷ slots) (suc k) y holds is = (holds.0, HoldsOnly-set xs slots k y holds.1 is)
 
+all-empty : (n k : ℕ) (y : List ℕ) → slice_get (replicate n None) k ≡ Some (Some y) → ⊥
+all-empty zero k y e = grind (arith, common_steps)
+all-empty (suc n) zero y e = grind (arith, common_steps)
+all-empty (suc n) (suc k) y e = all-empty n k y e
+
+-- empty slots hold nothing that is refused
+pub AreAccepted-none : (public : List ℕ) (jobs : List JobText) (n : ℕ) → AreAccepted public jobs (replicate n None)
+AreAccepted-none public jobs n = record { each = λ k j y at slot. absurd (all-empty n k y slot) }
+
+-- a signature in a slot was put there, or stood there before
+put-or-before : (slots : List (Option (List ℕ))) (k i : ℕ) (y s : List ℕ) → slice_get (set slots k (Some y)) i ≡ Some (Some s)
+    → ((k ≡ i) × (y ≡ s)) ⊎ (slice_get slots i ≡ Some (Some s))
+put-or-before [] k i y s e = inr e
+put-or-before (slot ∷ slots) zero zero y s e = inl (refl, grind (arith, common_steps))
+put-or-before (slot ∷ slots) zero (suc i) y s e = inr e
+put-or-before (slot ∷ slots) (suc k) zero y s e = inr e
+put-or-before (slot ∷ slots) (suc k) (suc i) y s e = ⊎_elim
+    (λ (t : (k ≡ i) × (y ≡ s)). inl (ap suc t.0, t.1))
+    (λ (was : slice_get slots i ≡ Some (Some s)). inr was)
+    (put-or-before slots k i y s e)
+
+-- a slot is filled with a signature that is accepted
+pub AreAccepted-set : (public : List ℕ) (jobs : List JobText) (slots : List (Option (List ℕ))) (k : ℕ) (j : JobText) (y : List ℕ)
+    → AreAccepted public jobs slots → slice_get jobs k ≡ Some j → HssAccepts public j.message y → AreAccepted public jobs (set slots k (Some y))
+AreAccepted-set public jobs slots k j y all is accepts = record { each = each }
+  where
+    each : (i : ℕ) (job : JobText) (s : List ℕ) → slice_get jobs i ≡ Some job → slice_get (set slots k (Some y)) i ≡ Some (Some s)
+        → HssAccepts public job.message s
+    each i job s at slot = ⊎_elim
+        (λ (t : (k ≡ i) × (y ≡ s)).
+        let there : slice_get jobs i ≡ Some j = subst (λ (n : ℕ). slice_get jobs n ≡ Some j) t.0 is in
+        let e : j ≡ job = grind (arith, common_steps) in
+        subst (λ (x : List ℕ). HssAccepts public job.message x) t.1 (subst (λ (x : JobText). HssAccepts public x.message y) e accepts))
+        (λ (was : slice_get slots i ≡ Some (Some s)). all.each i job s at was)
+        (put-or-before slots k i y s slot)
+
 pub map-replicate : {A : Type 0} {B : Type 0} (f : A → B) (n : ℕ) (a : A) → map f (replicate n a) ≡ replicate n (f a)
 map-replicate f zero a = refl
 map-replicate f (suc n) a = ap (λ r. f a ∷ r) (map-replicate f n a)
@@ -53,6 +90,12 @@ pub HoldsOnly-put : (key : KeyOfCode) (start : ℕ) (jobs : List JobText) (slots
     → HoldsOnly (batch_of key start jobs) (contents (set slots k (Some v)))
 HoldsOnly-put key start jobs slots k j v holds job signed =
     rw (map-set (option_map (λ v. v.items)) slots k (Some v), signed) (HoldsOnly-set _ _ k _ holds (slice_get-batch_of key start jobs k j job))
+
+pub AreAccepted-put : (public : List ℕ) (jobs : List JobText) (slots : List (Option (Vec ℕ Global))) (k : ℕ) (j : JobText) (v : Vec ℕ Global)
+    → AreAccepted public jobs (contents slots) → slice_get jobs k ≡ Some j → HssAccepts public j.message v.items
+    → AreAccepted public jobs (contents (set slots k (Some v)))
+AreAccepted-put public jobs slots k j v all job accepts =
+    rw (map-set (option_map (λ v. v.items)) slots k (Some v)) (AreAccepted-set public jobs (contents slots) k j v.items all job accepts)
 
 -- an empty slot shows as one
 pub slice_get-contents : (slots : List (Option (Vec ℕ Global))) (k : ℕ) (s : Option (Vec ℕ Global)) → slice_get slots k ≡ Some s → is_some s ≡ false

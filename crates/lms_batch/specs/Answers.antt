@@ -22,9 +22,9 @@ start_of (Complete start signatures) = start
 start_of (Partial start slots) = start
 
 -- the batch of no jobs
-abbrev pub IsNone : Batch → Type 0
-IsNone (Complete start signatures) = (start ≡ 0) × (signatures.items ≡ [])
-IsNone (Partial start slots) = ⊥
+abbrev pub IsBatchOfNone : Batch → Type 0
+IsBatchOfNone (Complete start signatures) = (start ≡ 0) × (signatures.items ≡ [])
+IsBatchOfNone (Partial start slots) = ⊥
 
 -- what a desk counts of a batch of so many jobs: one entry, where there are any, and an index received for each
 abbrev pub CountsBatch : ℕ → Sums → Result Batch BatchFault → Sums → Type 0
@@ -44,7 +44,7 @@ IsAnswerAfter (Err refused) (Ok batch) = ⊥
 IsAnswerAfter (Err refused) (Err TooMany) = ⊥
 IsAnswerAfter (Err refused) (Err (OutOfMemory burnt)) = ⊥
 
--- the answer is that of one reservation of so many indices of the key
-abbrev pub ReservesOnce : KeyOfCode → ℕ → Result Batch BatchFault → Type 0
-ReservesOnce key count answer = (old new : BookState) × (reserved : Result LeaseState BookFault) × (old.key ≡ key)
+-- some book of this key that is in order would lead to this answer, where so many indices of it are reserved
+abbrev pub CouldBeReserved : KeyOfCode → ℕ → Result Batch BatchFault → Type 0
+CouldBeReserved key count answer = (old new : BookState) × (reserved : Result LeaseState BookFault) × (old.key ≡ key)
     × ReservesInOrder count old reserved new × IsAnswerAfter reserved answer

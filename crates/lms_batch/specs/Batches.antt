@@ -1,7 +1,9 @@
 -- Batches of signatures, and what a collector has of one.
-use Rattle.std.specs.Prelude.{◌≡◌, ℕ, ◌+◌, ◌≤◌, List, [], ◌∷◌, Option, None, Some, length, map, replicate, slice_set, Vec}
+use Rattle.std.specs.Prelude.{◌≡◌, ℕ, ◌+◌, ◌≤◌, List, [], ◌∷◌, Option, None, Some, length, map, replicate, slice_get, slice_set, Vec}
 use Rattle.std.specs.Global.{Global}
 use Rattle.std.specs.Option.{option_map}
+use Rattle.lms_spec.specs.Hss.{hss_public_key, HssAccepts}
+use Rattle.lms_hss.specs.Keys.{hss_key_of}
 use Rattle.lms_hss.specs.declared.key.HssKey.{HssKey as KeyOfCode}
 use Rattle.lms_batch.specs.Jobs.{JobText, SignedJob, signature_of}
 
@@ -17,6 +19,11 @@ HoldsOnly (x ∷ xs) (None ∷ slots) = HoldsOnly xs slots
 HoldsOnly (x ∷ xs) (Some y ∷ slots) = (y ≡ x) × HoldsOnly xs slots
 HoldsOnly [] (slot ∷ slots) = ⊥
 HoldsOnly (x ∷ xs) [] = ⊥
+
+-- the verifier accepts each signature for the message of its job
+pub record AreAccepted (public : List ℕ) (jobs : List JobText) (slots : List (Option (List ℕ))) : Type 0 where
+  pub each : (k : ℕ) (job : JobText) (signature : List ℕ) → slice_get jobs k ≡ Some job → slice_get slots k ≡ Some (Some signature)
+      → HssAccepts public job.message signature
 
 -- what slots hold
 abbrev pub contents : List (Option (Vec ℕ Global)) → List (Option (List ℕ))
@@ -43,9 +50,10 @@ pub record IsSameBatch (old new : Gathered) : Type 0 where
   pub start : new.start ≡ old.start
   pub jobs : new.jobs ≡ old.jobs
 
--- what a collector keeps: each slot is empty or holds the signature of its job, and there is room to list all
+-- what a collector keeps: each slot is empty or holds the signature of its job, which is accepted, and there is room to list all
 pub record IsGathering (gathered : Gathered) (slots : ℕ) (listed : List (Vec ℕ Global)) (room : ℕ) : Type 0 where
   pub holds : HoldsOnly (batch_of gathered.key gathered.start gathered.jobs) gathered.slots
+  pub accepted : AreAccepted (hss_public_key (hss_key_of gathered.key)) gathered.jobs gathered.slots
   pub one_each : slots ≡ length gathered.jobs
   pub none_listed : listed ≡ []
   pub fits : slots ≤ room

@@ -17,15 +17,14 @@ use lms_pool::DrawSeat;
 use std::alloc::Global;
 use std::thread::{self, Threads};
 
-/// All memory of a batch but its signatures and its open lease: a collector, and for each worker a place and room for the
-/// receipts of all jobs.
+/// What a batch needs before its lease is opened: a collector, and for each worker a place and room for the receipts of all
+/// jobs.
 #[derive(Drop)]
 struct Crew<'a> {
     collector: Collector<'a>,
     jobs: &'a [Job],
     rooms: Vec<Vec<Receipt<'a>>>,
     workers: Vec<Worker<'a>>,
-    ghost none: { collector ≡ none_of collector.key collector.start (texts_of jobs.now) },
     ghost room: { All (λ room. (vec_len room ≡ 0) × (length jobs.now ≤ vec_capacity room)) rooms.items },
     ghost fits: { vec_len workers + vec_len rooms ≤ vec_capacity workers },
 }
@@ -39,10 +38,8 @@ impl<'a> Crew<'a> {
         jobs: &'a [Job],
         workers: usize,
     ) -> Result<Crew<'a>, OutOfMemory>
-        requires { start + length jobs.now < 2 ^ 64 }
         ensures batch { IfOk result (λ crew. crew.collector ≡ none_of key start (texts_of jobs.now)) }
         ensures jobs { IfOk result (λ crew. crew.jobs.now ≡ jobs.now) }
-        ensures rooms { IfOk result (λ crew. vec_len crew.rooms ≡ workers) }
     {
         let collector = Collector::new(alloc, key, start, jobs)?;
         let mut rooms = Vec::with_capacity(alloc, workers)?;
@@ -56,9 +53,7 @@ impl<'a> Crew<'a> {
             workers: Vec::with_capacity(alloc, workers)?,
         })
     }
-}
 
-impl<'a> Crew<'a> {
     /// Gives each worker a seat of the open lease.
     fn seated(self, lease: &'a OpenLease, seats: Vec<DrawSeat>) -> (Collector<'a>, Vec<Worker<'a>>)
         requires places { lease.now.len ≡ length self.jobs.now }
@@ -86,14 +81,14 @@ fn gathered<'a>(collector: Collector<'a>, workers: Vec<Worker<'a>>) -> Batch
     let mut collector = collector;
     for worker in workers {
         for receipt in worker.into_receipts() {
-            // Each is of this batch, and of a place of its own.
+            // One that was refused would leave its slot empty.
             let _ = collector.take(receipt);
         }
     }
     collector.finish()
 }
 
-/// Signs the jobs by the indices of the lease, one for each, by 1 to 64 workers.
+/// Signs the jobs by the indices of the lease, one for each, by 1 to 64 workers, but no more than there are jobs.
 ///
 /// `OutOfMemory` where memory is refused before any worker runs, with the lease handed back as it was.
 pub(crate) fn sign_leased<R: Threads + Sync, G: Gate>(
@@ -106,10 +101,12 @@ pub(crate) fn sign_leased<R: Threads + Sync, G: Gate>(
 ) -> Result<Batch, (OutOfMemory, Lease)>
     requires some { 1 ≤ workers }
     requires at_most { workers ≤ 64 }
+    requires jobs { 1 ≤ length jobs.now }
     requires len { lease.len ≡ length jobs.now }
     ensures ok { IfOk result (IsAnswerTo lease.key lease.start (texts_of jobs.now)) }
     ensures err { IfErr result (λ e. e.1 ≡ lease) }
 {
+    let workers = workers.min(jobs.len());
     let crew = match Crew::new(alloc, lease.key(), lease.start(), jobs, workers) {
         Ok(crew) => crew,
         Err(refused) => return Err((refused, lease)),

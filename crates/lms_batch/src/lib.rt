@@ -1,5 +1,5 @@
 //! Jobs signed by the indices of a lease, which threads claim one after another without a wait, and the batch that their
-//! receipts make.
+//! receipts make. `SigningService` signs a list of jobs so, over a shared book.
 #![tactic(auto)]
 
 mod collector;

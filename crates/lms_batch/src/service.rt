@@ -1,9 +1,9 @@
 //! Batches over a shared book.
-ghost use Rattle.std.specs.Prelude.{◌≡◌, ◌<◌, ◌≤◌, ◌+◌, ◌↔◌, Err, IfOk, length};
+ghost use Rattle.std.specs.Prelude.{◌≡◌, ◌<◌, ◌≤◌, ◌+◌, ◌↔◌, Err, IfOk, IsOk, length};
 ghost use Rattle.lms_spec.specs.Hss.{capacity_of};
 ghost use Rattle.lms_hss.specs.Keys.{hss_key_of};
 ghost use Rattle.lms_batch.specs.Jobs.{texts_of};
-ghost use Rattle.lms_batch.specs.Answers.{IsAnswerTo, IsNone, CountsBatch, ReservesOnce, start_of};
+ghost use Rattle.lms_batch.specs.Answers.{IsAnswerTo, IsBatchOfNone, CountsBatch, CouldBeReserved, start_of};
 
 use crate::collector::Batch;
 use crate::crew::sign_leased;
@@ -30,12 +30,12 @@ pub enum BatchFault {
     /// The reservation was refused.
     #[error("{0}")]
     Book(BookFault),
-    /// Memory was refused after the reservation, whose indices are burnt.
+    /// Memory was refused after the reservation, and its indices, so many, sign nothing. The desk counts them as received.
     #[error("out of memory: {burnt} burnt")]
     OutOfMemory { burnt: u64 },
 }
 
-/// Signs batches by the indices of a shared book. Contracts see what they see of the book.
+/// Signs batches by the indices of a shared book. Contracts see its key and its number of desks.
 #[derive(Drop)]
 pub struct SigningService<S: StateStore, E: Tally, G: Tally, B: Tally> {
     book: SharedBook<S, E, G, B>,
@@ -71,14 +71,16 @@ impl<S: StateStore, E: Tally, G: Tally, B: Tally> SigningService<S, E, G, B> {
         self.book
     }
 
-    /// Reserves as many indices as there are jobs, at most 1024, and signs the job at place k by the k-th of them, by 1 to 64
-    /// workers at once, the caller's thread among them. Waits for the book's lock, and for the workers. No jobs make a complete
-    /// batch of none from 0 on, and take no index.
+    /// Reserves as many indices as there are jobs, 1 to 1024, from a start on, and signs the job at place k, counted from 0, by
+    /// index start + k: by 1 to 64 workers at once, the caller's thread among them, but no more than there are jobs. Waits for
+    /// the book's lock, and for the workers. For no jobs it answers `Complete` with start 0 and no signatures, and reserves
+    /// nothing.
     ///
     /// `TooMany` over 1024 jobs, with nothing reserved. `Book` where the reservation is refused, as `SharedBook::reserve`
-    /// answers it. `OutOfMemory` where memory is refused after it, before any worker ran: all its indices are burnt. A worker
-    /// that is refused memory burns the indices that no worker has claimed, and the batch is `Partial`. Where no thread can be
-    /// started for a worker, it runs after another one.
+    /// answers it. `OutOfMemory` where memory is refused after it, before any worker ran: its indices sign nothing. A worker
+    /// that is refused memory burns the index that it claimed and those that nobody has claimed yet; the batch is then
+    /// `Partial`. The desk counts the reservation as `SharedBook::reserve` says, so all indices as received, also at `Partial`
+    /// and `OutOfMemory`. Where no thread can be started for a worker, it runs after another one.
     pub fn sign_batch<R: Threads + Wait + Sync, W: Gate>(
         &self,
         rt: &R,
@@ -92,10 +94,10 @@ impl<S: StateStore, E: Tally, G: Tally, B: Tally> SigningService<S, E, G, B> {
         requires at_most { workers ≤ 64 }
         ensures answer { IfOk result (λ batch. IsAnswerTo self.now.key (start_of batch) (texts_of jobs.now) batch) }
         ensures within { IfOk result (λ batch. start_of batch + length jobs.now ≤ capacity_of (hss_key_of self.now.key)) }
-        ensures none { length jobs.now ≡ 0 → IfOk result IsNone }
+        ensures none { length jobs.now ≡ 0 → IsOk result × IfOk result IsBatchOfNone }
         ensures too_many { (result ≡ Err BatchFault.TooMany) ↔ (1024 < length jobs.now) }
         ensures desk { CountsBatch (length jobs.now) desk.old result desk.new }
-        ensures once { 1 ≤ length jobs.now → length jobs.now ≤ 1024 → ReservesOnce self.now.key (length jobs.now) result }
+        ensures lawful { 1 ≤ length jobs.now → length jobs.now ≤ 1024 → CouldBeReserved self.now.key (length jobs.now) result }
     {
         if jobs.len() > 1024 {
             return Err(BatchFault::TooMany);

@@ -1,10 +1,13 @@
 ghost use Rattle.std.specs.Prelude.{◌≡◌, ◌≤◌, []};
 ghost use Rattle.lms_shared_book.specs.Desks.{BlankFits};
 
+mod gates;
+
 use super::{BatchFault, SigningService};
 use crate::fixtures::{book_of, job, public_key, store_at};
 use crate::tests::is_complete;
-use crate::{Batch, Gate, Job, OpenGate};
+use crate::{Batch, Job, OpenGate};
+use gates::Meeting;
 use lms_book::{Book, BookFault, Entry, Left, MemoryStore};
 use lms_hss::verify;
 use lms_shared_book::{Blanks, Desk, SharedBook, Tally};
@@ -12,7 +15,6 @@ use std::alloc::{AllocGlobal, Global};
 use std::marker::Brand;
 use std::process::Abort;
 use std::sync::Wait;
-use std::sync::atomic::{AtomicBool, Ordering};
 use std::sync::ledger::Blank;
 use std::test::Fail;
 use std::thread;
@@ -143,7 +145,7 @@ fn four_jobs_are_signed_by_each_number_of_workers(rt: HostRuntime) -> Result<(),
 }
 
 /// Whether a batch is complete and has no signatures, from 0 on.
-fn is_none(batch: &Batch) -> bool {
+fn is_of_none(batch: &Batch) -> bool {
     match batch {
         Batch::Complete { start, signatures } => *start == 0 && signatures.is_empty(),
         Batch::Partial { .. } => false,
@@ -159,7 +161,7 @@ fn too_few_and_too_many<E: Tally, G: Tally, B: Tally>(
     let mut desks = desks;
     let desk = desks.first_mut().ok_or("a desk")?;
     let none = service.sign_batch(rt, rt.alloc(), desk, &[], 1, &OpenGate);
-    assert!(rt; is_none(&none.ok().ok_or("no jobs make a batch")?));
+    assert!(rt; is_of_none(&none.ok().ok_or("no jobs make a batch")?));
     let mut jobs = jobs_of(rt.alloc(), 1025)?;
     let many = service.sign_batch(rt, rt.alloc(), desk, &jobs, 1, &OpenGate);
     assert_eq!(rt; many.err(), Some(BatchFault::TooMany));
@@ -277,37 +279,6 @@ fn batches_at_once(rt: HostRuntime) -> Result<(), Fail> {
     carry_out(&rt, store, Scenario::AtOnce)
 }
 
-/// How often a worker looks for the other one.
-const TURNS: u32 = 10_000_000;
-
-/// A gate at which the signature of each of two places waits until that of the other has begun.
-#[derive(Drop)]
-struct Meeting {
-    has_begun: [AtomicBool; 2],
-    is_missed: AtomicBool,
-}
-
-impl Gate for Meeting {
-    fn before_sign(&self, place: u64) {
-        let [first, second] = &self.has_begun;
-        let (mine, other) = if place == 0 {
-            (first, second)
-        } else {
-            (second, first)
-        };
-        mine.store(true, Ordering::SeqCst);
-        for _ in 0..TURNS {
-            if other.load(Ordering::SeqCst) {
-                return;
-            }
-            thread::yield_now();
-        }
-        self.is_missed.store(true, Ordering::SeqCst);
-    }
-
-    fn after_sign(&self, _place: u64) {}
-}
-
 /// Signs two jobs by one or two workers, where one alone waits in vain for another.
 fn meet<E: Tally, G: Tally, B: Tally>(
     rt: &(impl Abort + AllocGlobal + Threads + Wait + Sync),
@@ -318,14 +289,11 @@ fn meet<E: Tally, G: Tally, B: Tally>(
     let mut desks = desks;
     let desk = desks.first_mut().ok_or("a desk")?;
     let jobs = jobs_of(rt.alloc(), 2)?;
-    let gate = Meeting {
-        has_begun: [AtomicBool::new(false), AtomicBool::new(false)],
-        is_missed: AtomicBool::new(false),
-    };
+    let gate = Meeting::new();
     let workers = workers.clamp(1, 2);
     let batch = service.sign_batch(rt, rt.alloc(), desk, &jobs, workers, &gate);
     assert!(rt; is_complete(rt, &batch.ok().ok_or("a batch")?, 30, &jobs)?);
-    assert_eq!(rt; gate.is_missed.load(Ordering::SeqCst), workers == 1);
+    assert!(rt; gate.is_missed() == (workers == 1) && gate.is_called_in_turn());
     settled(rt, service, desks, &[Entry::Given { len: 2 }], 32)
 }
 

@@ -3,10 +3,12 @@ use Rattle.std.specs.Option.{option_map}
 use Rattle.std.specs.List.{slice_get}
 use Rattle.std.proofs.lemmas.List.{map-set}
 use Rattle.std.proofs.lemmas.Option.{slice_get_read}
+use Rattle.lms_spec.specs.Hss.{hss_public_key}
+use Rattle.lms_hss.specs.Keys.{hss_key_of}
 use Rattle.lms_batch.specs.Jobs.{texts_of, signature_of}
 use Rattle.lms_batch.specs.Takes.{Belongs}
 use Rattle.lms_batch.specs.Batches.{Gathered}
-use Rattle.lms_batch.proofs.Slots.{HoldsOnly-put, place-within, slice_get-contents, slice_get-contents-some}
+use Rattle.lms_batch.proofs.Slots.{AreAccepted-put, HoldsOnly-put, place-within, slice_get-contents, slice_get-contents-some}
 use Rattle.lms_batch.proofs.collector.Collector.take.Goals as goal
 
 pub index_mut-requires : goal.index_mut-requires
@@ -34,6 +36,9 @@ invariant_of-self c =
     record {
       holds = HoldsOnly-put c.self.inside.key c.self.inside.start (texts_of c.self.inside.jobs.now) c.self.inside.slots.items k
           c.args.receipt.job c.into_signature.result c.self.invariant.holds job signed;
+      accepted = AreAccepted-put (hss_public_key (hss_key_of c.self.inside.key)) (texts_of c.self.inside.jobs.now) c.self.inside.slots.items k
+          c.args.receipt.job c.into_signature.result c.self.invariant.accepted job
+          (rw (c.into_signature.ensures.value, ← b.key) c.into_signature.ensures.signed.accepted);
       one_each = search rules;
       none_listed = search rules;
       fits = search rules;
