@@ -1,0 +1,8 @@
+pub mod JobLines
+pub mod Fronts
+pub mod LineLemmas
+pub mod Growth
+pub mod Steps
+pub mod Numerals
+pub mod Outcomes
+pub mod SignedLines

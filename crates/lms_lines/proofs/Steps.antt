@@ -1,0 +1,109 @@
+use Rattle.std.proofs.Common.{◌≡◌, ◌<◌, ◌≤◌, ◌+◌, inl, inr, ℕ, suc, add-one, List, [], ◌∷◌, ◌++◌, length, take, drop, get_or, Result, Ok, Err, IfErr, IsErrAnd, Option, None, Some, IfSome, refl, sym, ap, ◌∙◌, subst, append_assoc, append-nil, drop-cons, arith}
+use Rattle.std.proofs.lemmas.List.{take-append-drop}
+use Rattle.std.proofs.Math.Seq.{take-suc, take-append_seam}
+use Rattle.std.specs.Io.KnownBytes.{Consumes, IsAtEnd, Keeps}
+use Rattle.lms_batch.specs.Jobs.{JobText}
+use Rattle.lms_lines.specs.JobLines.{IsJobLine}
+use Rattle.lms_lines.specs.JobsTexts.{IsFaultOf}
+use Rattle.lms_lines.specs.Gathered.{HasNoEnd, Gathered, after_part, after_line, IsGatheredFrom, IsRefusal, Advances, Fails}
+use Rattle.lms_lines.specs.declared.fault.JobsFault.{JobsFault}
+use Rattle.lms_lines.specs.declared.fault.JobsFault.TheVariants.{TooManyJobs, BadJob}
+use Rattle.lms_lines.proofs.Growth.{gathered-part, gathered-line, bad-long, bad-line, bad-last, too-many}
+
+-- a `?` that hands on the same fault
+pub IfErr-same : {A E : Type 0} (P : E → Type 0) (r : Result A E) (fault : E) → IsErrAnd r (λ e. e ≡ fault) → P fault → IfErr r P
+IfErr-same P (Ok x) fault same p = tt
+IfErr-same P (Err e) fault same p = subst P (sym same) p
+
+pub split-at : (xs : List ℕ) (at x : ℕ) → at < length xs → get_or xs at 0 ≡ x → xs ≡ take at xs ++ x ∷ drop (at + 1) xs
+split-at xs at x below is =
+    sym (take-append-drop at xs)
+    ∙ ap (λ r. take at xs ++ r) (drop-cons xs at 0 below ∙ ap (λ (y : ℕ). y ∷ drop (suc at) xs) is ∙ ap (λ (n : ℕ). x ∷ drop n xs) (sym (add-one at)))
+
+pub take-through-at : (xs : List ℕ) (at x : ℕ) → at < length xs → get_or xs at 0 ≡ x → take (at + 1) xs ≡ take at xs ++ x ∷ []
+take-through-at xs at x below is =
+    ap (λ (n : ℕ). take n xs) (add-one at) ∙ take-suc xs at 0 below ∙ ap (λ (y : ℕ). take at xs ++ y ∷ []) is
+
+pub fails-full : (g : Gathered) (bytes : List ℕ) → 0 < length bytes → 1024 ≤ length g.jobs → Fails g bytes TooManyJobs
+fails-full g [] some all = absurd (let h : ⊥ = omega arith in h)
+fails-full g (x ∷ bytes) some all = λ done rest was. too-many done g was x (bytes ++ rest) all
+
+pub fails-long : (g : Gathered) (part tail : List ℕ) (fault : JobsFault) → IsRefusal g fault (131137 < length g.line + length part) → HasNoEnd part → length g.jobs < 1024 → Fails g (part ++ tail) fault
+fails-long g part tail fault (inl memory) one few = λ done rest was. subst (IsFaultOf (done ++ ((part ++ tail) ++ rest))) (sym memory) tt
+fails-long g part tail fault (inr bad) one few = λ done rest was.
+    subst (IsFaultOf (done ++ ((part ++ tail) ++ rest))) (sym bad.0)
+    (subst (λ (l : List ℕ). IsFaultOf (done ++ l) (BadJob (length g.jobs + 1))) (sym (append_assoc part tail rest)) (bad-long done g was part (tail ++ rest) one bad.1 few))
+
+pub fails-line : (g : Gathered) (part tail : List ℕ) (fault : JobsFault) → IsRefusal (after_part g part) fault ((job : JobText) → ¬ IsJobLine (g.line ++ part) job) → HasNoEnd part → length g.line + length part ≤ 131137 → length g.jobs < 1024 → Fails g (part ++ 10 ∷ tail) fault
+fails-line g part tail fault (inl memory) one short few = λ done rest was. subst (IsFaultOf (done ++ ((part ++ 10 ∷ tail) ++ rest))) (sym memory) tt
+fails-line g part tail fault (inr bad) one short few = λ done rest was.
+    let text : (done ++ part) ++ 10 ∷ (tail ++ rest) ≡ done ++ ((part ++ 10 ∷ tail) ++ rest)
+    = append_assoc done part (10 ∷ (tail ++ rest)) ∙ ap (λ l. done ++ l) (sym (append_assoc part (10 ∷ tail) rest)) in
+    subst (IsFaultOf (done ++ ((part ++ 10 ∷ tail) ++ rest))) (sym bad.0)
+    (subst (λ (l : List ℕ). IsFaultOf l (BadJob (length g.jobs + 1))) text (bad-line (done ++ part) (after_part g part) (gathered-part done g was part one short few) (tail ++ rest) bad.1 few))
+
+pub advances-part : (g : Gathered) (part : List ℕ) → HasNoEnd part → length g.line + length part ≤ 131137 → length g.jobs < 1024 → Advances g (after_part g part) part
+advances-part g part one short few = λ done was. gathered-part done g was part one short few
+
+pub advances-line : (g : Gathered) (part : List ℕ) (job : JobText) → IsJobLine (g.line ++ part) job → HasNoEnd part → length g.line + length part ≤ 131137 → length g.jobs < 1024 → Advances g (after_line (after_part g part) job) (part ++ 10 ∷ [])
+advances-line g part job is one short few = λ done was.
+    subst (λ (l : List ℕ). IsGatheredFrom l (after_line (after_part g part) job)) (append_assoc done part (10 ∷ []))
+    (gathered-line (done ++ part) (after_part g part) (gathered-part done g was part one short few) job is few)
+
+pub advances-both : (a b c : Gathered) (xs ys : List ℕ) → Advances a b xs → Advances b c ys → Advances a c (xs ++ ys)
+advances-both a b c xs ys p q = λ done was. subst (λ (l : List ℕ). IsGatheredFrom l c) (append_assoc done xs ys) (q (done ++ xs) (p done was))
+
+pub advances-none : (a : Gathered) → Advances a a []
+advances-none a = λ done was. subst (λ (l : List ℕ). IsGatheredFrom l a) (sym (append-nil done)) was
+
+pub fails-after : (a b : Gathered) (xs ys : List ℕ) (fault : JobsFault) → Advances a b xs → Fails b ys fault → Fails a (xs ++ ys) fault
+fails-after a b xs ys fault p q = λ done rest was.
+    let text : (done ++ xs) ++ (ys ++ rest) ≡ done ++ ((xs ++ ys) ++ rest) = append_assoc done xs (ys ++ rest) ∙ ap (λ l. done ++ l) (sym (append_assoc xs ys rest)) in
+    subst (λ (l : List ℕ). IsFaultOf l fault) text (q (done ++ xs) rest (p done was))
+
+pub last-fault : (done : List ℕ) (g : Gathered) → IsGatheredFrom done g → (fault : JobsFault) → 0 < length g.line → IsRefusal g fault ((job : JobText) → ¬ IsJobLine g.line job) → IsFaultOf done fault
+last-fault done g was fault some (inl memory) = subst (IsFaultOf done) (sym memory) tt
+last-fault done g was fault some (inr bad) = subst (IsFaultOf done) (sym bad.0) (bad-last done g was some bad.1)
+
+-- where the text is known: what was read, and what is left of it
+pub known-fault : (old new : Option (List ℕ)) (done : List ℕ) (fault : JobsFault) → Consumes old new done → ((rest : List ℕ) → IsFaultOf (done ++ rest) fault) → IfSome old (λ text. IsFaultOf text fault)
+known-fault None new done fault read bad = tt
+known-fault (Some xs) None done fault read bad = absurd read
+known-fault (Some xs) (Some ys) done fault read bad = subst (λ (l : List ℕ). IsFaultOf l fault) (sym read) (bad ys)
+
+-- where the text is known and all of it was read
+pub known-end : (old new : Option (List ℕ)) (done : List ℕ) (fault : JobsFault) → Consumes old new done → IsAtEnd new → IsFaultOf done fault → IfSome old (λ text. IsFaultOf text fault)
+known-end None new done fault read end bad = tt
+known-end (Some xs) None done fault read end bad = absurd read
+known-end (Some xs) (Some ys) done fault read end bad = subst (λ (l : List ℕ). IsFaultOf l fault) (sym (read ∙ ap (λ l. done ++ l) end ∙ append-nil done)) bad
+
+-- what of a fault is never said
+pub known-any : (old : Option (List ℕ)) (fault : JobsFault) → ((text : List ℕ) → IsFaultOf text fault) → IfSome old (λ text. IsFaultOf text fault)
+known-any None fault any = tt
+known-any (Some xs) fault any = any xs
+
+pub consumes-none : (a : Option (List ℕ)) → Consumes a a []
+consumes-none None = tt
+consumes-none (Some xs) = refl
+
+pub consumes-both : (a b c : Option (List ℕ)) (xs ys : List ℕ) → Consumes a b xs → Consumes b c ys → Consumes a c (xs ++ ys)
+consumes-both None b c xs ys p q = tt
+consumes-both (Some x) None c xs ys p q = absurd p
+consumes-both (Some x) (Some y) None xs ys p q = absurd q
+consumes-both (Some x) (Some y) (Some z) xs ys p q = p ∙ ap (λ l. xs ++ l) q ∙ sym (append_assoc xs ys z)
+
+pub consumes-kept : (a b c : Option (List ℕ)) (xs : List ℕ) → Keeps a b → Consumes b c xs → Consumes a c xs
+consumes-kept None b c xs p q = tt
+consumes-kept (Some x) None c xs p q = absurd p
+consumes-kept (Some x) (Some y) None xs p q = absurd q
+consumes-kept (Some x) (Some y) (Some z) xs p q = sym p ∙ q
+
+pub keeps-both : (a b c : Option (List ℕ)) → Keeps a b → Keeps b c → Keeps a c
+keeps-both None b c p q = tt
+keeps-both (Some x) None c p q = absurd p
+keeps-both (Some x) (Some y) None p q = absurd q
+keeps-both (Some x) (Some y) (Some z) p q = q ∙ p
+
+-- what a whole buffer holds after it was lent
+pub whole-buffer : (len : ℕ) (new old : List ℕ) → length new ≡ len → take len (new ++ drop (length new) old) ≡ new
+whole-buffer len new old same = ap (λ (n : ℕ). take n (new ++ drop (length new) old)) (sym same) ∙ take-append_seam new (drop (length new) old)

@@ -1,0 +1,28 @@
+-- What is written of a batch.
+use Rattle.std.specs.Prelude.{◌≡◌, ℕ, ◌+◌, List, [], ◌∷◌, ◌++◌, codes, decimal, map, Option, None, Some}
+use Rattle.std.specs.Option.{option_map}
+use Rattle.std.specs.Io.KnownBytes.{Appends}
+use Rattle.hex.specs.Hex.{encode_lower}
+use Rattle.lms_batch.specs.declared.collector.Batch.{Batch}
+use Rattle.lms_batch.specs.declared.collector.Batch.TheVariants.{Complete, Partial}
+
+-- the line of a signature: its index, a space, the signature in hexadecimal
+abbrev pub answer_line : ℕ → List ℕ → List ℕ
+answer_line index signature = decimal index ++ (codes " " ++ (encode_lower signature ++ codes "\n"))
+
+-- the lines of the filled slots, at one index after another
+abbrev pub answers : ℕ → List (Option (List ℕ)) → List ℕ
+answers index [] = []
+answers index (None ∷ slots) = answers (index + 1) slots
+answers index (Some signature ∷ slots) = answer_line index signature ++ answers (index + 1) slots
+
+abbrev pub answer_text : Batch → List ℕ
+answer_text (Complete start signatures) = answers start (map (λ v. Some v.items) signatures.items)
+answer_text (Partial start slots) = answers start (map (option_map (λ v. v.items)) slots.items)
+
+-- a beginning of the text was appended
+pub record AppendsFront (old new : Option (List ℕ)) (text : List ℕ) : Type 0 where
+  pub front : List ℕ
+  pub rest : List ℕ
+  pub whole : text ≡ front ++ rest
+  pub appended : Appends old new front

@@ -1,0 +1,106 @@
+//! Answer lines.
+ghost use Rattle.std.specs.Prelude.{◌≡◌, ◌++◌, ◌∷◌, ◌<◌, ◌≤◌, ◌+◌, ◌^◌, codes, length, take, map, decimal, OnOk, OnErr, IfOk};
+ghost use Rattle.std.specs.Io.KnownBytes.{Appends, Keeps};
+ghost use Rattle.hex.specs.Hex.{encode_lower};
+ghost use Rattle.lms_lines.specs.AnswerLines.{answer_line, answer_text, AppendsFront};
+
+use crate::decimal::{MOST_DIGITS, place_digits};
+use lms_batch::Batch;
+use std::io::{ErrorKind, Write};
+use thiserror::Error;
+
+/// The answer lines were not all written.
+#[derive(Clone, Copy, Debug, PartialEq, Eq, Error)]
+#[error("cannot write output")]
+pub struct WriteFault;
+
+/// Writes a line for each signature of the batch. On a fault, a beginning of the text was written.
+pub fn write_batch<W: Write>(writer: &mut W, batch: &Batch) -> Result<(), WriteFault>
+    ensures ok { OnOk result (Appends (W.contents writer.old) (W.contents writer.new) (answer_text batch.now)) }
+    ensures err { OnErr result (AppendsFront (W.contents writer.old) (W.contents writer.new) (answer_text batch.now)) }
+{
+    match batch {
+        Batch::Complete { start, signatures } => {
+            for (k, signature) in signatures.iter().enumerate() {
+                write_line(writer, u128::from(*start) + k as u128, signature.as_slice())?;
+            }
+        }
+        Batch::Partial { start, slots } => {
+            for (k, slot) in slots.iter().enumerate() {
+                if let Some(signature) = slot {
+                    write_line(writer, u128::from(*start) + k as u128, signature.as_slice())?;
+                }
+            }
+        }
+    }
+    Ok(())
+}
+
+fn write_line<W: Write>(writer: &mut W, index: u128, signature: &[u8]) -> Result<(), WriteFault>
+    ensures ok { OnOk result (Appends (W.contents writer.old) (W.contents writer.new) (answer_line index signature.now)) }
+    ensures err { OnErr result (AppendsFront (W.contents writer.old) (W.contents writer.new) (answer_line index signature.now)) }
+{
+    write_number(writer, index)?;
+    write_bytes(writer, b" ")?;
+    write_hex(writer, signature)?;
+    write_bytes(writer, b"\n")
+}
+
+fn write_number<W: Write>(writer: &mut W, number: u128) -> Result<(), WriteFault>
+    ensures ok { OnOk result (Appends (W.contents writer.old) (W.contents writer.new) (decimal number)) }
+    ensures err { OnErr result (AppendsFront (W.contents writer.old) (W.contents writer.new) (decimal number)) }
+{
+    let mut room = [0; MOST_DIGITS];
+    let start = place_digits(number, &mut room);
+    write_bytes(writer, &room[start..])
+}
+
+fn write_hex<W: Write>(writer: &mut W, bytes: &[u8]) -> Result<(), WriteFault>
+    ensures ok { OnOk result (Appends (W.contents writer.old) (W.contents writer.new) (encode_lower bytes.now)) }
+    ensures err { OnErr result (AppendsFront (W.contents writer.old) (W.contents writer.new) (encode_lower bytes.now)) }
+{
+    let mut rest = bytes;
+    while !rest.is_empty() {
+        let (chunk, tail) = rest.split_at(rest.len().min(1024));
+        let mut text = [0; 2048];
+        let digits = &mut text[..2 * chunk.len()];
+        let Ok(()) = hex::encode_to_slice(chunk, digits) else {
+            unreachable!()
+        };
+        write_bytes(writer, digits)?;
+        rest = tail;
+    }
+    Ok(())
+}
+
+fn write_bytes<W: Write>(writer: &mut W, bytes: &[u8]) -> Result<(), WriteFault>
+    ensures ok { OnOk result (Appends (W.contents writer.old) (W.contents writer.new) bytes.now) }
+    ensures err { OnErr result (AppendsFront (W.contents writer.old) (W.contents writer.new) bytes.now) }
+{
+    let mut rest = bytes;
+    while !rest.is_empty() {
+        let taken = write_some(writer, rest)?;
+        rest = &rest[taken..];
+    }
+    Ok(())
+}
+
+/// One write, which is tried again where it was interrupted. A writer that takes nothing has failed.
+fn write_some<W: Write>(writer: &mut W, bytes: &[u8]) -> Result<usize, WriteFault>
+    ensures some { IfOk result (λ n. (0 < n) × (n ≤ length bytes.now)) }
+    ensures ok { IfOk result (λ n. Appends (W.contents writer.old) (W.contents writer.new) (take n bytes.now)) }
+    ensures err { OnErr result (Keeps (W.contents writer.old) (W.contents writer.new)) }
+{
+    for _try in 0..u64::MAX {
+        match writer.write(bytes) {
+            Ok(0) => return Err(WriteFault),
+            Ok(taken) => return Ok(taken),
+            Err(e) => {
+                if e.kind() != ErrorKind::Interrupted {
+                    return Err(WriteFault);
+                }
+            }
+        }
+    }
+    Err(WriteFault)
+}

@@ -1,0 +1,66 @@
+//! Job lines read to their end.
+ghost use Rattle.std.specs.Prelude.{◌≡◌, ℕ, ◌<◌, ◌≤◌, length, take, map, IfOk, IfErr, IfSome, vec_len};
+ghost use Rattle.std.specs.Io.KnownBytes.{Consumes, IsAtEnd};
+ghost use Rattle.lms_batch.specs.Jobs.{text_of};
+ghost use Rattle.lms_lines.specs.JobsTexts.{IsFaultOf, ReadsJobs};
+ghost use Rattle.lms_lines.specs.declared.fault.JobsFault.TheVariants.{Read as ReadFault, OutOfMemory};
+
+use crate::fault::JobsFault;
+use crate::gathering::Gathering;
+use crate::job_line::LONGEST_LINE;
+use lms_batch::Job;
+use std::alloc::Global;
+use std::io::{ErrorKind, Read};
+
+/// How many bytes are asked for at once.
+const BLOCK: usize = 65_536;
+
+/// More bytes than a text has that gives no fault before: 1025 of the longest lines, with LF.
+const TOO_LONG: usize = 1025 * (LONGEST_LINE + 1);
+
+/// The jobs of a text of job lines, which is read to its end. The lines are judged one after another, and the first fault
+/// ends it. A line that is too long is refused without being stored whole.
+pub fn read_jobs<R: Read>(alloc: Global, reader: &mut R) -> Result<Vec<Job>, JobsFault>
+    ensures ok { IfOk result (λ jobs. ReadsJobs (R.remaining reader.old) (R.remaining reader.new) (map text_of jobs.items)) }
+    ensures fault { IfErr result (λ e. IfSome (R.remaining reader.old) (λ text. IsFaultOf text e)) }
+{
+    let mut block = new_block(alloc)?;
+    let mut gathering = Gathering::new(alloc);
+    for _turn in 0..TOO_LONG {
+        let count = read_block(reader, block.as_mut_slice())?;
+        if count == 0 {
+            return gathering.finish(alloc);
+        }
+        gathering.take_block(alloc, &block[..count])?;
+    }
+    unreachable!()
+}
+
+/// The room for a block.
+fn new_block(alloc: Global) -> Result<Vec<u8>, JobsFault>
+    ensures some { IfOk result (λ block. 0 < vec_len block) }
+    ensures fault { IfErr result (λ e. e ≡ OutOfMemory) }
+{
+    Ok(vec![in alloc; 0u8; BLOCK]?)
+}
+
+/// One read, which is tried again where it was interrupted.
+fn read_block<R: Read>(reader: &mut R, block: &mut [u8]) -> Result<usize, JobsFault>
+    requires { 0 < length block.old }
+    ensures bound { IfOk result (λ n. n ≤ length block.new) }
+    ensures bytes { IfOk result (λ n. Consumes (R.remaining reader.old) (R.remaining reader.new) (take n block.new)) }
+    ensures end { IfOk result (λ n. n ≡ 0 → IsAtEnd (R.remaining reader.new)) }
+    ensures fault { IfErr result (λ e. e ≡ ReadFault) }
+{
+    for _try in 0..u64::MAX {
+        match reader.read(block) {
+            Ok(count) => return Ok(count),
+            Err(e) => {
+                if e.kind() != ErrorKind::Interrupted {
+                    return Err(JobsFault::Read);
+                }
+            }
+        }
+    }
+    Err(JobsFault::Read)
+}

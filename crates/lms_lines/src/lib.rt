@@ -1,0 +1,18 @@
+//! Job lines read from any reader, signed, and answered by lines written to any writer.
+#![tactic(auto)]
+
+mod answers;
+mod decimal;
+mod fault;
+mod gathering;
+mod job_line;
+mod jobs;
+pub mod laws;
+mod signing;
+#[cfg(test)]
+mod tests;
+
+pub use crate::answers::{WriteFault, write_batch};
+pub use crate::fault::JobsFault;
+pub use crate::jobs::read_jobs;
+pub use crate::signing::{Done, LinesFault, sign_lines};

@@ -1,0 +1,109 @@
+//! Job lines signed by a service.
+ghost use Rattle.std.specs.Prelude.{◌≡◌, ◌≢◌, ◌≤◌, IfOk, IfErr, count_by, is_some};
+ghost use Rattle.lms_lines.specs.SignedLines.{IsDone, IsLinesFault, signatures_in};
+
+use crate::answers::write_batch;
+use crate::fault::JobsFault;
+use crate::jobs::read_jobs;
+use lms_batch::{Batch, BatchFault, OpenGate, SigningService};
+use lms_book::StateStore;
+use lms_shared_book::{Desk, Tally};
+use std::alloc::Global;
+use std::io::{Read, Write};
+use std::marker::Sync;
+use std::sync::Wait;
+use std::thread::Threads;
+use thiserror::Error;
+
+#[cfg(test)]
+mod tests;
+
+/// What became of job lines.
+#[derive(Clone, Copy, Debug, PartialEq, Eq)]
+pub struct Done {
+    /// How many jobs were signed: as many answer lines were written.
+    pub signed: usize,
+    /// How many jobs there were.
+    pub asked: usize,
+}
+
+/// Why job lines were not signed, or not all answers written.
+#[derive(Clone, Copy, Debug, PartialEq, Eq, Error)]
+pub enum LinesFault {
+    /// The input has a fault. Nothing was reserved, and nothing written.
+    #[error("{0}")]
+    Jobs(JobsFault),
+    /// No batch was made. Nothing was written.
+    #[error("{0}")]
+    Batch(BatchFault),
+    /// The answers were not all written. The indices of all jobs are used.
+    #[error("cannot write output")]
+    Write,
+}
+
+/// Reads job lines to their end, signs them as one batch by 1 to 64 workers, and writes a line for each signature, in the order
+/// of the jobs. Waits for the book's lock and for the workers. `signed` is less than `asked` where a worker was refused memory.
+///
+/// `Jobs` where the lines are not read, as `read_jobs` says; `Batch` as `SigningService::sign_batch` says, but for too many
+/// jobs, which `Jobs` tells; `Write` where the writer failed, after a beginning of the lines.
+pub fn sign_lines<S, E, G, B, R, I, O>(
+    rt: &R,
+    alloc: Global,
+    service: &SigningService<S, E, G, B>,
+    reader: &mut I,
+    writer: &mut O,
+    desk: &mut Desk<E, G, B>,
+    workers: usize,
+) -> Result<Done, LinesFault>
+where
+    S: StateStore,
+    E: Tally,
+    G: Tally,
+    B: Tally,
+    R: Threads + Wait + Sync,
+    I: Read,
+    O: Write,
+    requires some { 1 ≤ workers }
+    requires at_most { workers ≤ 64 }
+    ensures done { IfOk result (IsDone service.now.key (I.remaining reader.old) (I.remaining reader.new)
+        (O.contents writer.old) (O.contents writer.new) desk.old desk.new) }
+    ensures fault { IfErr result (IsLinesFault service.now.key (I.remaining reader.old) (I.remaining reader.new)
+        (O.contents writer.old) (O.contents writer.new) desk.old desk.new) }
+    ensures silent { IfErr result (λ fault. fault ≢ LinesFault.Write → writer.new ≡ writer.old) }
+{
+    let jobs = match read_jobs(alloc, reader) {
+        Ok(jobs) => jobs,
+        Err(fault) => return Err(LinesFault::Jobs(fault)),
+    };
+    let batch = match service.sign_batch(rt, alloc, desk, &jobs, workers, &OpenGate) {
+        Ok(batch) => batch,
+        Err(fault) => return Err(LinesFault::Batch(fault)),
+    };
+    match write_batch(writer, &batch) {
+        Ok(()) => Ok(Done {
+            signed: signatures(&batch),
+            asked: jobs.len(),
+        }),
+        Err(_) => Err(LinesFault::Write),
+    }
+}
+
+/// How many signatures a batch has.
+fn signatures(batch: &Batch) -> usize
+    ensures { result ≡ signatures_in batch.now }
+{
+    match batch {
+        Batch::Complete {
+            start: _,
+            signatures,
+        } => signatures.len(),
+        Batch::Partial { start: _, slots } => filled(slots.as_slice()),
+    }
+}
+
+/// How many of the slots are filled.
+fn filled(slots: &[Option<Vec<u8>>]) -> usize
+    ensures { result ≡ count_by is_some slots.now }
+{
+    slots.iter().filter(|slot| slot.is_some()).count()
+}
