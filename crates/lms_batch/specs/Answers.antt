@@ -4,7 +4,8 @@ use Rattle.lms_hss.specs.declared.key.HssKey.{HssKey as KeyOfCode}
 use Rattle.lms_book.specs.declared.refusals.BookFault.{BookFault}
 use Rattle.lms_book.specs.States.{BookState, LeaseState}
 use Rattle.lms_book.specs.Books.{ReservesInOrder}
-use Rattle.lms_shared_book.specs.Desks.{Sums, sums, plus, Counts}
+use Rattle.lms_shared_book.specs.Desks.{SharedState, Sums, sums, plus, Counts}
+use Rattle.lms_shared_book.specs.Shared.{IsFound}
 use Rattle.lms_batch.specs.Jobs.{JobText}
 use Rattle.lms_batch.specs.Takes.{IsBatchOf}
 use Rattle.lms_batch.specs.declared.collector.Batch.{Batch}
@@ -44,7 +45,7 @@ IsAnswerAfter (Err refused) (Ok batch) = ⊥
 IsAnswerAfter (Err refused) (Err TooMany) = ⊥
 IsAnswerAfter (Err refused) (Err (OutOfMemory burnt)) = ⊥
 
--- some book of this key that is in order would lead to this answer, where so many indices of it are reserved
-abbrev pub CouldBeReserved : KeyOfCode → ℕ → Result Batch BatchFault → Type 0
-CouldBeReserved key count answer = (old new : BookState) × (reserved : Result LeaseState BookFault) × (old.key ≡ key)
-    × ReservesInOrder count old reserved new × IsAnswerAfter reserved answer
+-- a book that is found behind the lock would lead to this answer, where so many indices of it are reserved
+abbrev pub CouldBeReserved : SharedState → Sums → ℕ → Result Batch BatchFault → Type 0
+CouldBeReserved shared counted count answer = (old new : BookState) × (reserved : Result LeaseState BookFault)
+    × IsFound shared counted old × ReservesInOrder count old reserved new × IsAnswerAfter reserved answer

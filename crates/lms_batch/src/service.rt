@@ -59,7 +59,7 @@ impl<S: StateStore, E: Tally, G: Tally, B: Tally> SigningService<S, E, G, B> {
 
     /// The key of the book that is shared.
     pub fn key(&self) -> HssKey
-        ensures { result ≡ self.now.key }
+        ensures { result ≡ self.now.book.key }
     {
         self.book.key()
     }
@@ -92,12 +92,12 @@ impl<S: StateStore, E: Tally, G: Tally, B: Tally> SigningService<S, E, G, B> {
     ) -> Result<Batch, BatchFault>
         requires some { 1 ≤ workers }
         requires at_most { workers ≤ 64 }
-        ensures answer { IfOk result (λ batch. IsAnswerTo self.now.key (start_of batch) (texts_of jobs.now) batch) }
-        ensures within { IfOk result (λ batch. start_of batch + length jobs.now ≤ capacity_of (hss_key_of self.now.key)) }
+        ensures answer { IfOk result (λ batch. IsAnswerTo self.now.book.key (start_of batch) (texts_of jobs.now) batch) }
+        ensures within { IfOk result (λ batch. start_of batch + length jobs.now ≤ capacity_of (hss_key_of self.now.book.key)) }
         ensures none { length jobs.now ≡ 0 → IsOk result × IfOk result IsBatchOfNone }
         ensures too_many { (result ≡ Err BatchFault.TooMany) ↔ (1024 < length jobs.now) }
         ensures desk { CountsBatch (length jobs.now) desk.old result desk.new }
-        ensures lawful { 1 ≤ length jobs.now → length jobs.now ≤ 1024 → CouldBeReserved self.now.key (length jobs.now) result }
+        ensures lawful { 1 ≤ length jobs.now → length jobs.now ≤ 1024 → CouldBeReserved self.now desk.old (length jobs.now) result }
     {
         if jobs.len() > 1024 {
             return Err(BatchFault::TooMany);

@@ -1,4 +1,6 @@
+pub mod Batches
 pub mod Failing
 pub mod LevelTexts
 pub mod SizedTexts
 pub mod Signings
+pub mod Workers

@@ -8,8 +8,14 @@ use Rattle.lms_book.specs.declared.refusals.BookFault.{BookFault}
 use Rattle.lms_book.specs.declared.refusals.BookFault.TheVariants as book
 use Rattle.lms_book.specs.declared.refusals.OpenFault.{OpenFault}
 use Rattle.lms_book.specs.declared.refusals.OpenFault.TheVariants as opening
+use Rattle.lms_batch.specs.declared.service.BatchFault.{BatchFault}
+use Rattle.lms_batch.specs.declared.service.BatchFault.TheVariants as batch
+use Rattle.lms_lines.specs.declared.fault.JobsFault.{JobsFault}
+use Rattle.lms_lines.specs.declared.fault.JobsFault.TheVariants as jobs
+use Rattle.lms_lines.specs.declared.signing.LinesFault.{LinesFault}
+use Rattle.lms_lines.specs.declared.signing.LinesFault.TheVariants as lines
 use Rattle.lms_commands.specs.declared.fault.Fault.{Fault}
-use Rattle.lms_commands.specs.declared.fault.Fault.TheVariants.{BadLevels, TooManyLevels, HeightNotSigned, TooTall, BadSeed, BadId, BadRandom, StateExists, StateInUse, ReadState, BadState, WriteState, WriteStateBurnt, Exhausted, OutOfMemory, OutOfMemoryBurnt, Input, Output}
+use Rattle.lms_commands.specs.declared.fault.Fault.TheVariants.{BadLevels, TooManyLevels, HeightNotSigned, TooTall, BadSeed, BadId, BadRandom, BadWorkers, BadJob, TooManyJobs, StateExists, StateInUse, ReadState, BadState, WriteState, WriteStateBurnt, Exhausted, OutOfMemory, OutOfMemoryBurnt, Partial, Input, Output}
 use Rattle.lms_commands.specs.declared.options.LevelsTextFault.{LevelsTextFault}
 use Rattle.lms_commands.specs.declared.options.LevelsTextFault.TheVariants as unread
 use Rattle.lms_commands.specs.declared.signing.SignFault.{SignFault}
@@ -25,6 +31,9 @@ text_of TooTall = codes "too tall"
 text_of BadSeed = codes "bad seed"
 text_of BadId = codes "bad id"
 text_of BadRandom = codes "bad random"
+text_of BadWorkers = codes "bad workers"
+text_of (BadJob line) = codes "line " ++ decimal line ++ codes ": bad job"
+text_of TooManyJobs = codes "too many jobs"
 text_of StateExists = codes "state exists"
 text_of StateInUse = codes "state in use"
 text_of ReadState = codes "cannot read state"
@@ -34,6 +43,7 @@ text_of (WriteStateBurnt start len) = book_text (book.Store start len)
 text_of (Exhausted left) = book_text (book.Exhausted left)
 text_of OutOfMemory = codes "out of memory"
 text_of (OutOfMemoryBurnt count) = codes "out of memory: " ++ decimal count ++ codes " burnt"
+text_of (Partial signed asked) = codes "partial: " ++ decimal signed ++ codes " of " ++ decimal asked ++ codes " signed"
 text_of Input = codes "cannot read input"
 text_of Output = codes "cannot write output"
 
@@ -49,6 +59,9 @@ status_of TooTall = status.Usage
 status_of BadSeed = status.Usage
 status_of BadId = status.Usage
 status_of BadRandom = status.Usage
+status_of BadWorkers = status.Usage
+status_of (BadJob line) = status.Usage
+status_of TooManyJobs = status.Usage
 status_of StateExists = status.State
 status_of StateInUse = status.State
 status_of ReadState = status.State
@@ -58,12 +71,13 @@ status_of (WriteStateBurnt start len) = status.State
 status_of (Exhausted left) = status.Exhausted
 status_of OutOfMemory = status.Memory
 status_of (OutOfMemoryBurnt count) = status.Memory
+status_of (Partial signed asked) = status.Negative
 status_of Input = status.Stream
 status_of Output = status.Stream
 
 abbrev pub code_of : Status → ℕ
 code_of status.Done = 0
-code_of status.Invalid = 1
+code_of status.Negative = 1
 code_of status.Usage = 2
 code_of status.State = 3
 code_of status.Exhausted = 4
@@ -98,3 +112,22 @@ of_book (book.Store start len) = WriteStateBurnt start len
 abbrev pub of_signing : SignFault → Fault
 of_signing (signing.Book fault) = of_book fault
 of_signing signing.OutOfMemory = OutOfMemoryBurnt 1
+
+-- the fault that job lines not read are
+abbrev pub of_jobs : JobsFault → Fault
+of_jobs jobs.Read = Input
+of_jobs (jobs.BadJob line) = BadJob line
+of_jobs jobs.TooManyJobs = TooManyJobs
+of_jobs jobs.OutOfMemory = OutOfMemory
+
+-- the fault that a refused batch is
+abbrev pub of_batch : BatchFault → Fault
+of_batch batch.TooMany = TooManyJobs
+of_batch (batch.Book fault) = of_book fault
+of_batch (batch.OutOfMemory burnt) = OutOfMemoryBurnt burnt
+
+-- the fault that job lines not answered are
+abbrev pub of_lines : LinesFault → Fault
+of_lines (lines.Jobs fault) = of_jobs fault
+of_lines (lines.Batch fault) = of_batch fault
+of_lines lines.Write = Output

@@ -5,5 +5,7 @@ pub mod Keygen
 pub mod Known
 pub mod Options
 pub mod Signing
+pub mod Batches
+pub mod SharedBooks
 pub mod Verdicts
 pub mod Verifying

@@ -60,9 +60,9 @@ FailsToOpen at state (BadState fault) = IsBadState at state (BadState fault)
 FailsToOpen at state OutOfMemory = Unit {0}
 FailsToOpen at state _ = ⊥
 
--- the state counts all indices of its key as used
-abbrev pub IsUsedUp : Known → Text → ℕ → Type 0
-IsUsedUp at state left = (key : KeyOfCode) × (index : ℕ) × HasImage key index × (capacity_of (hss_key_of key) < index + 1)
+-- the state's key has fewer than n indices left, namely so many
+abbrev pub LacksIndices : ℕ → Known → Text → ℕ → Type 0
+LacksIndices n at state left = (key : KeyOfCode) × (index : ℕ) × HasImage key index × (capacity_of (hss_key_of key) < index + n)
     × (left ≡ capacity_of (hss_key_of key) - index) × IsAt at state key index
 
 -- the state's next index could not be stored as used: the state is what it was, or counts that index
@@ -75,7 +75,7 @@ abbrev pub FailsToSignNext : Known → Known → Text → Fault → Type 0
 FailsToSignNext old new state ReadState = old.fails state × Stays old new state
 FailsToSignNext old new state (BadState fault) = IsBadState old state (BadState fault) × Stays old new state
 FailsToSignNext old new state OutOfMemory = Stays old new state
-FailsToSignNext old new state (Exhausted left) = IsUsedUp old state left × Stays old new state
+FailsToSignNext old new state (Exhausted left) = LacksIndices 1 old state left × Stays old new state
 FailsToSignNext old new state (WriteStateBurnt start len) = IsBurnt old new state start × (len ≡ 1)
 FailsToSignNext old new state (OutOfMemoryBurnt count) =
     (key : KeyOfCode) × (index : ℕ) × UsesIndex old new state key index × (count ≡ 1)

@@ -19,4 +19,4 @@ line_of Invalid = codes "invalid\n"
 -- how the program ends with it
 abbrev pub verdict_status : Verdict → Status
 verdict_status Valid = status.Done
-verdict_status Invalid = status.Invalid
+verdict_status Invalid = status.Negative

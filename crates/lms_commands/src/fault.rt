@@ -6,9 +6,11 @@ ghost use Rattle.lms_commands.specs.Faults.{fault_line, of_book, of_key, of_open
 use crate::line::print_line;
 use crate::options::LevelsTextFault;
 use crate::status::Status;
+use lms_batch::BatchFault;
 use lms_book::{BookFault, OpenFault};
 use lms_hss::KeyFault;
 use lms_image::ImageFault;
+use lms_lines::{JobsFault, LinesFault};
 use lms_params::OutOfMemory;
 use std::error::Error;
 use std::io::Write;
@@ -31,6 +33,12 @@ pub enum Fault {
     BadId,
     /// The randomizer is not 64 hexadecimal digits.
     BadRandom,
+    /// The text for the workers is no decimal number from 1 to 64.
+    BadWorkers,
+    /// This line of the input, counted from 1, is the first that is no job line.
+    BadJob { line: u64 },
+    /// The input has over 1024 lines, of which the first 1024 are job lines.
+    TooManyJobs,
     /// A new key's state is there already.
     StateExists,
     /// The state's lock is not available: another program has it, or its file can't be made.
@@ -49,7 +57,9 @@ pub enum Fault {
     OutOfMemory,
     /// Memory ran out after a reservation: `count` indices are used, and signed nothing.
     OutOfMemoryBurnt { count: u64 },
-    /// A file other than the state, or the program's arguments, can't be read, or `/dev/null` can't be opened.
+    /// Memory ran out while a batch was signed: all its indices are used, and the lines of the signatures are printed.
+    Partial { signed: usize, asked: usize },
+    /// A file other than the state, standard input, or the program's arguments can't be read, or `/dev/null` can't be opened.
     Input,
     /// A file or standard output can't be written.
     Output,
@@ -67,7 +77,10 @@ impl Fault {
             | Fault::TooTall
             | Fault::BadSeed
             | Fault::BadId
-            | Fault::BadRandom => Status::Usage,
+            | Fault::BadRandom
+            | Fault::BadWorkers
+            | Fault::BadJob { .. }
+            | Fault::TooManyJobs => Status::Usage,
             Fault::StateExists
             | Fault::StateInUse
             | Fault::ReadState
@@ -76,6 +89,7 @@ impl Fault {
             | Fault::WriteStateBurnt { .. } => Status::State,
             Fault::Exhausted { .. } => Status::Exhausted,
             Fault::OutOfMemory | Fault::OutOfMemoryBurnt { .. } => Status::Memory,
+            Fault::Partial { .. } => Status::Negative,
             Fault::Input | Fault::Output => Status::Stream,
         }
     }
@@ -93,6 +107,9 @@ impl fmt::Display for Fault {
             Fault::BadSeed => f.write_str("bad seed"),
             Fault::BadId => f.write_str("bad id"),
             Fault::BadRandom => f.write_str("bad random"),
+            Fault::BadWorkers => f.write_str("bad workers"),
+            Fault::BadJob { line } => write!(f, "line {line}: bad job"),
+            Fault::TooManyJobs => f.write_str("too many jobs"),
             Fault::StateExists => f.write_str("state exists"),
             Fault::StateInUse => f.write_str("state in use"),
             Fault::ReadState => f.write_str("cannot read state"),
@@ -104,6 +121,7 @@ impl fmt::Display for Fault {
             Fault::Exhausted { left } => write!(f, "{}", BookFault::Exhausted { left }),
             Fault::OutOfMemory => f.write_str("out of memory"),
             Fault::OutOfMemoryBurnt { count } => write!(f, "out of memory: {count} burnt"),
+            Fault::Partial { signed, asked } => { write!(f, "partial: {signed} of {asked} signed") }
             Fault::Input => f.write_str("cannot read input"),
             Fault::Output => f.write_str("cannot write output"),
         }
@@ -154,6 +172,49 @@ impl From<OpenFault> for Fault {
             OpenFault::Store => Fault::ReadState,
             OpenFault::Image(fault) => Fault::BadState(fault),
             OpenFault::OutOfMemory => Fault::OutOfMemory,
+        }
+    }
+}
+
+impl From<JobsFault> for Fault {
+    ghost use Rattle.lms_commands.specs.Faults.{of_jobs};
+
+    ghost from_gives = { λ jobs_fault fault. fault ≡ of_jobs jobs_fault };
+
+    fn from(fault: JobsFault) -> Self {
+        match fault {
+            JobsFault::Read => Fault::Input,
+            JobsFault::BadJob { line } => Fault::BadJob { line },
+            JobsFault::TooManyJobs => Fault::TooManyJobs,
+            JobsFault::OutOfMemory => Fault::OutOfMemory,
+        }
+    }
+}
+
+impl From<BatchFault> for Fault {
+    ghost use Rattle.lms_commands.specs.Faults.{of_batch};
+
+    ghost from_gives = { λ batch_fault fault. fault ≡ of_batch batch_fault };
+
+    fn from(fault: BatchFault) -> Self {
+        match fault {
+            BatchFault::TooMany => Fault::TooManyJobs,
+            BatchFault::Book(fault) => Fault::from(fault),
+            BatchFault::OutOfMemory { burnt } => Fault::OutOfMemoryBurnt { count: burnt },
+        }
+    }
+}
+
+impl From<LinesFault> for Fault {
+    ghost use Rattle.lms_commands.specs.Faults.{of_lines};
+
+    ghost from_gives = { λ lines_fault fault. fault ≡ of_lines lines_fault };
+
+    fn from(fault: LinesFault) -> Self {
+        match fault {
+            LinesFault::Jobs(fault) => Fault::from(fault),
+            LinesFault::Batch(fault) => Fault::from(fault),
+            LinesFault::Write => Fault::Output,
         }
     }
 }

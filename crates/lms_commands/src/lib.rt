@@ -3,6 +3,7 @@
 //! Files and states are reached through a [`World`]: [`DiskWorld`] is the disk, [`MemoryWorld`] stands in for it in tests.
 #![tactic(auto)]
 
+mod batch;
 mod description;
 mod fault;
 mod files;
@@ -16,6 +17,7 @@ mod verdict;
 mod verifying;
 mod world;
 
+pub use crate::batch::sign_jobs;
 pub use crate::description::LevelsText;
 pub use crate::fault::{Fault, print_fault};
 pub use crate::info::describe;

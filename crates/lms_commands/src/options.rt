@@ -4,6 +4,7 @@ ghost use Rattle.hex.specs.Hex.{decode_of};
 ghost use Rattle.lms_params.specs.declared.lms_type.LmsType.{LmsType as LmsKind};
 ghost use Rattle.lms_params.specs.declared.ots_type.OtsType.{OtsType as OtsKind};
 ghost use Rattle.lms_commands.specs.Faults.{of_text, text_of};
+ghost use Rattle.lms_commands.specs.Batches.{AreWorkers, IsWorkers};
 ghost use Rattle.lms_commands.specs.Options.{height_text, pair_text, width_text, IsLevelsText};
 
 use crate::fault::Fault;
@@ -75,6 +76,23 @@ pub(crate) fn pair_from(piece: &str) -> Option<(LmsType, OtsType)>
 {
     let (height, width) = piece.split_once('/')?;
     Some((lms_type_from(height)?, ots_type_from(width)?))
+}
+
+/// The number of workers of a text: a decimal number from 1 to 64, without leading zeros. None exactly where the text is no
+/// such number.
+pub(crate) fn workers_from(text: &str) -> Option<usize>
+    ensures some { IfSome result (λ workers. IsWorkers text.now workers) }
+    ensures none { IfNone result (¬ AreWorkers text.now) }
+{
+    // A sign and a zero stand below the other digits.
+    let first = text.as_bytes().first()?;
+    if *first <= b'0' {
+        return None;
+    }
+    match text.parse::<usize>() {
+        Ok(workers) if 1 <= workers && workers <= 64 => Some(workers),
+        _ => None,
+    }
 }
 
 fn lms_type_from(text: &str) -> Option<LmsType>

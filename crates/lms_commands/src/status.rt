@@ -7,8 +7,8 @@ ghost use Rattle.lms_commands.specs.Faults.{code_of};
 pub enum Status {
     /// All was done, or the signature is valid.
     Done = 0,
-    /// The signature is invalid.
-    Invalid = 1,
+    /// The signature is invalid, or a batch has not all its signatures.
+    Negative = 1,
     /// The arguments are no command, or an option's value is bad.
     Usage = 2,
     /// The state exists already, is in use, can't be read or written, or is no image.

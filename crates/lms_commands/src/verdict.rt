@@ -24,7 +24,7 @@ impl Verdict {
     {
         match self {
             Verdict::Valid => Status::Done,
-            Verdict::Invalid => Status::Invalid,
+            Verdict::Invalid => Status::Negative,
         }
     }
 }

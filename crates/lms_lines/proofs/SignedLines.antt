@@ -1,29 +1,54 @@
 -- A batch that answers the jobs that were read.
-use Rattle.std.proofs.Common.{◌≡◌, ℕ, ◌+◌, ◌≤◌, List, length, map, Option, Ok, sym, ap, ◌∙◌, subst}
+use Rattle.std.proofs.Common.{◌≡◌, ◌≢◌, ℕ, zero, suc, refl, ◌+◌, ◌<◌, ◌≤◌, List, length, map, Option, Result, Ok, Err, sym, ap, ◌∙◌, subst, arith}
 use Rattle.std.proofs.lemmas.List.{length-map}
 use Rattle.lms_spec.specs.Hss.{capacity_of}
 use Rattle.lms_hss.specs.Keys.{hss_key_of}
-use Rattle.lms_hss.specs.declared.key.HssKey.{HssKey as KeyOfCode}
-use Rattle.lms_shared_book.specs.Desks.{Sums}
+use Rattle.lms_shared_book.specs.Desks.{SharedState, Sums}
 use Rattle.lms_batch.specs.Jobs.{text_of, texts_of}
-use Rattle.lms_batch.specs.Answers.{CountsBatch, IsAnswerTo, start_of}
+use Rattle.lms_batch.specs.Answers.{CouldBeReserved, CountsBatch, IsAnswerTo, start_of}
 use Rattle.lms_batch.specs.declared.collector.Batch.{Batch}
 use Rattle.lms_batch.specs.declared.job.Job.{Job}
+use Rattle.lms_batch.specs.declared.service.BatchFault.{BatchFault}
+use Rattle.lms_batch.specs.declared.service.BatchFault.TheVariants.{TooMany}
 use Rattle.lms_lines.specs.JobsTexts.{ReadsJobs}
-use Rattle.lms_lines.specs.SignedLines.{IsBatchRead}
+use Rattle.lms_lines.specs.SignedLines.{IsBatchRead, IsBatchRefused}
 
-pub batch_read : (key : KeyOfCode) (old_input new_input : Option (List ℕ)) (before after : Sums) (lent jobs : List Job) (batch : Batch)
-    → lent ≡ jobs → ReadsJobs old_input new_input (map text_of jobs) → IsAnswerTo key (start_of batch) (texts_of lent) batch
-    → start_of batch + length lent ≤ capacity_of (hss_key_of key) → CountsBatch (length lent) before (Ok batch) after
-    → (is : IsBatchRead key old_input new_input before after batch) × (length is.jobs ≡ length jobs)
-batch_read key old_input new_input before after lent jobs batch same read answer within counted =
-    let count : length lent ≡ length (map text_of jobs) = ap length same ∙ sym (length-map jobs text_of) in (
-      record {
-        jobs = map text_of jobs;
-        read = read;
-        answer = subst (λ (js : List Job). IsAnswerTo key (start_of batch) (map text_of js) batch) same answer;
-        within = subst (λ (n : ℕ). start_of batch + n ≤ capacity_of (hss_key_of key)) count within;
-        counted = subst (λ (n : ℕ). CountsBatch n before (Ok batch) after) count counted;
-      },
-      length-map jobs text_of,
-    )
+module _ (shared : SharedState) (old_input new_input : Option (List ℕ)) (before after : Sums) (lent jobs : List Job) (same : lent ≡ jobs) (read : ReadsJobs old_input new_input (map text_of jobs)) where
+  count : length lent ≡ length (map text_of jobs)
+  count = ap length same ∙ sym (length-map jobs text_of)
+
+  few : length lent ≤ 1024
+  few = omega (arith, count, read.is_text.count)
+
+  pub batch_read : (batch : Batch) → IsAnswerTo shared.book.key (start_of batch) (texts_of lent) batch
+      → start_of batch + length lent ≤ capacity_of (hss_key_of shared.book.key) → CountsBatch (length lent) before (Ok batch) after
+      → (1 ≤ length lent → length lent ≤ 1024 → CouldBeReserved shared before (length lent) (Ok batch))
+      → (is : IsBatchRead shared old_input new_input before after batch) × (length is.jobs ≡ length jobs)
+  batch_read batch answer within counted reserved = (
+    record {
+      jobs = map text_of jobs;
+      read = read;
+      answer = subst (λ (js : List Job). IsAnswerTo shared.book.key (start_of batch) (map text_of js) batch) same answer;
+      within = subst (λ (n : ℕ). start_of batch + n ≤ capacity_of (hss_key_of shared.book.key)) count within;
+      counted = subst (λ (n : ℕ). CountsBatch n before (Ok batch) after) count counted;
+      reserved = λ some. subst (λ (n : ℕ). CouldBeReserved shared before n (Ok batch)) count (reserved (omega (arith, some, count)) few);
+    },
+    length-map jobs text_of,
+  )
+
+  pub batch_refused : (fault : BatchFault) → (1 ≤ length lent) → CountsBatch (length lent) before (Err fault) after → (fault ≡ TooMany → 1024 < length lent)
+      → (1 ≤ length lent → length lent ≤ 1024 → CouldBeReserved shared before (length lent) (Err fault))
+      → IsBatchRefused shared old_input new_input before after fault
+  batch_refused fault some counted many reserved = record {
+    jobs = map text_of jobs;
+    read = read;
+    some = omega (arith, some, count);
+    counted = subst (λ (n : ℕ). CountsBatch n before (Err fault) after) count counted;
+    reserved = subst (λ (n : ℕ). CouldBeReserved shared before n (Err fault)) count (reserved some few);
+    few = λ is. (let h : ⊥ = omega (arith, many is, few) in h);
+  }
+
+-- a number that is not 0
+pub not_none : (n : ℕ) → ¬ (n ≡ 0) → 1 ≤ n
+not_none zero some = absurd (some refl)
+not_none (suc n) some = omega arith

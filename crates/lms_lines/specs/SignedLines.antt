@@ -3,12 +3,12 @@ use Rattle.std.specs.Prelude.{◌≡◌, ◌≢◌, ℕ, ◌+◌, ◌≤◌, Lis
 use Rattle.std.specs.Io.KnownBytes.{Appends}
 use Rattle.lms_spec.specs.Hss.{capacity_of}
 use Rattle.lms_hss.specs.Keys.{hss_key_of}
-use Rattle.lms_hss.specs.declared.key.HssKey.{HssKey as KeyOfCode}
-use Rattle.lms_shared_book.specs.Desks.{Sums}
+use Rattle.lms_shared_book.specs.Desks.{SharedState, Sums}
 use Rattle.lms_batch.specs.Jobs.{JobText}
-use Rattle.lms_batch.specs.Answers.{CountsBatch, IsAnswerTo, start_of}
+use Rattle.lms_batch.specs.Answers.{CouldBeReserved, CountsBatch, IsAnswerTo, start_of}
 use Rattle.lms_batch.specs.declared.collector.Batch.{Batch}
 use Rattle.lms_batch.specs.declared.collector.Batch.TheVariants.{Complete, Partial}
+use Rattle.lms_batch.specs.declared.service.BatchFault.{BatchFault}
 use Rattle.lms_batch.specs.declared.service.BatchFault.TheVariants.{TooMany}
 use Rattle.lms_lines.specs.AnswerLines.{answer_text, AppendsFront}
 use Rattle.lms_lines.specs.JobsTexts.{IsFaultOf, ReadsJobs}
@@ -21,26 +21,36 @@ abbrev pub signatures_in : Batch → ℕ
 signatures_in (Complete start signatures) = length signatures.items
 signatures_in (Partial start slots) = count_by is_some slots.items
 
--- the batch has the key's signatures of the jobs that the reader had, and the desk counts it
-pub record IsBatchRead (key : KeyOfCode) (old_input new_input : Option (List ℕ)) (before after : Sums) (batch : Batch) : Type 0 where
+-- the batch has the signatures by the key of a shared book of the jobs that the reader had, and the desk counts it
+pub record IsBatchRead (shared : SharedState) (old_input new_input : Option (List ℕ)) (before after : Sums) (batch : Batch) : Type 0 where
   pub jobs : List JobText
   pub read : ReadsJobs old_input new_input jobs
-  pub answer : IsAnswerTo key (start_of batch) jobs batch
-  pub within : start_of batch + length jobs ≤ capacity_of (hss_key_of key)
+  pub answer : IsAnswerTo shared.book.key (start_of batch) jobs batch
+  pub within : start_of batch + length jobs ≤ capacity_of (hss_key_of shared.book.key)
   pub counted : CountsBatch (length jobs) before (Ok batch) after
+  pub reserved : 1 ≤ length jobs → CouldBeReserved shared before (length jobs) (Ok batch)
+
+-- the jobs that the reader had got no batch, and the desk counts that
+pub record IsBatchRefused (shared : SharedState) (old_input new_input : Option (List ℕ)) (before after : Sums) (fault : BatchFault) : Type 0 where
+  pub jobs : List JobText
+  pub read : ReadsJobs old_input new_input jobs
+  pub some : 1 ≤ length jobs
+  pub counted : CountsBatch (length jobs) before (Err fault) after
+  pub reserved : CouldBeReserved shared before (length jobs) (Err fault)
+  pub few : fault ≢ TooMany
 
 -- such a batch was written: so many lines, for so many jobs
-abbrev pub IsDone : KeyOfCode → Option (List ℕ) → Option (List ℕ) → Option (List ℕ) → Option (List ℕ) → Sums → Sums → Done → Type 0
-IsDone key old_input new_input old_output new_output before after done =
-    (batch : Batch) × (is : IsBatchRead key old_input new_input before after batch) × Appends old_output new_output (answer_text batch)
+abbrev pub IsDone : SharedState → Option (List ℕ) → Option (List ℕ) → Option (List ℕ) → Option (List ℕ) → Sums → Sums → Done → Type 0
+IsDone shared old_input new_input old_output new_output before after done =
+    (batch : Batch) × (is : IsBatchRead shared old_input new_input before after batch) × Appends old_output new_output (answer_text batch)
     × (done.signed ≡ signatures_in batch) × (done.asked ≡ length is.jobs)
 
 -- why it was not: the input has a fault, and nothing is reserved; or there is no batch, which is not for too many jobs; or its lines
 -- were not all written
-abbrev pub IsLinesFault : KeyOfCode → Option (List ℕ) → Option (List ℕ) → Option (List ℕ) → Option (List ℕ) → Sums → Sums → LinesFault → Type 0
-IsLinesFault key old_input new_input old_output new_output before after (lines.Jobs fault) =
+abbrev pub IsLinesFault : SharedState → Option (List ℕ) → Option (List ℕ) → Option (List ℕ) → Option (List ℕ) → Sums → Sums → LinesFault → Type 0
+IsLinesFault shared old_input new_input old_output new_output before after (lines.Jobs fault) =
     IfSome old_input (λ text. IsFaultOf text fault) × (after ≡ before)
-IsLinesFault key old_input new_input old_output new_output before after (lines.Batch fault) =
-    (jobs : List JobText) × ReadsJobs old_input new_input jobs × CountsBatch (length jobs) before (Err fault) after × (fault ≢ TooMany)
-IsLinesFault key old_input new_input old_output new_output before after lines.Write =
-    (batch : Batch) × IsBatchRead key old_input new_input before after batch × AppendsFront old_output new_output (answer_text batch)
+IsLinesFault shared old_input new_input old_output new_output before after (lines.Batch fault) =
+    IsBatchRefused shared old_input new_input before after fault
+IsLinesFault shared old_input new_input old_output new_output before after lines.Write =
+    (batch : Batch) × IsBatchRead shared old_input new_input before after batch × AppendsFront old_output new_output (answer_text batch)

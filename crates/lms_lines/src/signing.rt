@@ -65,9 +65,9 @@ where
     O: Write,
     requires some { 1 ≤ workers }
     requires at_most { workers ≤ 64 }
-    ensures done { IfOk result (IsDone service.now.key (I.remaining reader.old) (I.remaining reader.new)
+    ensures done { IfOk result (IsDone service.now (I.remaining reader.old) (I.remaining reader.new)
         (O.contents writer.old) (O.contents writer.new) desk.old desk.new) }
-    ensures fault { IfErr result (IsLinesFault service.now.key (I.remaining reader.old) (I.remaining reader.new)
+    ensures fault { IfErr result (IsLinesFault service.now (I.remaining reader.old) (I.remaining reader.new)
         (O.contents writer.old) (O.contents writer.new) desk.old desk.new) }
     ensures silent { IfErr result (λ fault. fault ≢ LinesFault.Write → writer.new ≡ writer.old) }
 {

@@ -1,1 +1,2 @@
 pub mod DeskSums
+pub mod Reserved

@@ -1,12 +1,11 @@
 -- What desks count of a shared book.
 use Rattle.std.specs.Prelude.{◌≡◌, ℕ, ◌+◌, ◌≤◌, List, [], ◌∷◌, length, sum_by, Result, Ok, Err}
 use Rattle.std.specs.declared.sync.ledger.Blank.{Blank as BlankOfCode}
-use Rattle.lms_hss.specs.declared.key.HssKey.{HssKey as KeyOfCode}
 use Rattle.lms_book.specs.declared.history.Entry.{Entry}
 use Rattle.lms_book.specs.declared.history.Entry.TheVariants.{Given, Burnt}
 use Rattle.lms_book.specs.declared.refusals.BookFault.{BookFault}
 use Rattle.lms_book.specs.declared.refusals.BookFault.TheVariants.{Exhausted, OutOfMemory, Store}
-use Rattle.lms_book.specs.States.{LeaseState}
+use Rattle.lms_book.specs.States.{BookState, LeaseState}
 
 -- numbers of entries, of indices received and of indices burnt
 pub record Sums : Type 0 where
@@ -64,9 +63,9 @@ pub record SharesState : Type 0 where
   pub parts : ℕ
   pub counted : Sums
 
--- a shared book: its key, and how many desks it has
+-- a shared book: the book as it was when it was shared, and how many desks there are
 pub record SharedState : Type 0 where
-  pub key : KeyOfCode
+  pub book : BookState
   pub desks : ℕ
 
 -- what a desk counts of a reservation of n indices

@@ -1,6 +1,7 @@
 //! What lies behind the lock of a shared book.
-ghost use Rattle.std.specs.Prelude.{◌≡◌, ◌+◌, ◌≤◌, length, IfOk};
-ghost use Rattle.lms_shared_book.specs.Desks.{sums, plus, total, sums_of, Counts};
+ghost use Rattle.std.specs.Prelude.{◌≡◌, ℕ, ◌+◌, ◌≤◌, length, IfOk};
+ghost use Rattle.lms_shared_book.specs.Desks.{total, Counts};
+ghost use Rattle.lms_shared_book.specs.Shared.{IsFound, IsSettled};
 
 use crate::desk::{Desk, all_shares};
 use crate::tally::{Shares, Tally, Totals};
@@ -16,8 +17,10 @@ pub(crate) struct CountedBook<S: StateStore, E: Tally, G: Tally, B: Tally> {
 }
 
 impl<S: StateStore, E: Tally, G: Tally, B: Tally> Model for CountedBook<S, E, G, B> {
-    ghost use Rattle.std.specs.Prelude.{◌≡◌};
-    ghost use Rattle.lms_shared_book.specs.Desks.{sums, sums_of};
+    ghost use Rattle.std.specs.Prelude.{◌≡◌, List};
+    ghost use Rattle.lms_shared_book.specs.Desks.{sums_of};
+    ghost use Rattle.lms_shared_book.specs.Shared.{IsAfter};
+    ghost use Rattle.lms_book.specs.declared.history.Entry.{Entry as EntryOfCode};
     ghost use Rattle.lms_book.specs.Books.{IsInOrder};
     ghost use Rattle.lms_book.specs.States.{BookState};
 
@@ -26,8 +29,8 @@ impl<S: StateStore, E: Tally, G: Tally, B: Tally> Model for CountedBook<S, E, G,
     ghost view = { λ c. c.book };
 
     ghost invariant = { λ c. IsInOrder c.book × (c.totals ≡ sums_of c.book.history)
-        × (c.shares.parts ≡ 1) × (c.shares.counted ≡ sums E.before G.before B.before)
-        × (c.book.key ≡ E.key) };
+        × (c.shares.parts ≡ 1) × (c.shares.counted ≡ sums_of E.book.history)
+        × (c.book.key ≡ E.book.key) × ((entries : List EntryOfCode) × IsAfter E.book entries c.book) };
 }
 
 impl<S: StateStore, E: Tally, G: Tally, B: Tally> CountedBook<S, E, G, B> {
@@ -37,13 +40,16 @@ impl<S: StateStore, E: Tally, G: Tally, B: Tally> CountedBook<S, E, G, B> {
     pub(crate) fn reserve(&mut self, desk: &mut Desk<E, G, B>, n: u64) -> Result<Lease, BookFault>
         requires some { 1 ≤ n }
         requires at_most { n ≤ 1024 }
-        ensures key { self.old.key ≡ E.key }
-        ensures lease { IfOk result (λ lease. lease.key ≡ E.key) }
+        ensures key { self.old.key ≡ E.book.key }
+        ensures lease { IfOk result (λ lease. lease.key ≡ E.book.key) }
+        ensures found { (desks : ℕ) → (E.parts ≡ desks + 1) × (G.parts ≡ desks + 1) × (B.parts ≡ desks + 1)
+            → IsFound (record { book = E.book; desks = desks }) desk.old self.old }
         ensures reserves { ReservesInOrder n self.old result self.new }
         ensures desk { Counts n desk.old result desk.new }
     {
         // Its clause bounds the sum of entries.
         let _entries = self.book.history().len();
+        desk.audit(&mut self.totals, &mut self.shares);
         match self.book.reserve(n) {
             Ok(lease) => {
                 desk.count(&mut self.totals, n, 0);
@@ -58,13 +64,13 @@ impl<S: StateStore, E: Tally, G: Tally, B: Tally> CountedBook<S, E, G, B> {
         }
     }
 
-    /// The book. The sums of its history are those from before it was shared and those of all desks.
+    /// The book. All desks together count what was reserved since it was shared.
     pub(crate) fn into_book(self, desks: Vec<Desk<E, G, B>>) -> Book<S>
         requires some { 1 ≤ E.parts }
         requires all { E.parts ≤ length desks.items + 1 }
         requires same { (G.parts ≡ E.parts) × (B.parts ≡ E.parts) }
-        ensures settled { sums_of result.history ≡ plus (sums E.before G.before B.before) (total desks.items) }
-        ensures key { result.key ≡ E.key }
+        ensures settled { IsSettled E.book (total desks.items) result }
+        ensures key { result.key ≡ E.book.key }
         ensures present { E.parts ≡ length desks.items + 1 }
     {
         let CountedBook {

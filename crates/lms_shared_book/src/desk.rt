@@ -49,6 +49,20 @@ impl<E: Tally, G: Tally, B: Tally> Desk<E, G, B> {
         self.burnt
     }
 
+    /// Changes nothing, and tells what the desk and another share count, where the two are all there are.
+    pub(crate) fn audit(&mut self, totals: &mut Totals<E, G, B>, other: &mut Shares<E, G, B>)
+        requires { other.old.parts ≡ 1 }
+        ensures desk { self.new ≡ self.old }
+        ensures totals { totals.new ≡ totals.old }
+        ensures other { other.new ≡ other.old }
+        ensures alone { (E.parts ≡ 2) × (G.parts ≡ 2) × (B.parts ≡ 2) → plus other.old.counted self.old ≡ totals.old }
+    {
+        self.shares
+            .give(other, self.entries, self.received, self.burnt);
+        totals.audit(other);
+        other.give(&mut self.shares, self.entries, self.received, self.burnt);
+    }
+
     /// Counts one entry more, with the indices that it gave and those that it burnt.
     pub(crate) fn count(&mut self, totals: &mut Totals<E, G, B>, given: u64, burnt: u64)
         requires entries { totals.old.entries + 1 < 2 ^ 64 }

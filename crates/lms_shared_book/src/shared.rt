@@ -2,6 +2,7 @@
 ghost use Rattle.std.specs.Prelude.{◌≡◌, ◌+◌, ◌<◌, ◌≤◌, length, replicate, IfOk, IfErr, OnOk};
 ghost use Rattle.std.specs.Fn.{FnOnceReturnsAt};
 ghost use Rattle.lms_shared_book.specs.Desks.{sums, plus, total, sums_of, BlankFits, Counts};
+ghost use Rattle.lms_shared_book.specs.Shared.{IsAfter, IsFound, IsSettled};
 
 use crate::counted::CountedBook;
 use crate::desk::{Desk, new_desks};
@@ -20,7 +21,8 @@ mod tests;
 
 /// A book behind a lock. Whoever gets the lock finds the counter within the key's capacity, and the leases disjoint and
 /// below every counter that could be found in the store after a crash. Three ledgers count the entries, the indices given
-/// and the indices burnt. Contracts see the key and the number of desks.
+/// and the indices burnt. Contracts see the book as it was when it was shared, and the
+/// number of desks.
 #[derive(Drop)]
 pub struct SharedBook<S: StateStore, E: Tally, G: Tally, B: Tally> {
     counted: Mutex<CountedBook<S, E, G, B>>,
@@ -34,20 +36,22 @@ impl<S: StateStore, E: Tally, G: Tally, B: Tally> Model for SharedBook<S, E, G, 
 
     ghost Value = { SharedState };
 
-    ghost view = { λ s. record { key = s.key; desks = s.desks } };
+    ghost view = { λ s. record { book = E.book; desks = s.desks } };
 
     ghost invariant = { λ s.
-        (E.parts ≡ s.desks + 1) × (G.parts ≡ s.desks + 1) × (B.parts ≡ s.desks + 1) × (s.key ≡ E.key) };
+        (E.parts ≡ s.desks + 1) × (G.parts ≡ s.desks + 1) × (B.parts ≡ s.desks + 1) × (s.key ≡ E.book.key) };
 }
 
 impl<S: StateStore, E: Tally, G: Tally, B: Tally> SharedBook<S, E, G, B> {
     ghost use Rattle.lms_book.specs.States.{BookState, reservations_of};
+    ghost use Rattle.std.specs.Prelude.{List};
+    ghost use Rattle.lms_book.specs.declared.history.Entry.{Entry as EntryOfCode};
     ghost use Rattle.lms_book.specs.Books.{IsInOrder, ReservesInOrder};
 
     /// Puts a book behind a lock, with 1 to 64 desks that have counted nothing. Each blank is made by
     /// `Blank::new(desks + 1)`: one part for each desk, and one for what the history counted before. The caller is a
     /// function generic over three `Tally`s, called with `Brand` three times; the proof of that call picks name and parts
-    /// of each, what the history counted before, and the key.
+    /// of each, and the book.
     ///
     /// `OutOfMemory` where memory for the desks is refused, with the book and the blanks handed back as they were.
     pub fn share(
@@ -61,9 +65,8 @@ impl<S: StateStore, E: Tally, G: Tally, B: Tally> SharedBook<S, E, G, B> {
         requires entries { BlankFits blanks.entries E.name E.parts (desks + 1) }
         requires given { BlankFits blanks.given G.name G.parts (desks + 1) }
         requires burnt { BlankFits blanks.burnt B.name B.parts (desks + 1) }
-        requires key { book.key ≡ E.key }
-        requires before { sums_of book.history ≡ sums E.before G.before B.before }
-        ensures shared { IfOk result (λ r. r.0 ≡ record { key = book.key; desks = desks }) }
+        requires same { book ≡ E.book }
+        ensures shared { IfOk result (λ r. r.0 ≡ record { book = book; desks = desks }) }
         ensures desks { IfOk result (λ r. r.1.items ≡ replicate desks (sums 0 0 0)) }
         ensures err { IfErr result (λ e. (e.1 ≡ book) × (e.2 ≡ blanks)) }
     {
@@ -95,7 +98,7 @@ impl<S: StateStore, E: Tally, G: Tally, B: Tally> SharedBook<S, E, G, B> {
 
     /// The key of the book that is shared.
     pub fn key(&self) -> HssKey
-        ensures { result ≡ self.now.key }
+        ensures { result ≡ self.now.book.key }
     {
         self.key
     }
@@ -112,8 +115,9 @@ impl<S: StateStore, E: Tally, G: Tally, B: Tally> SharedBook<S, E, G, B> {
         requires some { 1 ≤ n }
         requires at_most { n ≤ 1024 }
         ensures desk { Counts n desk.old result desk.new }
-        ensures key { IfOk result (λ lease. lease.key ≡ self.now.key) }
-        ensures reserves { (old new : BookState) × (old.key ≡ self.now.key) × ReservesInOrder n old result new }
+        ensures key { IfOk result (λ lease. lease.key ≡ self.now.book.key) }
+        ensures reserves { (old new : BookState) × (old.key ≡ self.now.book.key)
+            × IsFound self.now desk.old old × ReservesInOrder n old result new }
     {
         self.counted.lock(rt).reserve(desk, n)
     }
@@ -127,25 +131,26 @@ impl<S: StateStore, E: Tally, G: Tally, B: Tally> SharedBook<S, E, G, B> {
     /// closure must not ask for it again.
     pub fn with<T, F: FnOnce(&Reservations) -> T, R: Wait>(&self, rt: &R, f: F) -> T
         requires { F.IsAlwaysCallable f }
-        ensures { (book : BookState) × (book.key ≡ self.now.key) × IsInOrder book
-            × FnOnceReturnsAt F.FnOnce f (reservations_of book) result }
+        ensures { (book : BookState) × (book.key ≡ self.now.book.key) × IsInOrder book
+            × ((entries : List EntryOfCode) × IsAfter self.now.book entries book) × FnOnceReturnsAt F.FnOnce f (reservations_of book) result }
     {
         let guard = self.counted.lock(rt);
         let counted: &CountedBook<S, E, G, B> = &guard;
         f(counted.book.reservations())
     }
 
-    /// Takes the book back, once all desks have come. The entries, the indices given and the indices burnt that its
-    /// history gained since `share` are the sums over the desks.
+    /// Takes the book back, once all desks have come: the one that was shared, after reservations, whose entries, indices
+    /// given and indices burnt are the sums over the desks.
     ///
     /// `MissingDesks` exactly where fewer desks came than were shared, with their number. All is handed back as it was.
     pub fn settle(
         self,
         desks: Vec<Desk<E, G, B>>,
     ) -> Result<Book<S>, (MissingDesks, Self, Vec<Desk<E, G, B>>)>
-        ensures key { IfOk result (λ book. book.key ≡ self.key) }
-        ensures settled { IfOk result (λ book.
-            sums_of book.history ≡ plus (sums E.before G.before B.before) (total desks.items)) }
+        ensures key { IfOk result (λ book. book.key ≡ self.book.key) }
+        ensures settled { IfOk result (λ book. IsSettled self.book (total desks.items) book) }
+        ensures counted { IfOk result (λ book.
+            sums_of book.history ≡ plus (sums_of self.book.history) (total desks.items)) }
         ensures all { OnOk result (length desks.items ≡ self.desks) }
         ensures missing { IfErr result (λ e. (e.0.present ≡ length desks.items) × (length desks.items < self.desks)) }
         ensures back { IfErr result (λ e. (e.1 ≡ self) × (e.2.items ≡ desks.items)) }

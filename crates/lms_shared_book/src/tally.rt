@@ -1,6 +1,6 @@
 //! Three ledgers side by side: of entries, of indices given, and of indices burnt.
-ghost use Rattle.std.specs.Prelude.{◌≡◌, ℕ, ◌+◌, ◌<◌, ◌≤◌, []};
-ghost use Rattle.lms_hss.specs.declared.key.HssKey.{HssKey as KeyOfCode};
+ghost use Rattle.std.specs.Prelude.{◌≡◌, ℕ, ◌+◌, ◌<◌, ◌≤◌, [], None};
+ghost use Rattle.lms_book.specs.States.{BookState};
 ghost use Rattle.lms_shared_book.specs.Desks.{SharesState, BlankFits, IsWithin, plus, sums};
 
 use std::marker::{Brand, Model};
@@ -11,19 +11,19 @@ use std::sync::ledger::{Blank, Book, Ledger, Share};
 ///
 /// Whoever shares a book writes a function that is generic over three types with this bound and takes the book and its
 /// `Blanks`, and calls it with `Brand` for each of the three. The proof of that call picks the members: name and parts of
-/// the blank, what the history counted before, and the book's key.
+/// the blank, and the book.
 pub trait Tally: Ledger {
-    /// What the history counted before the book was shared.
-    ghost before: { ℕ };
-
-    /// The key of the book that is shared.
-    ghost key: { KeyOfCode };
+    /// The book that is shared, as it was before.
+    ghost book: { BookState };
 }
 
 impl Tally for Brand {
-    ghost before = { 0 };
-
-    ghost key = { record { levels = []; seed = []; i = [] } };
+    ghost book = { record {
+      key = record { levels = []; seed = []; i = [] };
+      base = 0;
+      history = [];
+      store = record { now = None; past = []; failures = 0 };
+    } };
 }
 
 /// Three blank ledgers for `SharedBook::share`, which opens them: one of the entries, one of the indices given and one of
@@ -83,6 +83,21 @@ impl<E: Ledger, G: Ledger, B: Ledger> Shares<E, G, B> {
             given: self.given.split_off(1, 0),
             burnt: self.burnt.split_off(1, 0),
         }
+    }
+
+    /// Gives one part to another share, with so much of what it counts.
+    pub(crate) fn give(&mut self, to: &mut Shares<E, G, B>, entries: u64, given: u64, burnt: u64)
+        requires some { 1 ≤ self.old.parts }
+        requires enough { IsWithin (sums entries given burnt) self.old.counted }
+        requires last { self.old.parts ≡ 1 → self.old.counted ≡ sums entries given burnt }
+        ensures left { self.new.parts + 1 ≡ self.old.parts }
+        ensures counted { plus self.new.counted (sums entries given burnt) ≡ self.old.counted }
+        ensures parts { to.new.parts ≡ to.old.parts + 1 }
+        ensures given { to.new.counted ≡ plus to.old.counted (sums entries given burnt) }
+    {
+        self.entries.give(&mut to.entries, 1, entries);
+        self.given.give(&mut to.given, 1, given);
+        self.burnt.give(&mut to.burnt, 1, burnt);
     }
 
     /// Takes the parts of another share, with what they count.

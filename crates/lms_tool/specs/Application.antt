@@ -32,12 +32,16 @@ info = record { name = codes "info"; options = codes "state" ∷ [] }
 abbrev pub sign : Subcommand
 sign = record { name = codes "sign"; options = codes "state" ∷ codes "random" ∷ codes "message" ∷ codes "out" ∷ [] }
 
+-- `batch --state FILE --workers N`
+abbrev pub batch : Subcommand
+batch = record { name = codes "batch"; options = codes "state" ∷ codes "workers" ∷ [] }
+
 -- `verify --public FILE --message FILE --signature FILE`
 abbrev pub verify : Subcommand
 verify = record { name = codes "verify"; options = codes "public" ∷ codes "message" ∷ codes "signature" ∷ [] }
 
 abbrev pub subcommands : List Subcommand
-subcommands = keygen ∷ info ∷ sign ∷ verify ∷ []
+subcommands = keygen ∷ info ∷ sign ∷ batch ∷ verify ∷ []
 
 -- the subcommand of this name, of some
 abbrev pub called_in : List Subcommand → Text → Option Subcommand

@@ -5,9 +5,9 @@ use Rattle.clap.specs.Words.{Kinds, IsAmong, Row, Text, first_of, first_value, s
 use Rattle.clap.specs.declared.error.kind.ErrorKind.{ErrorKind}
 use Rattle.clap.specs.declared.error.kind.ErrorKind.TheVariants as kind
 use Rattle.clap.specs.declared.parser.matches.Found.{Found}
-use Rattle.lms_tool.specs.Application.{Subcommand, info, keygen, lms_app, sign, verify}
+use Rattle.lms_tool.specs.Application.{Subcommand, batch, info, keygen, lms_app, sign, verify}
 use Rattle.lms_tool.specs.declared.command.types.Command.{Command}
-use Rattle.lms_tool.specs.declared.command.types.Command.TheVariants.{Info, Keygen, Sign, Verify}
+use Rattle.lms_tool.specs.declared.command.types.Command.TheVariants.{Batch, Info, Keygen, Sign, Verify}
 use Rattle.lms_tool.specs.declared.command.types.CommandFault.{CommandFault}
 use Rattle.lms_tool.specs.declared.command.types.CommandFault.TheVariants.{Help, Usage, OutOfMemory}
 
@@ -24,6 +24,7 @@ abbrev pub subcommand_for : Command → Subcommand
 subcommand_for (Keygen levels seed id state public) = keygen
 subcommand_for (Info state) = info
 subcommand_for (Sign state random message out) = sign
+subcommand_for (Batch state workers) = batch
 subcommand_for (Verify public message signature) = verify
 
 -- the texts of its options, in turn
@@ -32,6 +33,7 @@ texts_of (Keygen levels seed id state public) =
     string_bytes levels ∷ string_bytes seed ∷ string_bytes id ∷ string_bytes state ∷ string_bytes public ∷ []
 texts_of (Info state) = string_bytes state ∷ []
 texts_of (Sign state random message out) = string_bytes state ∷ string_bytes random ∷ string_bytes message ∷ string_bytes out ∷ []
+texts_of (Batch state workers) = string_bytes state ∷ string_bytes workers ∷ []
 texts_of (Verify public message signature) = string_bytes public ∷ string_bytes message ∷ string_bytes signature ∷ []
 
 -- clap's definition reads the words as this command

@@ -1,7 +1,7 @@
 -- The words that the usage lines show.
 use Rattle.std.specs.Prelude.{◌≡◌, ◌++◌, List, ◌∷◌, [], codes, true}
 use Rattle.clap.specs.Words.{Text, takes}
-use Rattle.lms_tool.specs.Application.{Subcommand, info, keygen, lms_app, sign, verify}
+use Rattle.lms_tool.specs.Application.{Subcommand, batch, info, keygen, lms_app, sign, verify}
 use Rattle.lms_tool.specs.Commands.{AsksFor}
 
 -- `--NAME=TEXT` for each name and the text in its place
@@ -25,6 +25,9 @@ InfoIsTaken = (state : Text) → IsTaken info (state ∷ [])
 
 abbrev pub SignIsTaken : Type 0
 SignIsTaken = (state random message out : Text) → IsTaken sign (state ∷ random ∷ message ∷ out ∷ [])
+
+abbrev pub BatchIsTaken : Type 0
+BatchIsTaken = (state workers : Text) → IsTaken batch (state ∷ workers ∷ [])
 
 abbrev pub VerifyIsTaken : Type 0
 VerifyIsTaken = (public message signature : Text) → IsTaken verify (public ∷ message ∷ signature ∷ [])

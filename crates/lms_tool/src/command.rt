@@ -2,7 +2,7 @@
 ghost use Rattle.std.specs.Prelude.{◌≡◌, [], codes, IfOk, IfErr, IsSome, Some, MatchResult, map, true, false, string_bytes};
 ghost use Rattle.clap.specs.Words.{app_of, fault_of, first_value, found_of, kind_of, rows_of, rule_of, takes};
 ghost use Rattle.clap.specs.declared.builder.command.Command.TheViews.{out-Command as fields_of};
-ghost use Rattle.lms_tool.specs.Application.{app_for, called, info, keygen, lms_app, required_option, sign, verify};
+ghost use Rattle.lms_tool.specs.Application.{app_for, batch, called, info, keygen, lms_app, required_option, sign, verify};
 ghost use Rattle.lms_tool.specs.Commands.{FaultAt, FaultOf, HasOptions, IsMadeOf, Reads};
 
 mod laws;
@@ -32,6 +32,13 @@ const SIGN_NOTE: &str = "Example:
   lms_tool sign --state key.state --random \"$(openssl rand -hex 32)\" --message firmware.bin --out firmware.sig
 
 Prints the index, which counts as used before the signature is made. Never sign with an older copy of a state.";
+
+const BATCH_NOTE: &str = "Example, for a file `jobs` with one line for each message:
+  lms_tool batch --state key.state --workers 4 < jobs > answers
+
+A job line is a randomizer of 64 hexadecimal digits, random and fresh for each job, one space, and the message, 0 to 131072
+hexadecimal digits; 1024 lines at most. An answer line is the index, one space, and the signature in hexadecimal. The indices
+count as used before the first signature is made. Never sign with an older copy of a state.";
 
 const VERIFY_NOTE: &str = "Example:
   lms_tool verify --public key.pub --message firmware.bin --signature firmware.sig
@@ -69,6 +76,7 @@ fn application<'a>(alloc: Global) -> Result<clap::Command<'a>, AllocError>
         .subcommand(keygen_application(alloc)?)?
         .subcommand(info_application(alloc)?)?
         .subcommand(sign_application(alloc)?)?
+        .subcommand(batch_application(alloc)?)?
         .subcommand(verify_application(alloc)?)
 }
 
@@ -129,6 +137,22 @@ fn sign_application<'a>(alloc: Global) -> Result<clap::Command<'a>, AllocError>
         ))
 }
 
+fn batch_application<'a>(alloc: Global) -> Result<clap::Command<'a>, AllocError>
+    ensures app { IfOk result (λ c. app_of c ≡ app_for batch) }
+    ensures local { IfOk result (λ c. (fields_of c).has_globals ≡ false) }
+{
+    clap::Command::new(alloc, "batch")
+        .about("Signs the job lines of standard input")
+        .after_help(BATCH_NOTE)
+        .arg(option(alloc, "state", "FILE", "The key's state"))?
+        .arg(option(
+            alloc,
+            "workers",
+            "N",
+            "How many workers sign at once, 1 to 64",
+        ))
+}
+
 fn verify_application<'a>(alloc: Global) -> Result<clap::Command<'a>, AllocError>
     ensures app { IfOk result (λ c. app_of c ≡ app_for verify) }
     ensures local { IfOk result (λ c. (fields_of c).has_globals ≡ false) }
@@ -162,6 +186,7 @@ fn read(alloc: Global, name: &str, options: &ArgMatches<'_>) -> Result<Command, 
         "keygen" => read_keygen(alloc, options),
         "info" => read_info(alloc, options),
         "sign" => read_sign(alloc, options),
+        "batch" => read_batch(alloc, options),
         "verify" => read_verify(alloc, options),
         _ => unreachable!(),
     }
@@ -198,6 +223,16 @@ fn read_sign(alloc: Global, options: &ArgMatches<'_>) -> Result<Command, AllocEr
         random: option_text(alloc, options, "random")?,
         message: option_text(alloc, options, "message")?,
         out: option_text(alloc, options, "out")?,
+    })
+}
+
+fn read_batch(alloc: Global, options: &ArgMatches<'_>) -> Result<Command, AllocError>
+    requires { HasOptions (Some batch) (found_of options.now) }
+    ensures { IfOk result (IsMadeOf (codes "batch") (rows_of (found_of options.now))) }
+{
+    Ok(Command::Batch {
+        state: option_text(alloc, options, "state")?,
+        workers: option_text(alloc, options, "workers")?,
     })
 }
 

@@ -1,29 +1,32 @@
 //! The whole program, over its arguments, its files and its streams.
-ghost use Rattle.std.specs.Prelude.{◌≡◌, ◌≢◌, ◌⊎◌, ◌<◌, ◌≤◌, ℕ, List, IfErr, IfOk, MatchResult, OnOk, map};
+ghost use Rattle.std.specs.Prelude.{◌≡◌, ◌⊎◌, ◌<◌, ◌≤◌, ℕ, List, IfErr, IfOk, MatchResult, OnOk, map};
 ghost use Rattle.std.specs.Io.KnownBytes.{Appends};
+ghost use Rattle.lms_commands.specs.Batches.{IsSilent};
 ghost use Rattle.lms_commands.specs.Faults.{code_of, status_of};
 ghost use Rattle.lms_commands.specs.Known.{SameFile};
-ghost use Rattle.lms_tool.specs.Runs.{AsksToTouch, Ends, Fails, FailsToObey, NoneWrites, Obeys, Touches, Writes};
+ghost use Rattle.lms_tool.specs.Runs.{AsksToRead, AsksToTouch, Ends, Fails, FailsToObey, NoneWrites, Obeys, ReadsInput, Touches, Writes, moment};
 ghost use Rattle.lms_commands.specs.declared.status.Status.{Status};
 
 use crate::command::{Command, CommandFault, command};
 use lms_commands::{
-    Fault, Status, World, describe, key_from, make_key, print_fault, sign_file, verify_files,
+    Fault, Status, World, describe, key_from, make_key, print_fault, sign_file, sign_jobs,
+    verify_files,
 };
 use std::alloc::Global;
 use std::convert::AsStr;
 use std::io;
-use std::io::{BufRead, Write};
+use std::io::{Read, Write};
+use std::sync::Wait;
 use std::thread::Threads;
 
 /// The whole program, over its command-line arguments (`words`, the program's name first), its files and its three streams.
 /// Answers the exit status, the code of a `Status`.
 ///
 /// A fault is one line on `errors`, `error: ` and its text. Help is printed to `output` and a mistake in the arguments to
-/// `errors`, both in clap's wording. Nothing but `keygen`, `info` and `sign` may change files or states, and of the files
-/// only the one that `--public` or `--out` names. `input` is not read.
-pub fn run<S: AsStr, W: World, I: BufRead, O: Write, E: Write>(
-    rt: &(impl Threads + Sync),
+/// `errors`, both in clap's wording. Nothing but `verify` leaves files and states alone by its contract, and of the files only
+/// the one that `--public` or `--out` names may change. `input` is read by `batch` alone.
+pub fn run<S: AsStr, W: World, I: Read, O: Write, E: Write>(
+    rt: &(impl Threads + Wait + Sync),
     alloc: Global,
     words: &[S],
     world: &mut W,
@@ -32,16 +35,16 @@ pub fn run<S: AsStr, W: World, I: BufRead, O: Write, E: Write>(
     errors: &mut E,
 ) -> u8
     ensures ends { (status : Status) × (result ≡ code_of status)
-        × Ends (W.known world.old) (W.known world.new)
-        (map S.text words.now) (O.contents output.old) (O.contents output.new) status }
-    ensures quiet { result < 2 → errors.new ≡ errors.old }
+        × Ends (moment (W.known world.old) (I.remaining input.old) (O.contents output.old))
+        (moment (W.known world.new) (I.remaining input.new) (O.contents output.new)) (map S.text words.now) status }
+    ensures quiet { result < 2 → (errors.new ≡ errors.old) ⊎ ((result ≡ 1) × AsksToRead (map S.text words.now)) }
     ensures silent { 2 ≤ result → result < 6 → output.new ≡ output.old }
     ensures files { (world.new ≡ world.old) ⊎ AsksToTouch (map S.text words.now) }
     ensures others { (name : List ℕ) → NoneWrites (map S.text words.now) name
         → SameFile (W.known world.old) (W.known world.new) name }
-    ensures unread { input.new ≡ input.old }
+    ensures unread { (input.new ≡ input.old) ⊎ AsksToRead (map S.text words.now) }
 {
-    match answer(rt, alloc, words, world, output, errors) {
+    match answer(rt, alloc, words, world, input, output, errors) {
         Ok(status) => status.code(),
         Err(fault) => report(fault, errors),
     }
@@ -57,29 +60,31 @@ pub fn report<E: Write>(fault: Fault, errors: &mut E) -> u8
 }
 
 /// Does what the arguments ask, and prints all but a fault.
-fn answer<S: AsStr, W: World, O: Write, E: Write>(
-    rt: &(impl Threads + Sync),
+fn answer<S: AsStr, W: World, I: Read, O: Write, E: Write>(
+    rt: &(impl Threads + Wait + Sync),
     alloc: Global,
     words: &[S],
     world: &mut W,
+    input: &mut I,
     output: &mut O,
     errors: &mut E,
 ) -> Result<Status, Fault>
     ensures ends { IfOk result
-        (Ends (W.known world.old) (W.known world.new)
-        (map S.text words.now) (O.contents output.old) (O.contents output.new)) }
+        (Ends (moment (W.known world.old) (I.remaining input.old) (O.contents output.old))
+        (moment (W.known world.new) (I.remaining input.new) (O.contents output.new)) (map S.text words.now)) }
     ensures fails { IfErr result
-        (Fails (W.known world.old) (W.known world.new)
-        (map S.text words.now) (O.contents output.old) (O.contents output.new)) }
+        (Fails (moment (W.known world.old) (I.remaining input.old) (O.contents output.old))
+        (moment (W.known world.new) (I.remaining input.new) (O.contents output.new)) (map S.text words.now)) }
     ensures quiet { IfOk result (λ status. code_of status < 2 → errors.new ≡ errors.old) }
     ensures silent { MatchResult result (λ status. 2 ≤ code_of status → output.new ≡ output.old)
-        (λ fault. fault ≢ Fault.Output → output.new ≡ output.old) }
+        (λ fault. IsSilent fault → output.new ≡ output.old) }
     ensures files { (world.new ≡ world.old) ⊎ AsksToTouch (map S.text words.now) }
     ensures others { (name : List ℕ) → NoneWrites (map S.text words.now) name
         → SameFile (W.known world.old) (W.known world.new) name }
+    ensures unread { (input.new ≡ input.old) ⊎ AsksToRead (map S.text words.now) }
 {
     match command(alloc, words) {
-        Ok(command) => obey(rt, alloc, command, world, output),
+        Ok(command) => obey(rt, alloc, command, world, input, output),
         Err(CommandFault::Help { text }) => match print_text(output, &text) {
             Ok(()) => Ok(Status::Done),
             Err(_) => Err(Fault::Output),
@@ -93,23 +98,25 @@ fn answer<S: AsStr, W: World, O: Write, E: Write>(
 }
 
 /// Does what the command asks, and prints all but a fault.
-fn obey<W: World, O: Write>(
-    rt: &(impl Threads + Sync),
+fn obey<W: World, I: Read, O: Write>(
+    rt: &(impl Threads + Wait + Sync),
     alloc: Global,
     command: Command,
     world: &mut W,
+    input: &mut I,
     output: &mut O,
 ) -> Result<Status, Fault>
-    ensures done { IfOk result (Obeys (W.known world.old)
-        (W.known world.new) command
-        (O.contents output.old) (O.contents output.new)) }
-    ensures failed { IfErr result (FailsToObey (W.known world.old)
-        (W.known world.new) command
-        (O.contents output.old) (O.contents output.new)) }
-    ensures silent { IfErr result (λ fault. fault ≢ Fault.Output → output.new ≡ output.old) }
+    ensures done { IfOk result
+        (Obeys (moment (W.known world.old) (I.remaining input.old) (O.contents output.old))
+        (moment (W.known world.new) (I.remaining input.new) (O.contents output.new)) command) }
+    ensures failed { IfErr result
+        (FailsToObey (moment (W.known world.old) (I.remaining input.old) (O.contents output.old))
+        (moment (W.known world.new) (I.remaining input.new) (O.contents output.new)) command) }
+    ensures silent { IfErr result (λ fault. IsSilent fault → output.new ≡ output.old) }
     ensures files { (world.new ≡ world.old) ⊎ Touches command }
     ensures others { (name : List ℕ) → ¬ Writes command name
         → SameFile (W.known world.old) (W.known world.new) name }
+    ensures unread { (input.new ≡ input.old) ⊎ ReadsInput command }
 {
     match command {
         Command::Keygen {
@@ -134,6 +141,10 @@ fn obey<W: World, O: Write>(
             out,
         } => {
             sign_file(rt, alloc, world, &state, &random, &message, &out, output)?;
+            Ok(Status::Done)
+        }
+        Command::Batch { state, workers } => {
+            sign_jobs(rt, alloc, world, &state, &workers, input, output)?;
             Ok(Status::Done)
         }
         Command::Verify {

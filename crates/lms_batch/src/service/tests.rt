@@ -44,12 +44,10 @@ fn carried_out<E: Tally + Send + Sync, G: Tally + Send + Sync, B: Tally + Send +
     blanks: Blanks,
     scenario: Scenario,
 ) -> Result<(), Fail>
-    requires key { book.key ≡ E.key }
-    requires fresh { book.history ≡ [] }
+    requires same { book ≡ E.book }
     requires entries { BlankFits blanks.entries E.name E.parts 5 }
     requires given { BlankFits blanks.given G.name G.parts 5 }
     requires burnt { BlankFits blanks.burnt B.name B.parts 5 }
-    requires before { (E.before ≡ 0) × (G.before ≡ 0) × (B.before ≡ 0) }
 {
     let shared = match SharedBook::<MemoryStore, E, G, B>::share(rt.alloc(), book, blanks, 4) {
         Err((_, book, blanks)) => SharedBook::share(rt.alloc(), book, blanks, 4),

@@ -122,12 +122,10 @@ fn sign_all<E: Tally, G: Tally, B: Tally>(
     book: Book<MemoryStore>,
     blanks: Blanks,
 ) -> Result<(), Fail>
-    requires key { book.key ≡ E.key }
-    requires fresh { book.history ≡ [] }
+    requires same { book ≡ E.book }
     requires entries { BlankFits blanks.entries E.name E.parts 2 }
     requires given { BlankFits blanks.given G.name G.parts 2 }
     requires burnt { BlankFits blanks.burnt B.name B.parts 2 }
-    requires before { (E.before ≡ 0) × (G.before ≡ 0) × (B.before ≡ 0) }
 {
     let shared = SharedBook::<MemoryStore, E, G, B>::share(rt.alloc(), book, blanks, 1);
     let (shared, mut desks) = shared.ok().ok_or("memory for a desk")?;

@@ -1,5 +1,5 @@
 ghost use Rattle.std.specs.Prelude.{◌≡◌, ◌≤◌, ◌+◌, []};
-ghost use Rattle.lms_shared_book.specs.Desks.{sums, sums_of, BlankFits};
+ghost use Rattle.lms_shared_book.specs.Desks.{BlankFits};
 
 use super::SharedBook;
 use crate::fixtures::{opened, reserved, small_store, tall_store};
@@ -85,8 +85,7 @@ fn shared_at_last<E: Tally, G: Tally, B: Tally>(
     requires entries { BlankFits blanks.entries E.name E.parts 3 }
     requires given { BlankFits blanks.given G.name G.parts 3 }
     requires burnt { BlankFits blanks.burnt B.name B.parts 3 }
-    requires key { book.key ≡ E.key }
-    requires before { sums_of book.history ≡ sums E.before G.before B.before }
+    requires same { book ≡ E.book }
 {
     let shared = match SharedBook::share(alloc, book, blanks, 2) {
         Err((OutOfMemory, book, blanks)) => SharedBook::share(alloc, book, blanks, 2),
@@ -104,8 +103,7 @@ fn two_desks<E: Tally, G: Tally, B: Tally>(
     requires entries { BlankFits blanks.entries E.name E.parts 3 }
     requires given { BlankFits blanks.given G.name G.parts 3 }
     requires burnt { BlankFits blanks.burnt B.name B.parts 3 }
-    requires key { book.key ≡ E.key }
-    requires before { sums_of book.history ≡ sums E.before G.before B.before }
+    requires same { book ≡ E.book }
 {
     let (shared, mut desks) = shared_at_last::<E, G, B>(rt.alloc(), book, blanks)?;
     assert_eq!(rt;
@@ -156,12 +154,10 @@ fn three_desks<E: Tally, G: Tally, B: Tally>(
     book: Book<MemoryStore>,
     blanks: Blanks,
 ) -> Result<(), Fail>
-    requires key { book.key ≡ E.key }
-    requires fresh { book.history ≡ [] }
+    requires same { book ≡ E.book }
     requires entries { BlankFits blanks.entries E.name E.parts 4 }
     requires given { BlankFits blanks.given G.name G.parts 4 }
     requires burnt { BlankFits blanks.burnt B.name B.parts 4 }
-    requires before { (E.before ≡ 0) × (G.before ≡ 0) × (B.before ≡ 0) }
 {
     let key = book.key();
     let shared = SharedBook::<MemoryStore, E, G, B>::share(rt.alloc(), book, blanks, 3);
@@ -244,12 +240,10 @@ fn many_desks<E: Tally, G: Tally, B: Tally>(
 ) -> Result<(), Fail>
     requires some { 1 ≤ desks }
     requires at_most { desks ≤ 64 }
-    requires key { book.key ≡ E.key }
-    requires fresh { book.history ≡ [] }
+    requires same { book ≡ E.book }
     requires entries { BlankFits blanks.entries E.name E.parts (desks + 1) }
     requires given { BlankFits blanks.given G.name G.parts (desks + 1) }
     requires burnt { BlankFits blanks.burnt B.name B.parts (desks + 1) }
-    requires before { (E.before ≡ 0) × (G.before ≡ 0) × (B.before ≡ 0) }
 {
     let shared = SharedBook::<MemoryStore, E, G, B>::share(rt.alloc(), book, blanks, desks);
     let (shared, mut all) = shared.ok().ok_or("memory for desks")?;
@@ -334,12 +328,10 @@ fn four_threads<E: Tally + Send + Sync, G: Tally + Send + Sync, B: Tally + Send 
     book: Book<MemoryStore>,
     blanks: Blanks,
 ) -> Result<(), Fail>
-    requires key { book.key ≡ E.key }
-    requires fresh { book.history ≡ [] }
+    requires same { book ≡ E.book }
     requires entries { BlankFits blanks.entries E.name E.parts 5 }
     requires given { BlankFits blanks.given G.name G.parts 5 }
     requires burnt { BlankFits blanks.burnt B.name B.parts 5 }
-    requires before { (E.before ≡ 0) × (G.before ≡ 0) × (B.before ≡ 0) }
 {
     let shared = SharedBook::<MemoryStore, E, G, B>::share(rt.alloc(), book, blanks, 4);
     let (shared, desks) = shared.ok().ok_or("memory for desks")?;

@@ -49,6 +49,24 @@ fn reads_info(rt: HostRuntime) -> Result<(), Fail> {
 }
 
 #[test]
+fn reads_batch(rt: HostRuntime) -> Result<(), Fail> {
+    let words: [&str; 6] = [
+        "lms_tool",
+        "batch",
+        "--workers",
+        "4",
+        "--state",
+        "key.state",
+    ];
+    let Ok(Command::Batch { state, workers }) = command(rt.alloc(), &words) else {
+        return Err(Fail::from("no batch"));
+    };
+    assert_eq!(rt; state.as_str(), "key.state");
+    assert_eq!(rt; workers.as_str(), "4");
+    Ok(())
+}
+
+#[test]
 fn reads_sign(rt: HostRuntime) -> Result<(), Fail> {
     let words: [&str; 10] = [
         "lms_tool",

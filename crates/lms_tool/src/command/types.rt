@@ -26,6 +26,11 @@ pub enum Command {
         message: String,
         out: String,
     },
+    /// Sign the job lines of standard input by the key whose state is in a file, by so many workers, a number in decimal.
+    Batch {
+        state: String,
+        workers: String,
+    },
     /// Verify a signature. Each text names a file.
     Verify {
         public: String,

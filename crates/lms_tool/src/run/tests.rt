@@ -1,3 +1,4 @@
+mod batch;
 mod disk;
 mod faults;
 mod large;
@@ -16,6 +17,7 @@ use std::alloc::Global;
 use std::io;
 use std::io::Write;
 use std::string::FromUtf8Error;
+use std::sync::Wait;
 use std::test::Fail;
 use std::thread::Threads;
 
@@ -42,7 +44,7 @@ struct Ended {
 
 /// Runs the program with no input. What `run` promises of the status and of what it is lent is left to its proof.
 fn status_of<W: World, O: Write, E: Write>(
-    rt: &(impl Threads + AllocGlobal + Sync),
+    rt: &(impl Threads + Wait + AllocGlobal + Sync),
     words: &[&str],
     world: &mut W,
     output: &mut O,
@@ -53,7 +55,7 @@ fn status_of<W: World, O: Write, E: Write>(
 }
 
 fn end_of<W: World>(
-    rt: &(impl Threads + AllocGlobal + Sync),
+    rt: &(impl Threads + Wait + AllocGlobal + Sync),
     words: &[&str],
     world: &mut W,
 ) -> Result<Ended, FromUtf8Error> {
@@ -69,7 +71,7 @@ fn end_of<W: World>(
 
 /// Whether a run ends with this status, and prints this output and these errors.
 fn ends<W: World>(
-    rt: &(impl Threads + AllocGlobal + Sync),
+    rt: &(impl Threads + Wait + AllocGlobal + Sync),
     words: &[&str],
     world: &mut W,
     status: u8,
@@ -86,7 +88,7 @@ fn ends<W: World>(
 
 /// The same of files in memory, where no errors are printed.
 fn says(
-    rt: &(impl Threads + AllocGlobal + Sync),
+    rt: &(impl Threads + Wait + AllocGlobal + Sync),
     words: &[&str],
     world: &mut MemoryWorld,
     status: u8,
@@ -97,7 +99,7 @@ fn says(
 
 /// The same of files in memory, where nothing but errors is printed.
 fn fails_with(
-    rt: &(impl Threads + AllocGlobal + Sync),
+    rt: &(impl Threads + Wait + AllocGlobal + Sync),
     words: &[&str],
     world: &mut MemoryWorld,
     status: u8,
@@ -124,7 +126,7 @@ fn signed(alloc: Global) -> Result<MemoryWorld, Fail> {
 
 /// Whether the three files, of which one holds other bytes, are verified with this status and this line.
 fn is_judged(
-    rt: &(impl Threads + AllocGlobal + Sync),
+    rt: &(impl Threads + Wait + AllocGlobal + Sync),
     name: &str,
     bytes: &[u8],
     status: u8,
@@ -230,7 +232,7 @@ impl Write for Stuck {
 
 /// Whether a command whose output can't be printed, by this stream, says so.
 fn is_unprinted<O: Write>(
-    rt: &(impl Threads + AllocGlobal + Sync),
+    rt: &(impl Threads + Wait + AllocGlobal + Sync),
     words: &[&str],
     world: &mut MemoryWorld,
     output: &mut O,

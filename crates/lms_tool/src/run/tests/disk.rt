@@ -7,6 +7,7 @@ use lms_store::lock;
 use std::fs;
 use std::fs::Permissions;
 use std::os::unix::fs::{MetadataExt, PermissionsExt};
+use std::sync::Wait;
 use std::test::Fail;
 use std::thread::Threads;
 
@@ -53,7 +54,7 @@ const VERIFY: [&str; 8] = [
 
 /// Whether a command ends with this status, and prints this output and these errors.
 fn prints(
-    rt: &(impl Threads + AllocGlobal + Sync),
+    rt: &(impl Threads + Wait + AllocGlobal + Sync),
     files: &HostRuntime,
     words: &[&str],
     status: u8,
@@ -72,7 +73,7 @@ fn prints(
 
 /// The same where no errors are printed.
 fn says(
-    rt: &(impl Threads + AllocGlobal + Sync),
+    rt: &(impl Threads + Wait + AllocGlobal + Sync),
     files: &HostRuntime,
     words: &[&str],
     status: u8,
@@ -83,7 +84,7 @@ fn says(
 
 /// The same where nothing but errors is printed.
 fn fails(
-    rt: &(impl Threads + AllocGlobal + Sync),
+    rt: &(impl Threads + Wait + AllocGlobal + Sync),
     files: &HostRuntime,
     words: &[&str],
     status: u8,
@@ -149,7 +150,7 @@ fn keeps_off_a_state_in_use(rt: HostRuntime) -> Result<(), Fail> {
 
 /// Whether a folder in the way of the new state burns index 0.
 fn folder_burns(
-    rt: &(impl Threads + AllocGlobal + Sync),
+    rt: &(impl Threads + Wait + AllocGlobal + Sync),
     files: &HostRuntime,
 ) -> Result<bool, Fail> {
     fs::create_dir(files, "program_files/key.state.new")?;
@@ -166,7 +167,7 @@ fn folder_burns(
 
 /// Whether a folder of the signature's name keeps it from being written.
 fn folder_takes_no_signature(
-    rt: &(impl Threads + AllocGlobal + Sync),
+    rt: &(impl Threads + Wait + AllocGlobal + Sync),
     files: &HostRuntime,
 ) -> Result<bool, Fail> {
     fs::create_dir(files, "program_files/text.sig")?;
@@ -217,7 +218,7 @@ fn meets_a_full_device(rt: HostRuntime) -> Result<(), Fail> {
 
 /// Whether in a folder that may not be changed no state is stored, or the folder may be changed all the same.
 fn burns_in_the_folder(
-    rt: &(impl Threads + AllocGlobal + Sync),
+    rt: &(impl Threads + Wait + AllocGlobal + Sync),
     files: &HostRuntime,
 ) -> Result<bool, Fail> {
     fs::set_permissions(files, "program_files", Permissions::from_mode(0o500))?;
@@ -241,7 +242,7 @@ fn may_not_change_the_folder(rt: HostRuntime) -> Result<(), Fail> {
 /// Whether a command that may neither read nor write the file of a name ends with this status and this line, or may do it
 /// all the same.
 fn fails_without(
-    rt: &(impl Threads + AllocGlobal + Sync),
+    rt: &(impl Threads + Wait + AllocGlobal + Sync),
     files: &HostRuntime,
     name: &str,
     words: &[&str],
@@ -295,7 +296,7 @@ fn may_not_use_a_file(rt: HostRuntime) -> Result<(), Fail> {
 
 /// Whether a `sign` is done, for which the program stops after `k` operations on files.
 fn signs_within(
-    rt: &(impl Threads + AllocGlobal + Sync),
+    rt: &(impl Threads + Wait + AllocGlobal + Sync),
     files: &HostRuntime,
     k: usize,
 ) -> Result<bool, Fail> {
@@ -314,7 +315,7 @@ const PLACED: usize = 17;
 /// Whether a `sign` in which the program stops after `k` operations is done only where none is left, and writes its
 /// signature only where the state is replaced.
 fn stops_after(
-    rt: &(impl Threads + AllocGlobal + Sync),
+    rt: &(impl Threads + Wait + AllocGlobal + Sync),
     files: &HostRuntime,
     k: usize,
 ) -> Result<bool, Fail> {
@@ -324,14 +325,18 @@ fn stops_after(
 }
 
 /// Whether the next `sign` after `k` operations has an index of its own.
-fn signs_after(rt: &(impl Threads + AllocGlobal + Sync), files: &HostRuntime, k: usize) -> bool {
+fn signs_after(
+    rt: &(impl Threads + Wait + AllocGlobal + Sync),
+    files: &HostRuntime,
+    k: usize,
+) -> bool {
     let next = if k < PLACED { "index 0\n" } else { "index 1\n" };
     says(rt, files, &SIGN, 0, next) && says(rt, files, &VERIFY, 0, "valid\n")
 }
 
 /// Whether a new key signs with an index of its own after a `sign` in which the program stops after `k` operations.
 fn outlives_a_stop(
-    rt: &(impl Threads + AllocGlobal + Sync),
+    rt: &(impl Threads + Wait + AllocGlobal + Sync),
     files: &HostRuntime,
     k: usize,
 ) -> Result<bool, Fail> {

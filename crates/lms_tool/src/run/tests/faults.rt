@@ -4,6 +4,7 @@ use super::{Closed, VERIFY, fails_with, is_unprinted, says};
 use lms_book::Left;
 use lms_commands::{MemoryWorld, World, WorldFault};
 use std::alloc::Global;
+use std::sync::Wait;
 use std::test::Fail;
 use std::thread::Threads;
 
@@ -17,7 +18,10 @@ fn unreadable(alloc: Global) -> Result<MemoryWorld, Fail> {
 }
 
 /// Whether a command ends where the state can't be read, and leaves it.
-fn is_unread(rt: &(impl Threads + AllocGlobal + Sync), words: &[&str]) -> Result<bool, Fail> {
+fn is_unread(
+    rt: &(impl Threads + Wait + AllocGlobal + Sync),
+    words: &[&str],
+) -> Result<bool, Fail> {
     let mut world = unreadable(rt.alloc())?;
     let failed = fails_with(rt, words, &mut world, 3, "error: cannot read state\n");
     Ok(failed && is_at(&world, &ONE, 5)?)
@@ -45,7 +49,10 @@ fn no_state(alloc: Global, left: Left) -> Result<MemoryWorld, Fail> {
 }
 
 /// Whether no key is made where the write of its state fails.
-fn stores_no_key(rt: &(impl Threads + AllocGlobal + Sync), left: Left) -> Result<bool, Fail> {
+fn stores_no_key(
+    rt: &(impl Threads + Wait + AllocGlobal + Sync),
+    left: Left,
+) -> Result<bool, Fail> {
     let mut world = no_state(rt.alloc(), left)?;
     let line = "error: cannot write state\n";
     let failed = fails_with(rt, &keygen_one(), &mut world, 3, line);
@@ -69,14 +76,14 @@ fn unwritable(alloc: Global, left: Left) -> Result<MemoryWorld, Fail> {
 }
 
 /// Whether a write of the state that fails burns index 5, with no signature.
-fn burns(rt: &(impl Threads + AllocGlobal + Sync), world: &mut MemoryWorld) -> bool {
+fn burns(rt: &(impl Threads + Wait + AllocGlobal + Sync), world: &mut MemoryWorld) -> bool {
     let line = "error: cannot write state: 5 to 5 burnt\n";
     fails_with(rt, &sign_text(), world, 3, line) && is_missing(rt.alloc(), world, "text.sig")
 }
 
 /// Whether a write that fails, and leaves the old text or the new one, burns index 5, and the next signature says this.
 fn burns_and_signs(
-    rt: &(impl Threads + AllocGlobal + Sync),
+    rt: &(impl Threads + Wait + AllocGlobal + Sync),
     left: Left,
     next: &str,
 ) -> Result<bool, Fail> {
@@ -111,7 +118,7 @@ fn is_exhausted(rt: HostRuntime) -> Result<(), Fail> {
 /// Whether a `sign` from index 5 on, for which the file of a name fails, ends with this status and this line, and with this
 /// index next.
 fn fails_to_sign(
-    rt: &(impl Threads + AllocGlobal + Sync),
+    rt: &(impl Threads + Wait + AllocGlobal + Sync),
     name: &str,
     fault: WorldFault,
     status: u8,
@@ -148,7 +155,7 @@ fn cannot_write_a_signature(rt: HostRuntime) -> Result<(), Fail> {
 
 /// Whether a `keygen` that can't write the public key ends with this status and this line, and leaves the state.
 fn leaves_a_state(
-    rt: &(impl Threads + AllocGlobal + Sync),
+    rt: &(impl Threads + Wait + AllocGlobal + Sync),
     fault: WorldFault,
     status: u8,
     line: &str,

@@ -5,6 +5,7 @@ use lms_commands::{Fault, MemoryWorld, World, print_fault};
 use lms_params::{LmsType, OtsType};
 use std::io;
 use std::io::Write;
+use std::sync::Wait;
 use std::test::Fail;
 use std::thread::Threads;
 
@@ -39,7 +40,7 @@ impl Write for Marked {
 
 /// Whether a run prints this output and these errors, with their marks.
 fn prints(
-    rt: &(impl Threads + AllocGlobal + Sync),
+    rt: &(impl Threads + Wait + AllocGlobal + Sync),
     words: &[&str],
     world: &mut MemoryWorld,
     output: &str,
@@ -75,7 +76,7 @@ fn each_line_is_one_write(rt: HostRuntime) -> Result<(), Fail> {
 }
 
 /// Whether a run prints its output or its errors as a whole, and passes them on.
-fn passes_on(rt: &(impl Threads + AllocGlobal + Sync), words: &[&str]) -> bool {
+fn passes_on(rt: &(impl Threads + Wait + AllocGlobal + Sync), words: &[&str]) -> bool {
     let mut output = Marked(Vec::new(rt.alloc()));
     let mut errors = Marked(Vec::new(rt.alloc()));
     let mut world = MemoryWorld::new(rt.alloc());

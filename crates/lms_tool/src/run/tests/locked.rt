@@ -6,6 +6,7 @@ use lms_store::lock;
 use std::alloc::Global;
 use std::io;
 use std::io::Write;
+use std::sync::Wait;
 use std::test::Fail;
 use std::thread::Threads;
 
@@ -31,7 +32,7 @@ impl Write for Guarded<'_> {
 
 /// Whether a command prints while the lock is held, and ends well.
 fn prints_locked(
-    rt: &(impl Threads + AllocGlobal + Sync),
+    rt: &(impl Threads + Wait + AllocGlobal + Sync),
     files: &HostRuntime,
     words: &[&str],
 ) -> bool {

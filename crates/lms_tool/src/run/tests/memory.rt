@@ -3,6 +3,7 @@ use super::state::{INFO, ONE, is_at, keygen_one, sign_text};
 use super::{Ended, VERIFY, end_of};
 use lms_commands::{MemoryWorld, World};
 use std::alloc::Global;
+use std::sync::Wait;
 use std::test::Fail;
 use std::thread::Threads;
 
@@ -28,7 +29,10 @@ fn uses(end: &Ended) -> Option<u64> {
 }
 
 /// Signs twice, and says whether each used what it said, and one of them was done.
-fn signs(rt: &(impl Threads + AllocGlobal + Sync), world: &mut MemoryWorld) -> Result<bool, Fail> {
+fn signs(
+    rt: &(impl Threads + Wait + AllocGlobal + Sync),
+    world: &mut MemoryWorld,
+) -> Result<bool, Fail> {
     let before = used(world)?;
     let first = end_of(rt, &sign_text(), world)?;
     let between = used(world)?;
@@ -43,7 +47,7 @@ fn signs(rt: &(impl Threads + AllocGlobal + Sync), world: &mut MemoryWorld) -> R
 
 /// Makes a key, at the second try where memory was refused at the first, unless the first try made its state.
 fn makes_a_key(
-    rt: &(impl Threads + AllocGlobal + Sync),
+    rt: &(impl Threads + Wait + AllocGlobal + Sync),
     world: &mut MemoryWorld,
 ) -> Result<bool, Fail> {
     let first = end_of(rt, &keygen_one(), world)?;
@@ -67,7 +71,7 @@ fn ends_or_is_refused(end: &Ended, status: u8) -> bool {
 
 /// Asks twice for what changes nothing, and says whether it ended so at least once, and else as one that was refused memory.
 fn ends_once(
-    rt: &(impl Threads + AllocGlobal + Sync),
+    rt: &(impl Threads + Wait + AllocGlobal + Sync),
     words: &[&str],
     world: &mut MemoryWorld,
     status: u8,

@@ -8,6 +8,7 @@ use lms_image::{Image, encode_image};
 use lms_params::{LmsType, OtsType};
 use lms_slow::{SlowKey, slow_public, slow_sign};
 use std::alloc::Global;
+use std::sync::Wait;
 use std::test::Fail;
 use std::thread::Threads;
 
@@ -19,7 +20,10 @@ pub(super) const RANDOM: &str = "33333333333333333333333333333333333333333333333
 
 pub(super) const ONE: [(LmsType, OtsType); 1] = [(LmsType::H5, OtsType::W8)];
 
-const TWO: [(LmsType, OtsType); 2] = [(LmsType::H5, OtsType::W8), (LmsType::H5, OtsType::W8)];
+pub(super) const TWO: [(LmsType, OtsType); 2] = [
+    (LmsType::H5, OtsType::W8),
+    (LmsType::H5, OtsType::W8),
+];
 
 pub(super) const INFO: [&str; 4] = ["lms_tool", "info", "--state", "key.state"];
 
@@ -138,7 +142,7 @@ pub(super) fn is_at(
 
 /// Whether a key of 5/8 is made, with the slow signer's public key.
 fn makes_a_key(
-    rt: &(impl Threads + AllocGlobal + Sync),
+    rt: &(impl Threads + Wait + AllocGlobal + Sync),
     world: &mut MemoryWorld,
 ) -> Result<bool, Fail> {
     let made = says(rt, &keygen_one(), world, 0, "capacity 32\n");
@@ -171,7 +175,7 @@ fn describes_two_levels(rt: HostRuntime) -> Result<(), Fail> {
 
 /// Whether the next signature is the slow signer's for index g.
 fn signs_slowly(
-    rt: &(impl Threads + AllocGlobal + Sync),
+    rt: &(impl Threads + Wait + AllocGlobal + Sync),
     world: &mut MemoryWorld,
     g: u64,
 ) -> Result<bool, Fail>
@@ -197,7 +201,7 @@ fn signs_as_the_slow_signer(rt: HostRuntime) -> Result<(), Fail> {
 
 /// Whether no key is made by these options, with this line, also where the state is in use.
 fn makes_no_key(
-    rt: &(impl Threads + AllocGlobal + Sync),
+    rt: &(impl Threads + Wait + AllocGlobal + Sync),
     levels: &str,
     seed: &str,
     id: &str,
@@ -263,7 +267,7 @@ fn in_use(alloc: Global) -> Result<MemoryWorld, Fail> {
 }
 
 /// Whether a command leaves a state that another program has.
-fn is_left(rt: &(impl Threads + AllocGlobal + Sync), words: &[&str]) -> Result<bool, Fail> {
+fn is_left(rt: &(impl Threads + Wait + AllocGlobal + Sync), words: &[&str]) -> Result<bool, Fail> {
     let mut world = in_use(rt.alloc())?;
     let left = fails_with(rt, words, &mut world, 3, "error: state in use\n");
     Ok(left && is_at(&world, &ONE, 5)?)
@@ -288,7 +292,7 @@ fn reads_a_message_before_a_state_in_use(rt: HostRuntime) -> Result<(), Fail> {
 
 /// Whether `info` and `sign` end with status 3 and this line.
 fn is_not_used(
-    rt: &(impl Threads + AllocGlobal + Sync),
+    rt: &(impl Threads + Wait + AllocGlobal + Sync),
     world: &mut MemoryWorld,
     line: &str,
 ) -> bool {
@@ -296,7 +300,10 @@ fn is_not_used(
 }
 
 /// Whether a state with this text, which another program has, is in use and no more is known of it.
-fn is_unread(rt: &(impl Threads + AllocGlobal + Sync), text: Option<&[u8]>) -> Result<bool, Fail> {
+fn is_unread(
+    rt: &(impl Threads + Wait + AllocGlobal + Sync),
+    text: Option<&[u8]>,
+) -> Result<bool, Fail> {
     let mut world = in_use(rt.alloc())?;
     world.set_state(store_of(rt.alloc(), text)?);
     Ok(is_not_used(rt, &mut world, "error: state in use\n"))
@@ -312,7 +319,7 @@ fn asks_for_the_lock_before_it_reads(rt: HostRuntime) -> Result<(), Fail> {
 
 /// Whether a state with this text is described and used by no command, with this line.
 fn is_refused(
-    rt: &(impl Threads + AllocGlobal + Sync),
+    rt: &(impl Threads + Wait + AllocGlobal + Sync),
     text: Option<&[u8]>,
     line: &str,
 ) -> Result<bool, Fail> {

@@ -1,5 +1,6 @@
 use super::{fails_with, says};
 use lms_commands::MemoryWorld;
+use std::sync::Wait;
 use std::test::Fail;
 use std::thread::Threads;
 
@@ -11,6 +12,7 @@ Commands:
   keygen  Makes a key from a seed
   info    Describes a key
   sign    Signs a message
+  batch   Signs the job lines of standard input
   verify  Prints whether a signature is valid
   help    Print this message or the help of the given subcommand(s)
 
@@ -68,6 +70,23 @@ Example:
 Prints the index, which counts as used before the signature is made. Never sign with an older copy of a state.
 ";
 
+const BATCH_HELP: &str = "Signs the job lines of standard input
+
+Usage: lms_tool batch --state <FILE> --workers <N>
+
+Options:
+      --state <FILE>  The key's state
+      --workers <N>   How many workers sign at once, 1 to 64
+  -h, --help          Print help
+
+Example, for a file `jobs` with one line for each message:
+  lms_tool batch --state key.state --workers 4 < jobs > answers
+
+A job line is a randomizer of 64 hexadecimal digits, random and fresh for each job, one space, and the message, 0 to 131072
+hexadecimal digits; 1024 lines at most. An answer line is the index, one space, and the signature in hexadecimal. The indices
+count as used before the first signature is made. Never sign with an older copy of a state.
+";
+
 const VERIFY_HELP: &str = "Prints whether a signature is valid
 
 Usage: lms_tool verify --public <FILE> --message <FILE> --signature <FILE>
@@ -93,7 +112,7 @@ Arguments:
 ";
 
 /// Whether a run with these words shows this text and nothing else.
-fn shows(rt: &(impl Threads + AllocGlobal + Sync), words: &[&str], text: &str) -> bool {
+fn shows(rt: &(impl Threads + Wait + AllocGlobal + Sync), words: &[&str], text: &str) -> bool {
     says(rt, words, &mut MemoryWorld::new(rt.alloc()), 0, text)
 }
 
@@ -109,6 +128,7 @@ fn shows_help_of_a_command(rt: HostRuntime) {
     assert!(rt; shows(&rt, &["lms_tool", "keygen", "--help"], KEYGEN_HELP));
     assert!(rt; shows(&rt, &["lms_tool", "info", "--help"], INFO_HELP));
     assert!(rt; shows(&rt, &["lms_tool", "sign", "--help"], SIGN_HELP));
+    assert!(rt; shows(&rt, &["lms_tool", "batch", "--help"], BATCH_HELP));
     assert!(rt; shows(&rt, &["lms_tool", "verify", "--help"], VERIFY_HELP));
     assert!(rt; shows(&rt, &["lms_tool", "verify", "-h"], VERIFY_HELP));
     assert!(rt; shows(&rt, &["lms_tool", "help", "verify"], VERIFY_HELP));
@@ -136,7 +156,7 @@ For more information, try '--help'.
 
 /// Whether a run with these words says this of them, and nothing else.
 fn is_mistaken(
-    rt: &(impl Threads + AllocGlobal + Sync),
+    rt: &(impl Threads + Wait + AllocGlobal + Sync),
     words: &[&str],
     text: &str,
     hint: &str,

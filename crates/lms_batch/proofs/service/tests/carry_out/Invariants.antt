@@ -10,10 +10,10 @@ abbrev pub ghosts-carried_out-B-Ledger : goal.ghosts-carried_out-B-Ledger
 ghosts-carried_out-B-Ledger g a = record { name = a.blanks.burnt.name; parts = a.blanks.burnt.parts }
 
 abbrev pub ghosts-carried_out-E-Tally : goal.ghosts-carried_out-E-Tally
-ghosts-carried_out-E-Tally g a = record { before = 0; key = a.book.key }
+ghosts-carried_out-E-Tally g a = record { book = a.book }
 
 abbrev pub ghosts-carried_out-G-Tally : goal.ghosts-carried_out-G-Tally
-ghosts-carried_out-G-Tally g a = record { before = 0; key = a.book.key }
+ghosts-carried_out-G-Tally g a = record { book = a.book }
 
 abbrev pub ghosts-carried_out-B-Tally : goal.ghosts-carried_out-B-Tally
-ghosts-carried_out-B-Tally g a = record { before = 0; key = a.book.key }
+ghosts-carried_out-B-Tally g a = record { book = a.book }

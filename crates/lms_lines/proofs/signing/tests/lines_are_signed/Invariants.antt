@@ -10,10 +10,10 @@ abbrev pub ghosts-sign_all-B-Ledger : goal.ghosts-sign_all-B-Ledger
 ghosts-sign_all-B-Ledger g a = record { name = a.blanks.burnt.name; parts = a.blanks.burnt.parts }
 
 abbrev pub ghosts-sign_all-E-Tally : goal.ghosts-sign_all-E-Tally
-ghosts-sign_all-E-Tally g a = record { before = 0; key = a.book.key }
+ghosts-sign_all-E-Tally g a = record { book = a.book }
 
 abbrev pub ghosts-sign_all-G-Tally : goal.ghosts-sign_all-G-Tally
-ghosts-sign_all-G-Tally g a = record { before = 0; key = a.book.key }
+ghosts-sign_all-G-Tally g a = record { book = a.book }
 
 abbrev pub ghosts-sign_all-B-Tally : goal.ghosts-sign_all-B-Tally
-ghosts-sign_all-B-Tally g a = record { before = 0; key = a.book.key }
+ghosts-sign_all-B-Tally g a = record { book = a.book }

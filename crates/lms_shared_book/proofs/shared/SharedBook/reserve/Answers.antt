@@ -1,8 +1,10 @@
-use Rattle.std.proofs.Common.{sym, ◌∙◌, ap}
+use Rattle.std.proofs.Common.{sym, ◌∙◌, ap, arith, subst}
 use Rattle.lms_shared_book.specs.Desks.{SharedState}
+use Rattle.lms_shared_book.specs.Shared.{IsFound}
 use Rattle.lms_shared_book.proofs.shared.SharedBook.reserve.Goals as goal
 
 pub returns-clause-reserves : goal.returns-clause-reserves
 returns-clause-reserves g c =
-    let same = c.reserve.ensures.key ∙ sym c.self.invariant.3 ∙ ap (λ (s : SharedState). s.key) c.self.view_is in
-    (_, _, same, c.reserve.ensures.reserves)
+    let key = c.reserve.ensures.key ∙ ap (λ (s : SharedState). s.book.key) c.self.view_is in
+    let found = c.reserve.ensures.found c.self.inside.desks (c.self.invariant.0, c.self.invariant.1, c.self.invariant.2) in
+    (_, _, key, rw c.self.view_is at found, c.reserve.ensures.reserves)

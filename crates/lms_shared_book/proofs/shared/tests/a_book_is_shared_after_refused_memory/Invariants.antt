@@ -12,10 +12,10 @@ abbrev pub ghosts-two_desks-B-Ledger : goal.ghosts-two_desks-B-Ledger
 ghosts-two_desks-B-Ledger g a = record { name = a.blanks.burnt.name; parts = a.blanks.burnt.parts }
 
 abbrev pub ghosts-two_desks-E-Tally : goal.ghosts-two_desks-E-Tally
-ghosts-two_desks-E-Tally g a = record { before = length a.book.history; key = a.book.key }
+ghosts-two_desks-E-Tally g a = record { book = a.book }
 
 abbrev pub ghosts-two_desks-G-Tally : goal.ghosts-two_desks-G-Tally
-ghosts-two_desks-G-Tally g a = record { before = given_of a.book.history; key = a.book.key }
+ghosts-two_desks-G-Tally g a = record { book = a.book }
 
 abbrev pub ghosts-two_desks-B-Tally : goal.ghosts-two_desks-B-Tally
-ghosts-two_desks-B-Tally g a = record { before = burnt_of a.book.history; key = a.book.key }
+ghosts-two_desks-B-Tally g a = record { book = a.book }

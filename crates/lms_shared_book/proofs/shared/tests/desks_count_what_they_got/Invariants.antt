@@ -10,10 +10,10 @@ abbrev pub ghosts-three_desks-B-Ledger : goal.ghosts-three_desks-B-Ledger
 ghosts-three_desks-B-Ledger g a = record { name = a.blanks.burnt.name; parts = a.blanks.burnt.parts }
 
 abbrev pub ghosts-three_desks-E-Tally : goal.ghosts-three_desks-E-Tally
-ghosts-three_desks-E-Tally g a = record { before = 0; key = a.book.key }
+ghosts-three_desks-E-Tally g a = record { book = a.book }
 
 abbrev pub ghosts-three_desks-G-Tally : goal.ghosts-three_desks-G-Tally
-ghosts-three_desks-G-Tally g a = record { before = 0; key = a.book.key }
+ghosts-three_desks-G-Tally g a = record { book = a.book }
 
 abbrev pub ghosts-three_desks-B-Tally : goal.ghosts-three_desks-B-Tally
-ghosts-three_desks-B-Tally g a = record { before = 0; key = a.book.key }
+ghosts-three_desks-B-Tally g a = record { book = a.book }

@@ -10,10 +10,10 @@ abbrev pub ghosts-many_desks-B-Ledger : goal.ghosts-many_desks-B-Ledger
 ghosts-many_desks-B-Ledger g a = record { name = a.blanks.burnt.name; parts = a.blanks.burnt.parts }
 
 abbrev pub ghosts-many_desks-E-Tally : goal.ghosts-many_desks-E-Tally
-ghosts-many_desks-E-Tally g a = record { before = 0; key = a.book.key }
+ghosts-many_desks-E-Tally g a = record { book = a.book }
 
 abbrev pub ghosts-many_desks-G-Tally : goal.ghosts-many_desks-G-Tally
-ghosts-many_desks-G-Tally g a = record { before = 0; key = a.book.key }
+ghosts-many_desks-G-Tally g a = record { book = a.book }
 
 abbrev pub ghosts-many_desks-B-Tally : goal.ghosts-many_desks-B-Tally
-ghosts-many_desks-B-Tally g a = record { before = 0; key = a.book.key }
+ghosts-many_desks-B-Tally g a = record { book = a.book }

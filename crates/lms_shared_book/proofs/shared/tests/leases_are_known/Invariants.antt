@@ -10,10 +10,10 @@ abbrev pub ghosts-four_threads-B-Ledger : goal.ghosts-four_threads-B-Ledger
 ghosts-four_threads-B-Ledger g a = record { name = a.blanks.burnt.name; parts = a.blanks.burnt.parts }
 
 abbrev pub ghosts-four_threads-E-Tally : goal.ghosts-four_threads-E-Tally
-ghosts-four_threads-E-Tally g a = record { before = 0; key = a.book.key }
+ghosts-four_threads-E-Tally g a = record { book = a.book }
 
 abbrev pub ghosts-four_threads-G-Tally : goal.ghosts-four_threads-G-Tally
-ghosts-four_threads-G-Tally g a = record { before = 0; key = a.book.key }
+ghosts-four_threads-G-Tally g a = record { book = a.book }
 
 abbrev pub ghosts-four_threads-B-Tally : goal.ghosts-four_threads-B-Tally
-ghosts-four_threads-B-Tally g a = record { before = 0; key = a.book.key }
+ghosts-four_threads-B-Tally g a = record { book = a.book }

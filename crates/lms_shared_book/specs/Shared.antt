@@ -1,0 +1,40 @@
+-- What becomes of a book that is shared.
+use Rattle.std.specs.Prelude.{◌≡◌, ℕ, List, [], ◌∷◌, Ok, Err}
+use Rattle.lms_book.specs.declared.history.Entry.{Entry}
+use Rattle.lms_book.specs.declared.history.Entry.TheVariants.{Given, Burnt}
+use Rattle.lms_book.specs.declared.refusals.BookFault.TheVariants.{Store}
+use Rattle.lms_book.specs.States.{BookState, LeaseState}
+use Rattle.lms_book.specs.Books.{Reserves, counter}
+use Rattle.lms_shared_book.specs.Desks.{SharedState, Sums, sums_of}
+
+-- the next n indices of a book
+abbrev pub next_lease : BookState → ℕ → LeaseState
+next_lease book n = record { key = book.key; start = counter book; len = n }
+
+-- the reservation that this entry of the history tells of
+abbrev pub Makes : BookState → Entry → BookState → Type 0
+Makes old (Given n) new = Reserves n old (Ok (next_lease old n)) new
+Makes old (Burnt n) new = Reserves n old (Err (Store (counter old) n)) new
+
+-- the same, which keeps key and base
+pub record IsAfterEntry (old : BookState) (entry : Entry) (new : BookState) : Type 0 where
+  pub key : new.key ≡ old.key
+  pub base : new.base ≡ old.base
+  pub makes : Makes old entry new
+
+-- a book became this one by the reservations of these entries, one after another
+abbrev pub IsAfter : BookState → List Entry → BookState → Type 0
+IsAfter start [] book = book ≡ start
+IsAfter start (entry ∷ entries) book = (next : BookState) × IsAfterEntry start entry next × IsAfter next entries book
+
+-- what is found behind the lock: the book that was shared, after some reservations. A desk that is the only one counts them all.
+pub record IsFound (shared : SharedState) (counted : Sums) (found : BookState) : Type 0 where
+  pub entries : List Entry
+  pub after : IsAfter shared.book entries found
+  pub alone : shared.desks ≡ 1 → sums_of entries ≡ counted
+
+-- what is behind the lock in the end: all desks together count the reservations
+pub record IsSettled (shared : BookState) (counted : Sums) (book : BookState) : Type 0 where
+  pub entries : List Entry
+  pub after : IsAfter shared entries book
+  pub all : sums_of entries ≡ counted
