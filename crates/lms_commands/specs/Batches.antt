@@ -23,7 +23,7 @@ IsWorkers text workers = (1 ≤ workers) × (workers ≤ 64) × (text ≡ decima
 abbrev pub AreWorkers : Text → Type 0
 AreWorkers text = (workers : ℕ) × IsWorkers text workers
 
--- a state, and the streams of a command: what is still to be read, and what is printed so far
+-- the streams of a command at one moment: what is still to be read, and what is printed so far
 pub record Streams : Type 0 where
   pub input : Option (List ℕ)
   pub output : Option (List ℕ)

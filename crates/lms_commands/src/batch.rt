@@ -1,6 +1,5 @@
 //! `batch`: job lines signed by the next indices of a key's state.
 ghost use Rattle.std.specs.Prelude.{◌≡◌, ◌≤◌, [], ◌∷◌, length, IfErr, IfOk, OnOk};
-ghost use Rattle.lms_book.specs.Stops.{MayLeave};
 ghost use Rattle.lms_shared_book.specs.Desks.{BlankFits, sums};
 ghost use Rattle.lms_commands.specs.Batches.{AreWorkers, FailsToBatch, FailsToSignJobs, IsSilent, SignsAllJobs, SignsJobs, streams};
 ghost use Rattle.lms_commands.specs.Known.{SameFiles};

@@ -59,7 +59,7 @@ pub enum Fault {
     OutOfMemoryBurnt { count: u64 },
     /// Memory ran out while a batch was signed: all its indices are used, and the lines of the signatures are printed.
     Partial { signed: usize, asked: usize },
-    /// A file other than the state, standard input, or the program's arguments can't be read, or `/dev/null` can't be opened.
+    /// Standard input, a file other than the state, or the program's arguments can't be read, or `/dev/null` can't be opened.
     Input,
     /// A file or standard output can't be written.
     Output,

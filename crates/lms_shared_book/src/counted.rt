@@ -49,6 +49,7 @@ impl<S: StateStore, E: Tally, G: Tally, B: Tally> CountedBook<S, E, G, B> {
     {
         // Its clause bounds the sum of entries.
         let _entries = self.book.history().len();
+        // Its clause says that a desk which is the only one counted all of them.
         desk.audit(&mut self.totals, &mut self.shares);
         match self.book.reserve(n) {
             Ok(lease) => {

@@ -37,8 +37,11 @@ const BATCH_NOTE: &str = "Example, for a file `jobs` with one line for each mess
   lms_tool batch --state key.state --workers 4 < jobs > answers
 
 A job line is a randomizer of 64 hexadecimal digits, random and fresh for each job, one space, and the message, 0 to 131072
-hexadecimal digits; 1024 lines at most. An answer line is the index, one space, and the signature in hexadecimal. The indices
-count as used before the first signature is made. Never sign with an older copy of a state.";
+hexadecimal digits; 1024 lines at most. So for the message `abc`:
+  5f0d1f7ac2be30a4d1c96bb5e86f27930c4ad0b2f4e1907c6e5a3d8f1b7290c4 616263
+
+An answer line is the index, one space, and the signature in hexadecimal. The indices count as used before the first signature
+is made. Never sign with an older copy of a state.";
 
 const VERIFY_NOTE: &str = "Example:
   lms_tool verify --public key.pub --message firmware.bin --signature firmware.sig

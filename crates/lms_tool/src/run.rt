@@ -23,8 +23,8 @@ use std::thread::Threads;
 /// Answers the exit status, the code of a `Status`.
 ///
 /// A fault is one line on `errors`, `error: ` and its text. Help is printed to `output` and a mistake in the arguments to
-/// `errors`, both in clap's wording. Nothing but `verify` leaves files and states alone by its contract, and of the files only
-/// the one that `--public` or `--out` names may change. `input` is read by `batch` alone.
+/// `errors`, both in clap's wording. Nothing but `keygen`, `info`, `sign` and `batch` may change files or states, and of the
+/// files only the one that `--public` or `--out` names. `input` is read by `batch` alone.
 pub fn run<S: AsStr, W: World, I: Read, O: Write, E: Write>(
     rt: &(impl Threads + Wait + Sync),
     alloc: Global,

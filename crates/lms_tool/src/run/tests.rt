@@ -1,4 +1,5 @@
 mod batch;
+mod batch_faults;
 mod disk;
 mod faults;
 mod large;

@@ -1,18 +1,15 @@
 //! `batch`: job lines signed by the whole program.
-use super::state::{ONE, RANDOM, TWO, image_of, is_at, keyed, store_of};
-use super::{Closed, Ended, Stuck, VERIFY, says};
+use super::state::{ONE, RANDOM, TWO, is_at, keyed};
+use super::{Ended, VERIFY, says};
 use crate::run::run;
-use lms_book::{Left, MemoryStore};
 use lms_commands::{MemoryWorld, World};
 use lms_hss::{HssKey, Levels};
 use std::alloc::Global;
-use std::io;
-use std::io::{ErrorKind, Read, Write};
 use std::sync::Wait;
 use std::test::Fail;
 use std::thread::Threads;
 
-fn batch(workers: &str) -> [&str; 6] {
+pub(super) fn batch(workers: &str) -> [&str; 6] {
     [
         "lms_tool",
         "batch",
@@ -24,7 +21,7 @@ fn batch(workers: &str) -> [&str; 6] {
 }
 
 /// What a batch leaves behind.
-fn end_of_batch(
+pub(super) fn end_of_batch(
     rt: &(impl Threads + Wait + AllocGlobal + Sync),
     world: &mut MemoryWorld,
     workers: &str,
@@ -50,12 +47,27 @@ fn end_of_batch(
     })
 }
 
-/// So many job lines for the message `abc`.
-fn lines(alloc: Global, count: usize) -> Result<String, Fail> {
-    let mut text = String::new(alloc);
-    for _ in 0..count {
-        text.push_str(RANDOM)?;
-        text.push_str(" 616263\n")?;
+/// The two decimal digits of a number below 100.
+fn two_digits(number: usize) -> [u8; 2] {
+    [b'0' + (number / 10 % 10) as u8, b'0' + (number % 10) as u8]
+}
+
+/// Adds a job line whose randomizer and message begin with these two digits.
+pub(super) fn push_line(text: &mut Vec<u8>, number: usize) -> Result<(), Fail> {
+    let digits = two_digits(number);
+    text.extend_from_slice(&digits)?;
+    text.extend_from_slice(&RANDOM.as_bytes()[2..])?;
+    text.push(b' ')?;
+    text.extend_from_slice(&digits)?;
+    text.extend_from_slice(b"6263\n")?;
+    Ok(())
+}
+
+/// So many job lines, of which the first hundred differ.
+pub(super) fn lines(alloc: Global, count: usize) -> Result<Vec<u8>, Fail> {
+    let mut text = Vec::new(alloc);
+    for number in 0..count {
+        push_line(&mut text, number)?;
     }
     Ok(text)
 }
@@ -67,7 +79,7 @@ fn four_answers(
 ) -> Result<String, Fail> {
     let mut world = keyed(rt.alloc(), &TWO, 30)?;
     let text = lines(rt.alloc(), 4)?;
-    let end = end_of_batch(rt, &mut world, workers, text.as_bytes())?;
+    let end = end_of_batch(rt, &mut world, workers, &text)?;
     let is_done = end.status == 0 && end.errors.is_empty();
     if is_done && is_at(&world, &TWO, 34)? {
         Ok(end.output)
@@ -91,18 +103,20 @@ fn publish(
     Ok(())
 }
 
-/// Whether an answer line has this index, and a signature that the program finds valid.
+/// Whether an answer line has this index, and a signature of this message that the program finds valid.
 fn is_answer(
     rt: &(impl Threads + Wait + AllocGlobal + Sync),
     world: &mut MemoryWorld,
     line: &str,
     index: &str,
+    message: &[u8],
 ) -> Result<bool, Fail> {
     let Some((number, digits)) = line.split_once(' ') else {
         return Ok(false);
     };
     let signature = hex::decode(rt.alloc(), digits)?;
     world.write("text.sig", &signature)?;
+    world.write("text", message)?;
     Ok(number == index && says(rt, &VERIFY, world, 0, "valid\n"))
 }
 
@@ -115,8 +129,14 @@ fn signs_job_lines(rt: HostRuntime) -> Result<(), Fail> {
     let mut world = keyed(rt.alloc(), &TWO, 0)?;
     publish(&rt, &mut world)?;
     assert!(rt; answers.lines().count() == 4);
-    for (line, index) in answers.lines().zip(["30", "31", "32", "33"]) {
-        assert!(rt; is_answer(&rt, &mut world, line, index)?);
+    let rows = [
+        ("30", b"\x00bc"),
+        ("31", b"\x01bc"),
+        ("32", b"\x02bc"),
+        ("33", b"\x03bc"),
+    ];
+    for (line, (index, message)) in answers.lines().zip(rows) {
+        assert!(rt; is_answer(&rt, &mut world, line, index, message)?);
     }
     Ok(())
 }
@@ -174,11 +194,11 @@ fn refuses_bad_workers(rt: HostRuntime) -> Result<(), Fail> {
     Ok(())
 }
 
-/// Two job lines, of which the second one ends so.
-fn with_second(alloc: Global, end: &str) -> Result<String, Fail> {
+/// Two lines, of which the first is a job line, and the second has a randomizer and ends so.
+fn with_second(alloc: Global, end: &str) -> Result<Vec<u8>, Fail> {
     let mut text = lines(alloc, 1)?;
-    text.push_str(RANDOM)?;
-    text.push_str(end)?;
+    text.extend_from_slice(RANDOM.as_bytes())?;
+    text.extend_from_slice(end.as_bytes())?;
     Ok(text)
 }
 
@@ -195,15 +215,15 @@ fn refuses_bad_lines(rt: HostRuntime) -> Result<(), Fail> {
         " 6g\n",
     ] {
         let text = with_second(rt.alloc(), end)?;
-        assert!(rt; refuses(&rt, "2", text.as_bytes(), 2, line)?, "{end}");
+        assert!(rt; refuses(&rt, "2", &text, 2, line)?, "{end}");
     }
     let mut text = lines(rt.alloc(), 1)?;
-    text.push_str("\n")?;
-    assert!(rt; refuses(&rt, "2", text.as_bytes(), 2, line)?);
+    text.push(b'\n')?;
+    assert!(rt; refuses(&rt, "2", &text, 2, line)?);
     text = lines(rt.alloc(), 1)?;
-    text.push_str(&RANDOM[1..])?;
-    text.push_str(" 61\n")?;
-    assert!(rt; refuses(&rt, "2", text.as_bytes(), 2, line)?);
+    text.extend_from_slice(&RANDOM.as_bytes()[1..])?;
+    text.extend_from_slice(b" 61\n")?;
+    assert!(rt; refuses(&rt, "2", &text, 2, line)?);
     Ok(())
 }
 
@@ -231,166 +251,20 @@ fn takes_the_longest_message(rt: HostRuntime) -> Result<(), Fail> {
 #[test]
 fn refuses_too_many_jobs(rt: HostRuntime) -> Result<(), Fail> {
     let many = lines(rt.alloc(), 1025)?;
-    assert!(rt; refuses(&rt, "2", many.as_bytes(), 2, "error: too many jobs\n")?);
+    assert!(rt; refuses(&rt, "2", &many, 2, "error: too many jobs\n")?);
     let mut text = with_second(rt.alloc(), " 61\n\n")?;
-    text.push_str(&many)?;
-    assert!(rt; refuses(&rt, "2", text.as_bytes(), 2, "error: line 3: bad job\n")?);
-    let more = lines(rt.alloc(), 28)?;
-    assert!(rt; refuses(&rt, "2", more.as_bytes(), 4, "error: exhausted: 27 left\n")?);
+    text.extend_from_slice(&many)?;
+    assert!(rt; refuses(&rt, "2", &text, 2, "error: line 3: bad job\n")?);
     Ok(())
 }
 
-/// A reader that gives a line, and fails.
-#[derive(Drop)]
-struct Cut {
-    is_read: bool,
-}
-
-impl Read for Cut {
-    fn read(&mut self, buf: &mut [u8]) -> io::Result<usize> {
-        if self.is_read || buf.is_empty() {
-            return Err(io::Error::from(ErrorKind::BrokenPipe));
-        }
-        self.is_read = true;
-        buf[0] = b'0';
-        Ok(1)
-    }
-}
-
-/// Whether a batch of four jobs by these streams ends with this status and these errors, at this index after index 5.
-fn ends_at<I: Read, O: Write>(
-    rt: &(impl Threads + Wait + AllocGlobal + Sync),
-    input: &mut I,
-    output: &mut O,
-    errors: &str,
-    counter: u64,
-) -> Result<bool, Fail> {
-    let mut world = keyed(rt.alloc(), &ONE, 5)?;
-    let mut said = Vec::new(rt.alloc());
-    let words = batch("2");
-    let status = run(rt, rt.alloc(), &words, &mut world, input, output, &mut said);
-    let is_said = status == 6 && said.as_slice() == errors.as_bytes();
-    Ok(is_said && is_at(&world, &ONE, counter)?)
-}
-
-/// Streams that fail: no index is used where the lines can't be read, and all are where their answers can't be written.
 #[test]
-fn says_which_stream_failed(rt: HostRuntime) -> Result<(), Fail> {
-    let mut cut = Cut { is_read: false };
-    let line = "error: cannot read input\n";
-    assert!(rt; ends_at(&rt, &mut cut, &mut Closed, line, 5)?);
-    let text = lines(rt.alloc(), 4)?;
-    let line = "error: cannot write output\n";
-    let mut rest = text.as_bytes();
-    assert!(rt; ends_at(&rt, &mut rest, &mut Closed, line, 9)?);
-    rest = text.as_bytes();
-    assert!(rt; ends_at(&rt, &mut rest, &mut Stuck, line, 9)?);
-    Ok(())
-}
-
-/// A state of index 5 whose next write fails, and leaves the old text or the new one.
-fn unwritable(alloc: Global, left: Left) -> Result<MemoryWorld, Fail> {
-    let image = image_of(&ONE, 5)?;
-    let mut store = store_of(alloc, Some(image.as_slice()))?;
-    store.fail_replace(1, left);
-    let mut world = keyed(alloc, &ONE, 5)?;
-    world.set_state(store);
-    Ok(world)
-}
-
-#[test]
-fn burns_the_indices_of_a_batch(rt: HostRuntime) -> Result<(), Fail> {
-    let text = lines(rt.alloc(), 4)?;
-    for (left, counter) in [(Left::Old, 5), (Left::New, 9)] {
-        let mut world = unwritable(rt.alloc(), left)?;
-        let end = end_of_batch(&rt, &mut world, "2", text.as_bytes())?;
-        assert!(rt; end.status == 3 && end.output.is_empty());
-        assert!(rt; end.errors.as_str() == "error: cannot write state: 5 to 8 burnt\n");
-        assert!(rt; is_at(&world, &ONE, counter)?);
-    }
-    Ok(())
-}
-
-/// The state is asked for before the input is read, and the workers before both.
-#[test]
-fn fails_in_order(rt: HostRuntime) -> Result<(), Fail> {
-    let mut world = keyed(rt.alloc(), &ONE, 5)?;
-    world.use_elsewhere();
-    let end = end_of_batch(&rt, &mut world, "0", b"\n")?;
-    assert!(rt; end.errors.as_str() == "error: bad workers\n");
-    let end = end_of_batch(&rt, &mut world, "1", b"\n")?;
-    assert!(rt; end.status == 3 && end.errors.as_str() == "error: state in use\n");
-    let mut world = MemoryWorld::new(rt.alloc());
-    let end = end_of_batch(&rt, &mut world, "1", b"\n")?;
-    assert!(rt; end.status == 3 && end.errors.as_str() == "error: cannot read state\n");
-    Ok(())
-}
-
-/// How many indices a batch of three jobs that ended so has used.
-fn uses(end: &Ended) -> Option<u64> {
-    match (end.status, end.errors.as_str()) {
-        (0, "") => Some(3),
-        (1, "error: partial: 0 of 3 signed\n") => Some(3),
-        (1, "error: partial: 1 of 3 signed\n") => Some(3),
-        (1, "error: partial: 2 of 3 signed\n") => Some(3),
-        (5, "error: out of memory\n") => Some(0),
-        (5, "error: out of memory: 3 burnt\n") => Some(3),
-        (6, "error: cannot write output\n") => Some(3),
-        _ => None,
-    }
-}
-
-/// How many indices after index 5 the state counts.
-fn used(world: &MemoryWorld) -> Result<u64, Fail> {
-    for count in 0..7 {
-        if is_at(world, &ONE, 5 + count)? {
-            return Ok(count);
-        }
-    }
-    Err(Fail::from("the state is the key's"))
-}
-
-/// Three job lines, with room made at the first or at the second try.
-fn three_lines(alloc: Global) -> Result<String, Fail> {
-    let mut text = match String::with_capacity(alloc, 256) {
-        Ok(room) => room,
-        Err(_) => String::with_capacity(alloc, 256)?,
-    };
-    for _ in 0..3 {
-        text.push_str(RANDOM)?;
-        text.push_str(" 616263\n")?;
-    }
-    Ok(text)
-}
-
-/// The state of index 5, made at the first or at the second try.
-fn world_at_last(alloc: Global) -> Result<MemoryWorld, Fail> {
-    let image = image_of(&ONE, 5)?;
-    let text = image.as_slice();
-    if text.len() > 256 {
-        return Err(Fail::from("a text of over 256 bytes"));
-    }
-    let store = match MemoryStore::new(alloc, Some(text), 8) {
-        Ok(store) => store,
-        Err(_) => MemoryStore::new(alloc, Some(text), 8)?,
-    };
-    let mut world = MemoryWorld::new(alloc);
-    world.set_state(store);
-    Ok(world)
-}
-
-/// `rt test` refuses no memory. At the top of the workspace,
-/// `tests/refused lms_tool run::tests::batch::a_batch_says_what_it_used` refuses each request in turn.
-#[test]
-fn a_batch_says_what_it_used(rt: HostRuntime) -> Result<(), Fail> {
-    let text = three_lines(rt.alloc())?;
-    let mut world = world_at_last(rt.alloc())?;
-    let first = end_of_batch(&rt, &mut world, "2", text.as_bytes())?;
-    let between = used(&world)?;
-    let second = end_of_batch(&rt, &mut world, "2", text.as_bytes())?;
-    let after = used(&world)?;
-    assert!(rt; uses(&first) == Some(between));
-    assert!(rt; uses(&second) == after.checked_sub(between));
-    assert!(rt; first.status == 0 || second.status == 0);
+fn refuses_more_jobs_than_indices(rt: HostRuntime) -> Result<(), Fail> {
+    let mut world = keyed(rt.alloc(), &ONE, 0)?;
+    let text = lines(rt.alloc(), 33)?;
+    let end = end_of_batch(&rt, &mut world, "2", &text)?;
+    assert!(rt; end.status == 4 && end.output.is_empty());
+    assert!(rt; end.errors.as_str() == "error: exhausted: 32 left\n");
+    assert!(rt; is_at(&world, &ONE, 0)?);
     Ok(())
 }

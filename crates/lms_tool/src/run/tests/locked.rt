@@ -1,6 +1,7 @@
 //! The lock on a state, as long as a command runs.
+use super::batch::lines;
 use super::disk::{INFO, KEYGEN, SIGN, begin, end};
-use super::status_of;
+use crate::run::run;
 use lms_commands::DiskWorld;
 use lms_store::lock;
 use std::alloc::Global;
@@ -9,6 +10,15 @@ use std::io::Write;
 use std::sync::Wait;
 use std::test::Fail;
 use std::thread::Threads;
+
+const BATCH: [&str; 6] = [
+    "lms_tool",
+    "batch",
+    "--state",
+    "program_files/key.state",
+    "--workers",
+    "2",
+];
 
 /// A stream that takes bytes only while another holds the state's lock.
 #[derive(Drop)]
@@ -30,21 +40,25 @@ impl Write for Guarded<'_> {
     }
 }
 
-/// Whether a command prints while the lock is held, and ends well.
+/// Whether a command with this input prints while the lock is held, and ends well.
 fn prints_locked(
     rt: &(impl Threads + Wait + AllocGlobal + Sync),
     files: &HostRuntime,
     words: &[&str],
+    input: &[u8],
 ) -> bool {
+    let mut rest = input;
     let mut errors = Vec::new(rt.alloc());
     let mut output = Guarded {
         files,
         alloc: rt.alloc(),
     };
-    status_of(
+    run(
         rt,
+        rt.alloc(),
         words,
         &mut DiskWorld::new(files),
+        &mut rest,
         &mut output,
         &mut errors,
     ) == 0
@@ -54,8 +68,10 @@ fn prints_locked(
 #[test]
 fn holds_the_lock_to_the_end(rt: HostRuntime) -> Result<(), Fail> {
     begin(&rt)?;
-    assert!(rt; prints_locked(&rt, &rt, &KEYGEN));
-    assert!(rt; prints_locked(&rt, &rt, &SIGN));
-    assert!(rt; prints_locked(&rt, &rt, &INFO));
+    assert!(rt; prints_locked(&rt, &rt, &KEYGEN, b""));
+    assert!(rt; prints_locked(&rt, &rt, &SIGN, b""));
+    assert!(rt; prints_locked(&rt, &rt, &INFO, b""));
+    let text = lines(rt.alloc(), 2)?;
+    assert!(rt; prints_locked(&rt, &rt, &BATCH, &text));
     end(&rt)
 }
