@@ -176,7 +176,7 @@ fn reports_words_that_are_no_command(rt: HostRuntime) -> Result<(), Fail> {
         is_mistaken(
             &rt,
             &["lms_tool"],
-            "error: 'lms_tool' requires a subcommand but one was not provided\n  [subcommands: keygen, info, sign, verify, help]",
+            "error: 'lms_tool' requires a subcommand but one was not provided\n  [subcommands: keygen, info, sign, batch, verify, help]",
             HINT
         )?
     );
