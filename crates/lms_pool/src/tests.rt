@@ -72,6 +72,8 @@ fn two_seats_claim_in_turn(rt: HostRuntime) -> Result<(), Fail> {
     assert!(rt; gets(&pool, &mut b, 1, 8));
     assert!(rt; gets(&pool, &mut a, 2, 9));
     assert!(rt; has_ended(&pool, &mut b));
+    assert!(rt; has_ended(&pool, &mut b));
+    assert!(rt; has_ended(&pool, &mut a));
     assert_eq!(rt; pool.look(&mut a), 3);
     Ok(())
 }

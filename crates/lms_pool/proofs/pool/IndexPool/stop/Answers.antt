@@ -1,10 +1,10 @@
-use Rattle.std.proofs.Common.{◌≡◌, ◌+◌, ◌-◌, min, max, refl, sym, ap, ◌∙◌, arith}
+use Rattle.std.proofs.Common.{◌≡◌, ◌+◌, ◌-◌, min, max, true, refl, sym, ap, ◌∙◌, arith}
 use Rattle.lms_pool.specs.declared.history.Call.TheVariants.{Stop}
 use Rattle.lms_pool.specs.declared.history.Reply.TheVariants.{Count}
 use Rattle.lms_pool.specs.Rule.{stopped}
 use Rattle.lms_pool.specs.States.{PoolState, SeatState}
 use Rattle.lms_pool.proofs.Steps.{stops}
-use Rattle.lms_pool.proofs.Seats.{asks, after_call}
+use Rattle.lms_pool.proofs.Seats.{asks, after_call, is_len}
 use Rattle.lms_pool.proofs.pool.IndexPool.stop.Goals as goal
 
 pub fetch_max-found-requires : goal.fetch_max-found-requires
@@ -18,8 +18,9 @@ overflow_add-me c =
     let told = c.fetch_max-found.ensures in
     let long = ap (λ (s : SeatState). s.pool.len) c.me.view_is ∙ ap (λ (p : PoolState). p.len) (c.requires ∙ sym c.self.view_is) in
     let burnt : me.pool.value.len - min c.fetch_max-found.result me.pool.value.len ≡ c.saturating_sub-burnt.result = omega (arith, c.saturating_sub-burnt.ensures, long) in
-    let after = after_call me c.me.invariant Stop (Count c.saturating_sub-burnt.result) _ _ told.2 (ap Count burnt) (me.stopped + c.saturating_sub-burnt.result) _ told.0 refl in
-    omega (arith, after.stays.few, long, c.self.invariant.lease.at_most)
+    let after = after_call me c.me.invariant Stop (Count c.saturating_sub-burnt.result) _ _ told.2 (ap Count burnt) in
+    let stays = after.stays (me.stopped + c.saturating_sub-burnt.result) true _ told.0 refl (is_len me.pool.value.len) in
+    omega (arith, stays.few, long, c.self.invariant.lease.at_most)
 
 pub invariant_of-me : goal.invariant_of-me
 invariant_of-me c =
@@ -27,7 +28,8 @@ invariant_of-me c =
     let told = c.fetch_max-found.ensures in
     let long = ap (λ (s : SeatState). s.pool.len) c.me.view_is ∙ ap (λ (p : PoolState). p.len) (c.requires ∙ sym c.self.view_is) in
     let burnt : me.pool.value.len - min c.fetch_max-found.result me.pool.value.len ≡ c.saturating_sub-burnt.result = omega (arith, c.saturating_sub-burnt.ensures, long) in
-    (after_call me c.me.invariant Stop (Count c.saturating_sub-burnt.result) _ _ told.2 (ap Count burnt) _ _ told.0 refl).stays
+    let after = after_call me c.me.invariant Stop (Count c.saturating_sub-burnt.result) _ _ told.2 (ap Count burnt) in
+    after.stays (me.stopped + c.saturating_sub-burnt.result) true _ told.0 refl (is_len me.pool.value.len)
 
 pub returns-clause-call : goal.returns-clause-call
 returns-clause-call c =
@@ -35,4 +37,5 @@ returns-clause-call c =
     let told = c.fetch_max-found.ensures in
     let long = ap (λ (s : SeatState). s.pool.len) c.me.view_is ∙ ap (λ (p : PoolState). p.len) (c.requires ∙ sym c.self.view_is) in
     let burnt : me.pool.value.len - min c.fetch_max-found.result me.pool.value.len ≡ c.saturating_sub-burnt.result = omega (arith, c.saturating_sub-burnt.ensures, long) in
-    (after_call me c.me.invariant Stop (Count c.saturating_sub-burnt.result) _ _ told.2 (ap Count burnt) (me.stopped + c.saturating_sub-burnt.result) _ told.0 refl).makes c.args.me.now c.me.view_is
+    let after = after_call me c.me.invariant Stop (Count c.saturating_sub-burnt.result) _ _ told.2 (ap Count burnt) in
+    after.makes c.args.me.now c.me.view_is
