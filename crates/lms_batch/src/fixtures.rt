@@ -103,12 +103,13 @@ pub(crate) fn opened(
     Ok((lease, seat))
 }
 
-/// A job of this message.
+/// A job of this message, whose first byte fills its randomizer.
 pub(crate) fn job(alloc: Global, message: &[u8]) -> Result<Job, Fail> {
+    let first = message.first().copied().unwrap_or(0x33);
     let text = Vec::from_slice(alloc, message);
     let message = text.or_else(|_| Vec::from_slice(alloc, message))?;
     Ok(Job {
-        c: [0x33; 32],
+        c: [first; 32],
         message,
     })
 }

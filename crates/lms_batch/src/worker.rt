@@ -1,11 +1,14 @@
 //! Workers, each of which signs the jobs of the places that it claims.
-ghost use Rattle.std.specs.Prelude.{◌≡◌, ◌+◌, ◌≤◌, length, vec_len, vec_capacity};
+ghost use Rattle.std.specs.Prelude.{◌≡◌, ◌+◌, ◌≤◌, IfSome, IfNone, length, vec_len, vec_capacity};
+ghost use Rattle.lms_pool.specs.declared.history.Call.TheVariants.{Claim};
+ghost use Rattle.lms_pool.specs.declared.history.Reply.TheVariants.{Place};
+ghost use Rattle.lms_pool.specs.States.{Calls, seen};
 
 use crate::gate::Gate;
 use crate::job::Job;
 use crate::open_lease::OpenLease;
 use crate::receipt::Receipt;
-use lms_pool::DrawSeat;
+use lms_pool::{DrawSeat, IndexPass};
 
 /// A worker at a seat of an open lease. It has room for a receipt of each job that it may still sign.
 #[derive(Drop)]
@@ -17,6 +20,7 @@ pub(crate) struct Worker<'a> {
     receipts: Vec<Receipt<'a>>,
     ghost own: { seat.pool ≡ lease.now },
     ghost places: { lease.now.len ≡ length jobs.now },
+    ghost ahead: { lease.now.len ≤ seen seat + to_sign },
     ghost room: { vec_len receipts + to_sign ≤ vec_capacity receipts },
 }
 
@@ -42,8 +46,10 @@ impl<'a> Worker<'a> {
         }
     }
 
-    /// Signs the jobs of the places that it claims, until no place is left or memory is refused.
-    pub(crate) fn work<G: Gate>(&mut self, gate: &G) {
+    /// Signs the jobs of the places that it claims, until no place is left. Where memory is refused, it leaves none.
+    pub(crate) fn work<G: Gate>(&mut self, gate: &G)
+        ensures { seen self.new.seat ≡ self.new.lease.now.len }
+    {
         while self.to_sign > 0 {
             let Some(receipt) = self.sign_next(gate) else {
                 break;
@@ -56,7 +62,9 @@ impl<'a> Worker<'a> {
     /// Claims a place and signs its job. `None` where no place is left, and where memory is refused: then the pass is burnt and
     /// the pool stopped.
     fn sign_next<G: Gate>(&mut self, gate: &G) -> Option<Receipt<'a>>
-        ensures { self.new.to_sign ≡ self.old.to_sign }
+        ensures one_claim { IfSome result (λ signed. Calls self.old.seat Claim (Place signed.place) self.new.seat) }
+        ensures none { IfNone result (seen self.new.seat ≡ self.new.lease.now.len) }
+        ensures to_sign { self.new.to_sign ≡ self.old.to_sign }
     {
         let pass = self.lease.claim(&mut self.seat).ok()?;
         let place = pass.place();
@@ -67,11 +75,19 @@ impl<'a> Worker<'a> {
                 Some(receipt)
             }
             Err((_, pass)) => {
-                pass.burn();
-                self.lease.stop(&mut self.seat);
+                self.give_up(pass);
                 None
             }
         }
+    }
+
+    /// Burns the pass, and stops the pool.
+    fn give_up(&mut self, pass: IndexPass)
+        ensures none { seen self.new.seat ≡ self.new.lease.now.len }
+        ensures to_sign { self.new.to_sign ≡ self.old.to_sign }
+    {
+        pass.burn();
+        self.lease.stop(&mut self.seat);
     }
 
     /// The receipts of the jobs that it signed.

@@ -7,7 +7,7 @@ use super::{BatchFault, SigningService};
 use crate::fixtures::{book_of, job, public_key, store_at};
 use crate::tests::is_complete;
 use crate::{Batch, Job, OpenGate};
-use gates::Meeting;
+use gates::{Meeting, Notes};
 use lms_book::{Book, BookFault, Entry, Left, MemoryStore};
 use lms_hss::verify;
 use lms_shared_book::{Blanks, Desk, SharedBook, Tally};
@@ -31,8 +31,10 @@ enum Scenario {
     FailedWrite,
     /// Two batches by each of four threads.
     AtOnce,
-    /// Four jobs by four workers, where any request for memory may be refused.
-    RefusedMemory,
+    /// As many jobs as the key has indices, by as many workers as there may be.
+    AllIndices,
+    /// Four jobs by one to four workers, where any request for memory may be refused.
+    RefusedMemory { workers: usize },
     /// Two jobs by one or two workers, each of which waits a while until the other one has begun.
     Meeting { workers: usize },
 }
@@ -60,7 +62,8 @@ fn carried_out<E: Tally + Send + Sync, G: Tally + Send + Sync, B: Tally + Send +
         Scenario::TooFewAndTooMany => too_few_and_too_many(rt, service, desks),
         Scenario::FailedWrite => failed_write(rt, service, desks),
         Scenario::AtOnce => at_once(rt, service, desks),
-        Scenario::RefusedMemory => refused_memory(rt, service, desks),
+        Scenario::AllIndices => all_indices(rt, service, desks),
+        Scenario::RefusedMemory { workers } => refused_memory(rt, service, desks, workers),
         Scenario::Meeting { workers } => meet(rt, service, desks, workers),
     }
 }
@@ -277,6 +280,28 @@ fn batches_at_once(rt: HostRuntime) -> Result<(), Fail> {
     carry_out(&rt, store, Scenario::AtOnce)
 }
 
+/// Signs 1024 jobs by 64 workers.
+fn all_indices<E: Tally, G: Tally, B: Tally>(
+    rt: &(impl Abort + AllocGlobal + Threads + Wait + Sync),
+    service: SigningService<MemoryStore, E, G, B>,
+    desks: Vec<Desk<E, G, B>>,
+) -> Result<(), Fail> {
+    let mut desks = desks;
+    let desk = desks.first_mut().ok_or("a desk")?;
+    let jobs = jobs_of(rt.alloc(), 1024)?;
+    let public = public_key(rt, service.key())?;
+    let batch = service.sign_batch(rt, rt.alloc(), desk, &jobs, 64, &OpenGate);
+    let batch = batch.ok().ok_or("a batch")?;
+    assert!(rt; start_of_valid(&public, &batch, &jobs) == Some(0));
+    settled(rt, service, desks, &[Entry::Given { len: 1024 }], 1024)
+}
+
+#[test]
+fn all_indices_are_signed_by_as_many_workers_as_may_be(rt: HostRuntime) -> Result<(), Fail> {
+    let store = store_at(rt.alloc(), 0x11, 0)?;
+    carry_out(&rt, store, Scenario::AllIndices)
+}
+
 /// Signs two jobs by one or two workers, where one alone waits in vain for another.
 fn meet<E: Tally, G: Tally, B: Tally>(
     rt: &(impl Abort + AllocGlobal + Threads + Wait + Sync),
@@ -325,22 +350,26 @@ fn is_from_30(public: &[u8], batch: &Batch, jobs: &[Job]) -> bool {
     }
 }
 
-/// All jobs are signed, or some, or none, with their indices used; or nothing is reserved.
+/// All jobs are signed, or some, or none, with their indices used; or nothing is reserved. The gate is told accordingly.
 fn refused_memory<E: Tally, G: Tally, B: Tally>(
     rt: &(impl Abort + AllocGlobal + Threads + Wait + Sync),
     service: SigningService<MemoryStore, E, G, B>,
     desks: Vec<Desk<E, G, B>>,
+    workers: usize,
 ) -> Result<(), Fail> {
     let mut desks = desks;
     let desk = desks.first_mut().ok_or("a desk")?;
     let jobs = jobs_of(rt.alloc(), 4)?;
     let public = public_key(rt, service.key())?;
-    let answer = service.sign_batch(rt, rt.alloc(), desk, &jobs, 4, &OpenGate);
+    let notes = Notes::new();
+    let workers = workers.clamp(1, 4);
+    let answer = service.sign_batch(rt, rt.alloc(), desk, &jobs, workers, &notes);
     let used = match answer {
-        Ok(batch) => is_from_30(&public, &batch, &jobs),
-        Err(BatchFault::OutOfMemory { burnt }) => burnt == 4,
+        Ok(batch) => is_from_30(&public, &batch, &jobs) && notes.is_of(&batch, workers),
+        Err(BatchFault::OutOfMemory { burnt }) => burnt == 4 && notes.is_blank(),
         Err(fault) => {
             assert_eq!(rt; fault, BatchFault::Book(BookFault::OutOfMemory));
+            assert!(rt; notes.is_blank());
             assert_eq!(rt; counts(desk), (0, 0, 0));
             return settled(rt, service, desks, &[], 30);
         }
@@ -353,6 +382,9 @@ fn refused_memory<E: Tally, G: Tally, B: Tally>(
 /// `tests/refused` refuses each request for memory in turn.
 #[test]
 fn a_batch_after_refused_memory(rt: HostRuntime) -> Result<(), Fail> {
-    let store = store_at(rt.alloc(), 0x11, 30)?;
-    carry_out(&rt, store, Scenario::RefusedMemory)
+    for workers in [4, 1] {
+        let store = store_at(rt.alloc(), 0x11, 30)?;
+        carry_out(&rt, store, Scenario::RefusedMemory { workers })?;
+    }
+    Ok(())
 }

@@ -1,5 +1,5 @@
-//! A gate of two places.
-use crate::Gate;
+//! Gates of two places and of four.
+use crate::{Batch, Gate};
 use std::sync::atomic::{AtomicBool, AtomicUsize, Ordering};
 use std::thread;
 
@@ -66,5 +66,90 @@ impl Gate for Meeting {
         if mine.load(Ordering::SeqCst) {
             self.ended.fetch_add(1, Ordering::SeqCst);
         }
+    }
+}
+
+/// What a gate is told of four places where memory is refused once: 2 of each that was signed, 1 of the one that was burnt, and 0
+/// of those that were stopped.
+const REFUSED_ONCE: [[usize; 4]; 4] = [[2, 2, 2, 1], [2, 2, 1, 0], [2, 1, 0, 0], [1, 0, 0, 0]];
+
+/// A gate that keeps how often it was called for each of four places, and whether a call came out of turn.
+#[derive(Drop)]
+pub(super) struct Notes {
+    calls: [AtomicUsize; 4],
+    is_out_of_turn: AtomicBool,
+}
+
+impl Notes {
+    pub(super) fn new() -> Self {
+        Notes {
+            calls: [
+                AtomicUsize::new(0),
+                AtomicUsize::new(0),
+                AtomicUsize::new(0),
+                AtomicUsize::new(0),
+            ],
+            is_out_of_turn: AtomicBool::new(false),
+        }
+    }
+
+    /// Notes a call for a place that is to have been called for so often before.
+    fn note(&self, place: u64, before: usize) {
+        let calls = self.calls.get(place as usize);
+        let is_in_turn = match calls {
+            Some(calls) => calls.fetch_add(1, Ordering::SeqCst) == before,
+            None => false,
+        };
+        if !is_in_turn {
+            self.is_out_of_turn.store(true, Ordering::SeqCst);
+        }
+    }
+
+    /// How often it was called for each place.
+    fn counts(&self) -> [usize; 4] {
+        let [a, b, c, d] = &self.calls;
+        [a, b, c, d].map(|calls| calls.load(Ordering::SeqCst))
+    }
+
+    /// Whether it was not called.
+    pub(super) fn is_blank(&self) -> bool {
+        self.counts() == [0; 4] && !self.is_out_of_turn.load(Ordering::SeqCst)
+    }
+
+    /// Whether it was called in turn for each signature of a batch of four, and, where memory was refused, before the one that
+    /// was not made then. One worker goes on in the order of the places, until then.
+    pub(super) fn is_of(&self, batch: &Batch, workers: usize) -> bool {
+        let mut counts = self.counts();
+        let is_as_told = match batch {
+            Batch::Complete { .. } => counts == [2; 4],
+            Batch::Partial { start: _, slots } => {
+                let is_of_slots = are_of(&counts, slots);
+                if workers > 1 {
+                    counts.sort_unstable();
+                    counts.reverse();
+                }
+                is_of_slots && REFUSED_ONCE.contains(&counts)
+            }
+        };
+        is_as_told && !self.is_out_of_turn.load(Ordering::SeqCst)
+    }
+}
+
+/// Whether a place was called for twice exactly where its slot is filled.
+fn are_of(counts: &[usize], slots: &[Option<Vec<u8>>]) -> bool {
+    let mut is_right = counts.len() == slots.len();
+    for (count, slot) in counts.iter().zip(slots) {
+        is_right = is_right && slot.is_some() == (*count == 2);
+    }
+    is_right
+}
+
+impl Gate for Notes {
+    fn before_sign(&self, place: u64) {
+        self.note(place, 0);
+    }
+
+    fn after_sign(&self, place: u64) {
+        self.note(place, 1);
     }
 }
