@@ -6,7 +6,7 @@ use Rattle.lms_lines.specs.JobsTexts.{AreJobLines, IsJobsText, IsFirstBadLine, H
 use Rattle.lms_lines.specs.Gathered.{HasNoEnd, Gathered, after_part, after_line, IsGatheredFrom}
 use Rattle.lms_lines.proofs.LineLemmas.{no-end-append, lines-end, lines-last, has-line, begins-line}
 
-job-lines-more : (lines : List (List ℕ)) (jobs : List JobText) (line : List ℕ) (job : JobText) → AreJobLines lines jobs → IsJobLine line job → AreJobLines (lines ++ line ∷ []) (jobs ++ job ∷ [])
+pub job-lines-more : (lines : List (List ℕ)) (jobs : List JobText) (line : List ℕ) (job : JobText) → AreJobLines lines jobs → IsJobLine line job → AreJobLines (lines ++ line ∷ []) (jobs ++ job ∷ [])
 job-lines-more [] [] line job good last = (last, tt)
 job-lines-more [] (j ∷ jobs) line job good last = absurd good
 job-lines-more (l ∷ lines) [] line job good last = absurd good

@@ -9,9 +9,13 @@ use Rattle.lms_lines.specs.JobLines.{IsJobLine}
 pub take-line : (line : List ℕ) (job : JobText) (p : IsJobLine line job) → take 64 line ≡ p.c_digits
 take-line line job p = ap (λ n. take n line) (sym p.c_len) ∙ ap (take (length p.c_digits)) p.parts ∙ take-append_seam p.c_digits (32 ∷ p.message_digits)
 
+-- what comes after the randomizer's digits
+pub rest-line : (line : List ℕ) (job : JobText) (p : IsJobLine line job) → drop 64 line ≡ 32 ∷ p.message_digits
+rest-line line job p =
+    ap (λ n. drop n line) (sym p.c_len) ∙ ap (drop (length p.c_digits)) p.parts ∙ drop-append_seam p.c_digits (32 ∷ p.message_digits)
+
 pub drop-line : (line : List ℕ) (job : JobText) (p : IsJobLine line job) → drop 1 (drop 64 line) ≡ p.message_digits
-drop-line line job p =
-    ap (λ n. drop 1 (drop n line)) (sym p.c_len) ∙ ap (λ l. drop 1 (drop (length p.c_digits) l)) p.parts ∙ ap (drop 1) (drop-append_seam p.c_digits (32 ∷ p.message_digits))
+drop-line line job p = ap (drop 1) (rest-line line job p)
 
 pub split_line : (line : List ℕ) → 64 < length line → get_or line 64 0 ≡ 32 → line ≡ take 64 line ++ 32 ∷ drop 1 (drop 64 line)
 split_line line long space =

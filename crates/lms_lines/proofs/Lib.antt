@@ -5,4 +5,5 @@ pub mod Growth
 pub mod Steps
 pub mod Numerals
 pub mod Outcomes
+pub mod Judging
 pub mod SignedLines

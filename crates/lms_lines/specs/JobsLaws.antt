@@ -1,5 +1,5 @@
--- That a text has one outcome at most.
-use Rattle.std.specs.Prelude.{◌≡◌, ℕ, List}
+-- That a text has an outcome, and one alone.
+use Rattle.std.specs.Prelude.{◌≡◌, ◌⊎◌, ℕ, List}
 use Rattle.lms_batch.specs.Jobs.{JobText}
 use Rattle.lms_lines.specs.JobsTexts.{IsJobsText, IsFirstBadLine, HasTooManyJobs}
 
@@ -13,3 +13,10 @@ pub record HasOneOutcome (text : List ℕ) : Type 0 where
 
 abbrev pub OutcomesAreOne : Type 0
 OutcomesAreOne = (text : List ℕ) → HasOneOutcome text
+
+-- a text has its jobs, or a first bad line, or too many jobs
+abbrev pub HasSomeOutcome : List ℕ → Type 0
+HasSomeOutcome text = ((jobs : List JobText) × IsJobsText text jobs) ⊎ (((n : ℕ) × IsFirstBadLine text n) ⊎ HasTooManyJobs text)
+
+abbrev pub EveryTextHasAnOutcome : Type 0
+EveryTextHasAnOutcome = (text : List ℕ) → HasSomeOutcome text

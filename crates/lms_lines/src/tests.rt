@@ -12,11 +12,11 @@ const C: &str = "000102030405060708090a0B0c0D0e0f101112131415161718191A1b1C1d1E1
 
 /// A text that is read in small pieces. After so many reads it fails. Every second read is interrupted.
 #[derive(Drop)]
-struct Source<'t> {
-    rest: &'t [u8],
-    step: usize,
-    reads: usize,
-    is_interrupted: bool,
+pub(crate) struct Source<'t> {
+    pub(crate) rest: &'t [u8],
+    pub(crate) step: usize,
+    pub(crate) reads: usize,
+    pub(crate) is_interrupted: bool,
 }
 
 impl<'t> Read for Source<'t> {
@@ -80,7 +80,7 @@ fn count_of(alloc: Global, text: &[u8]) -> Result<usize, JobsFault> {
     Ok(read_whole(alloc, text)?.len())
 }
 
-fn push_line(text: &mut Vec<u8>, message: &str, end: &str) -> Result<(), Fail> {
+pub(crate) fn push_line(text: &mut Vec<u8>, message: &str, end: &str) -> Result<(), Fail> {
     text.extend_from_slice(C.as_bytes())?;
     text.push(b' ')?;
     text.extend_from_slice(message.as_bytes())?;

@@ -1,5 +1,5 @@
 //! Three ledgers side by side: of entries, of indices given, and of indices burnt.
-ghost use Rattle.std.specs.Prelude.{◌≡◌, ℕ, ◌+◌, ◌<◌, ◌≤◌, [], None};
+ghost use Rattle.std.specs.Prelude.{◌≡◌, ◌+◌, ◌<◌, ◌≤◌, [], None};
 ghost use Rattle.lms_book.specs.States.{BookState};
 ghost use Rattle.lms_shared_book.specs.Desks.{SharesState, BlankFits, IsWithin, plus, sums};
 

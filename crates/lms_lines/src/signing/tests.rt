@@ -1,9 +1,11 @@
 ghost use Rattle.std.specs.Prelude.{◌≡◌, [], IfOk};
 ghost use Rattle.lms_shared_book.specs.Desks.{BlankFits};
 
+mod memory;
+
 use super::{Done, LinesFault, sign_lines};
 use crate::JobsFault;
-use crate::tests::{Sink, lines};
+use crate::tests::{Sink, Source, lines};
 use lms_batch::{BatchFault, SigningService};
 use lms_book::{Book, BookFault, MemoryStore};
 use lms_hss::{HssKey, Levels};
@@ -18,7 +20,16 @@ use std::sync::ledger::Blank;
 use std::test::Fail;
 use std::thread::Threads;
 
-/// A book of the key 5/8,5/8 whose next index is 30.
+/// What is done with a service that has one desk.
+#[derive(Clone, Copy)]
+enum Scenario {
+    /// Batches one after another, some of which fail.
+    Batches,
+    /// Four lines by four workers, where any request for memory may be refused.
+    RefusedMemory,
+}
+
+/// A book of the key 5/8,5/8 whose next index is 30. Memory that is refused once is asked for again.
 fn book(alloc: Global) -> Result<Book<MemoryStore>, Fail>
     ensures { IfOk result (λ book. book.history ≡ []) }
 {
@@ -29,8 +40,14 @@ fn book(alloc: Global) -> Result<Book<MemoryStore>, Fail>
         return Err(Fail::from("a capacity of 1024"));
     }
     let image = encode_image(&Image { key, counter: 30 });
-    let store = MemoryStore::new(alloc, Some(image.as_slice()), 8)?;
-    Ok(Book::open(alloc, store).ok().ok_or("the store opens")?)
+    let store = match MemoryStore::new(alloc, Some(image.as_slice()), 8) {
+        Ok(store) => store,
+        Err(_) => MemoryStore::new(alloc, Some(image.as_slice()), 8)?,
+    };
+    match Book::open(alloc, store) {
+        Ok(book) => Ok(book),
+        Err((_, store)) => Ok(Book::open(alloc, store).ok().ok_or("the store opens")?),
+    }
 }
 
 /// Signs job lines by two workers, to a writer.
@@ -45,25 +62,35 @@ fn signed<E: Tally, G: Tally, B: Tally>(
     sign_lines(rt, rt.alloc(), service, &mut rest, writer, desk, 2)
 }
 
-/// A writer that takes so many bytes.
-fn sink(alloc: Global, writes: usize) -> Sink {
+/// A writer that takes so many bytes, and then fails, or takes nothing.
+fn sink(alloc: Global, writes: usize, fails: bool) -> Sink {
     Sink {
         taken: Vec::new(alloc),
         writes,
-        fails: true,
+        fails,
         is_interrupted: false,
     }
 }
 
-/// Whether a text has four answer lines of 5292 bytes, from this index on.
+/// Whether a text begins as an answer line does that has this index, of two digits.
+fn begins_answer(text: &[u8], index: u64) -> bool {
+    let tens = b'0' + (index / 10 % 10) as u8;
+    let ones = b'0' + (index % 10) as u8;
+    text.starts_with(&[tens, ones, b' '])
+}
+
+/// Whether a text is an answer line of 5292 bytes that has this index, of two digits.
+fn is_answer(text: &[u8], index: u64) -> bool {
+    text.len() == 5292 && begins_answer(text, index) && text.ends_with(b"\n")
+}
+
+/// Whether a text has four answer lines, from this index on.
 fn has_four_answers(text: &[u8], first: u64) -> bool {
-    let mut number = first;
+    let mut index = first;
     let mut is_right = text.len() == 4 * 5292;
     for line in text.chunks(5292) {
-        let tens = b'0' + (number / 10 % 10) as u8;
-        let ones = b'0' + (number % 10) as u8;
-        is_right = is_right && line.starts_with(&[tens, ones, b' ']) && line.ends_with(b"\n");
-        number = number.saturating_add(1);
+        is_right = is_right && is_answer(line, index);
+        index = index.saturating_add(1);
     }
     is_right
 }
@@ -81,7 +108,7 @@ fn refuses<E: Tally, G: Tally, B: Tally>(
     text: &[u8],
     fault: LinesFault,
 ) -> bool {
-    let mut writer = sink(rt.alloc(), 1);
+    let mut writer = sink(rt.alloc(), 1, true);
     let before = counts(desk);
     let answer = signed(rt, service, desk, text, &mut writer);
     answer == Err(fault) && writer.taken.is_empty() && counts(desk) == before
@@ -95,7 +122,7 @@ fn answers_four<E: Tally, G: Tally, B: Tally>(
     first: u64,
 ) -> Result<bool, Fail> {
     let text = lines(rt.alloc(), 4)?;
-    let mut writer = sink(rt.alloc(), 100_000);
+    let mut writer = sink(rt.alloc(), 100_000, true);
     let done = signed(rt, service, desk, &text, &mut writer);
     let all = Done {
         signed: 4,
@@ -109,47 +136,114 @@ fn writes_a_beginning<E: Tally, G: Tally, B: Tally>(
     rt: &(impl AllocGlobal + Threads + Wait + Sync),
     service: &SigningService<MemoryStore, E, G, B>,
     desk: &mut Desk<E, G, B>,
+    first: u64,
+    fails: bool,
 ) -> Result<bool, Fail> {
     let text = lines(rt.alloc(), 4)?;
-    let mut writer = sink(rt.alloc(), 5300);
+    let mut writer = sink(rt.alloc(), 5300, fails);
     let answer = signed(rt, service, desk, &text, &mut writer);
-    Ok(answer == Err(LinesFault::Write) && writer.taken.len() == 5300)
+    let (line, more) = writer.taken.split_at(writer.taken.len().min(5292));
+    let second = first.saturating_add(1);
+    let is_beginning = is_answer(line, first) && begins_answer(more, second) && more.len() == 8;
+    Ok(answer == Err(LinesFault::Write) && is_beginning)
 }
 
-/// Signs lines at a shared book from index 30 on.
-fn sign_all<E: Tally, G: Tally, B: Tally>(
+/// Whether no line is signed where the text can't be read past so many blocks, and nothing is counted.
+fn is_unread<E: Tally, G: Tally, B: Tally>(
+    rt: &(impl AllocGlobal + Threads + Wait + Sync),
+    service: &SigningService<MemoryStore, E, G, B>,
+    desk: &mut Desk<E, G, B>,
+    text: &[u8],
+    reads: usize,
+) -> bool {
+    let mut source = Source {
+        rest: text,
+        step: 70,
+        reads,
+        is_interrupted: false,
+    };
+    let mut writer = sink(rt.alloc(), 1, true);
+    let before = counts(desk);
+    let answer = sign_lines(rt, rt.alloc(), service, &mut source, &mut writer, desk, 2);
+    let fault = LinesFault::Jobs(JobsFault::Read);
+    answer == Err(fault) && writer.taken.is_empty() && counts(desk) == before
+}
+
+/// Whether no line of four is signed where the text can't be read, from the first block or a later one on.
+fn is_never_signed_unread<E: Tally, G: Tally, B: Tally>(
+    rt: &(impl AllocGlobal + Threads + Wait + Sync),
+    service: &SigningService<MemoryStore, E, G, B>,
+    desk: &mut Desk<E, G, B>,
+) -> Result<bool, Fail> {
+    let text = lines(rt.alloc(), 4)?;
+    let mut is_right = true;
+    for reads in 0..5 {
+        is_right = is_right && is_unread(rt, service, desk, &text, reads);
+    }
+    Ok(is_right)
+}
+
+/// Signs lines from index 30 on.
+fn sign_batches<E: Tally, G: Tally, B: Tally>(
+    rt: &(impl Abort + AllocGlobal + Threads + Wait + Sync),
+    service: SigningService<MemoryStore, E, G, B>,
+    desks: Vec<Desk<E, G, B>>,
+) -> Result<(), Fail> {
+    let mut desks = desks;
+    let desk = desks.first_mut().ok_or("a desk")?;
+    let bad = LinesFault::Jobs(JobsFault::BadJob { line: 1 });
+    assert!(rt; refuses(rt, &service, desk, b"\n", bad));
+    assert!(rt; is_never_signed_unread(rt, &service, desk)?);
+    assert!(rt; writes_a_beginning(rt, &service, desk, 30, true)?);
+    assert!(rt; answers_four(rt, &service, desk, 34)?);
+    assert!(rt; writes_a_beginning(rt, &service, desk, 38, false)?);
+    assert!(rt; answers_four(rt, &service, desk, 42)?);
+    let many = lines(rt.alloc(), 1024)?;
+    let exhausted = LinesFault::Batch(BatchFault::Book(BookFault::Exhausted { left: 978 }));
+    assert!(rt; refuses(rt, &service, desk, &many, exhausted));
+    assert_eq!(rt; counts(desk), (4, 16, 0));
+    Ok(())
+}
+
+/// Shares a book, and carries the scenario out.
+fn carried_out<E: Tally, G: Tally, B: Tally>(
     rt: &(impl Abort + AllocGlobal + Threads + Wait + Sync),
     book: Book<MemoryStore>,
     blanks: Blanks,
+    scenario: Scenario,
 ) -> Result<(), Fail>
     requires same { book ≡ E.book }
     requires entries { BlankFits blanks.entries E.name E.parts 2 }
     requires given { BlankFits blanks.given G.name G.parts 2 }
     requires burnt { BlankFits blanks.burnt B.name B.parts 2 }
 {
-    let shared = SharedBook::<MemoryStore, E, G, B>::share(rt.alloc(), book, blanks, 1);
-    let (shared, mut desks) = shared.ok().ok_or("memory for a desk")?;
-    let desk = desks.first_mut().ok_or("a desk")?;
+    let shared = match SharedBook::<MemoryStore, E, G, B>::share(rt.alloc(), book, blanks, 1) {
+        Err((_, book, blanks)) => SharedBook::share(rt.alloc(), book, blanks, 1),
+        answer => answer,
+    };
+    let (shared, desks) = shared.ok().ok_or("memory for a desk")?;
     let service = SigningService::over(shared);
-    let bad = LinesFault::Jobs(JobsFault::BadJob { line: 1 });
-    assert!(rt; refuses(rt, &service, desk, b"\n", bad));
-    assert!(rt; answers_four(rt, &service, desk, 30)?);
-    assert!(rt; writes_a_beginning(rt, &service, desk)?);
-    assert!(rt; answers_four(rt, &service, desk, 38)?);
-    let many = lines(rt.alloc(), 1024)?;
-    let exhausted = LinesFault::Batch(BatchFault::Book(BookFault::Exhausted { left: 982 }));
-    assert!(rt; refuses(rt, &service, desk, &many, exhausted));
-    assert_eq!(rt; counts(desk), (3, 12, 0));
-    Ok(())
+    match scenario {
+        Scenario::Batches => sign_batches(rt, service, desks),
+        Scenario::RefusedMemory => memory::sign_four(rt, service, desks),
+    }
 }
 
-#[test]
-fn lines_are_signed(rt: HostRuntime) -> Result<(), Fail> {
+/// Carries a scenario out.
+fn carry_out(
+    rt: &(impl Abort + AllocGlobal + Threads + Wait + Sync),
+    scenario: Scenario,
+) -> Result<(), Fail> {
     let book = book(rt.alloc())?;
     let blanks = Blanks {
         entries: Blank::new(2),
         given: Blank::new(2),
         burnt: Blank::new(2),
     };
-    sign_all::<Brand, Brand, Brand>(&rt, book, blanks)
+    carried_out::<Brand, Brand, Brand>(rt, book, blanks, scenario)
+}
+
+#[test]
+fn lines_are_signed(rt: HostRuntime) -> Result<(), Fail> {
+    carry_out(&rt, Scenario::Batches)
 }
