@@ -13,7 +13,9 @@ use std::fmt;
 use std::thread::Threads;
 
 /// Each build, in the order in which they are printed.
-pub const BUILDS: [Build; 5] = [
+pub const BUILDS: [Build; 7] = [
+    Build::Whole(LmsType::H5, OtsType::W4),
+    Build::Band(LmsType::H5, OtsType::W4),
     Build::Whole(LmsType::H10, OtsType::W8),
     Build::Whole(LmsType::H10, OtsType::W4),
     Build::Band(LmsType::H10, OtsType::W4),

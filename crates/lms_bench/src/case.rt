@@ -32,60 +32,21 @@ pub fn key_of(lms: LmsType, ots: OtsType, seed: [u8; 32]) -> TreeKey
     TreeKey { lms, ots, i, seed }
 }
 
-/// Each case, in the order in which they are printed.
-pub const CASES: [Case; 13] = [
-    Case {
-        operation: Operation::PublicHash,
-        ots: OtsType::W1,
-    },
-    Case {
-        operation: Operation::PublicHash,
-        ots: OtsType::W2,
-    },
-    Case {
-        operation: Operation::PublicHash,
-        ots: OtsType::W4,
-    },
-    Case {
-        operation: Operation::PublicHash,
-        ots: OtsType::W8,
-    },
-    Case {
-        operation: Operation::SignInto,
-        ots: OtsType::W1,
-    },
-    Case {
-        operation: Operation::SignInto,
-        ots: OtsType::W2,
-    },
-    Case {
-        operation: Operation::SignInto,
-        ots: OtsType::W4,
-    },
-    Case {
-        operation: Operation::SignInto,
-        ots: OtsType::W8,
-    },
-    Case {
-        operation: Operation::Candidate,
-        ots: OtsType::W1,
-    },
-    Case {
-        operation: Operation::Candidate,
-        ots: OtsType::W2,
-    },
-    Case {
-        operation: Operation::Candidate,
-        ots: OtsType::W4,
-    },
-    Case {
-        operation: Operation::Candidate,
-        ots: OtsType::W8,
-    },
-    Case {
-        operation: Operation::SubtreeRoot,
-        ots: OtsType::W4,
-    },
+/// Each case's operation and set, in the order in which they are printed.
+pub const CASES: [(Operation, OtsType); 13] = [
+    (Operation::PublicHash, OtsType::W1),
+    (Operation::PublicHash, OtsType::W2),
+    (Operation::PublicHash, OtsType::W4),
+    (Operation::PublicHash, OtsType::W8),
+    (Operation::SignInto, OtsType::W1),
+    (Operation::SignInto, OtsType::W2),
+    (Operation::SignInto, OtsType::W4),
+    (Operation::SignInto, OtsType::W8),
+    (Operation::Candidate, OtsType::W1),
+    (Operation::Candidate, OtsType::W2),
+    (Operation::Candidate, OtsType::W4),
+    (Operation::Candidate, OtsType::W8),
+    (Operation::SubtreeRoot, OtsType::W4),
 ];
 
 /// What is timed.

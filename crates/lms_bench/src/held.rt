@@ -2,11 +2,28 @@
 ghost use Rattle.std.specs.Prelude.{◌<◌, IfOk};
 
 use crate::case::{SEED, key_of};
-use anyhow::Result;
+use crate::hierarchy::Hierarchy;
+use anyhow::{Result, ensure};
+use lms_hss::Forest;
 use lms_params::{LmsType, OtsType, lms_sig_len};
 use lms_tree::BandTree;
 use std::alloc::Global;
 use std::thread::Threads;
+
+/// The key whose forest is weighed.
+const WEIGHED: Hierarchy = Hierarchy(&[(LmsType::H15, OtsType::W8), (LmsType::H10, OtsType::W8)]);
+
+/// Makes a forest of the indices from 0 to 1023, and prints a line before it and while it stands: `tests/held` counts at each
+/// what the program holds of its allocator.
+pub fn cover(rt: &(impl Print + AllocGlobal + Threads + Sync)) -> Result<()> {
+    let key = WEIGHED.key()?;
+    ensure!(1024 <= key.capacity(), "the key has few indices");
+    println!(rt; "no forest")?;
+    let forest = Forest::cover(rt, rt.alloc(), key, 0, 1024)?;
+    println!(rt; "forest of 1024 indices of {WEIGHED}")?;
+    ensure!(forest.covers(1023), "the forest has few indices");
+    Ok(())
+}
 
 /// The bytes of nodes and heads in a forest of the indices from 0 to 1023 of 15/8,10/8.
 #[derive(Clone, Copy, Debug, PartialEq, Eq)]

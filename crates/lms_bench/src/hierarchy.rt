@@ -4,7 +4,9 @@ ghost use Rattle.lms_hss.specs.Covered.{IsCovered};
 
 use crate::case::{ID, MESSAGE, RANDOMIZER, SEED};
 use anyhow::Result;
+use lms_book::{Book, MemoryStore};
 use lms_hss::{Forest, HssKey, Levels};
+use lms_image::{Image, encode_image};
 use lms_params::{LmsType, OtsType};
 use std::alloc::Global;
 use std::fmt;
@@ -15,35 +17,23 @@ pub const INDEX: u64 = 0;
 
 /// The levels of a key of HSS, from the top.
 #[derive(Clone, Copy)]
-pub struct Hierarchy {
-    pub levels: &'static [(LmsType, OtsType)],
-}
+pub struct Hierarchy(pub &'static [(LmsType, OtsType)]);
 
 /// Each key whose signatures are verified, in the order in which they are printed.
 pub const VERIFIED: [Hierarchy; 4] = [
-    Hierarchy {
-        levels: &[(LmsType::H5, OtsType::W8)],
-    },
-    Hierarchy {
-        levels: &[(LmsType::H10, OtsType::W4)],
-    },
-    Hierarchy {
-        levels: &[(LmsType::H5, OtsType::W8); 2],
-    },
-    Hierarchy {
-        levels: &[(LmsType::H5, OtsType::W8); 8],
-    },
+    Hierarchy(&[(LmsType::H5, OtsType::W8)]),
+    Hierarchy(&[(LmsType::H10, OtsType::W4)]),
+    Hierarchy(&[(LmsType::H5, OtsType::W8); 2]),
+    Hierarchy(&[(LmsType::H5, OtsType::W8); 8]),
 ];
 
 /// The key whose trees are covered.
-pub const COVERED: Hierarchy = Hierarchy {
-    levels: &[(LmsType::H10, OtsType::W8); 2],
-};
+pub const COVERED: Hierarchy = Hierarchy(&[(LmsType::H10, OtsType::W8); 2]);
 
 impl fmt::Display for Hierarchy {
     fn fmt<W: fmt::Write>(&self, f: &mut fmt::Formatter<W>) -> fmt::Result {
         let mut comma = "";
-        for (lms, ots) in self.levels {
+        for (lms, ots) in self.0 {
             write!(f, "{comma}{}/{}", lms.height(), ots.w())?;
             comma = ",";
         }
@@ -54,7 +44,15 @@ impl fmt::Display for Hierarchy {
 impl Hierarchy {
     /// The key of these levels.
     pub fn key(self) -> Result<HssKey> {
-        Ok(HssKey::new(Levels::new(self.levels)?, SEED, ID.i))
+        Ok(HssKey::new(Levels::new(self.0)?, SEED, ID.i))
+    }
+
+    /// A book over the key with no index used, in memory, with room for so many writes.
+    pub fn book(self, alloc: Global, writes: usize) -> Result<Book<MemoryStore>> {
+        let key = self.key()?;
+        let image = encode_image(&Image { key, counter: 0 });
+        let store = MemoryStore::new(alloc, Some(image.as_slice()), writes)?;
+        Ok(Book::open(alloc, store).map_err(|(fault, _)| fault)?)
     }
 
     /// What signs `INDEX`.

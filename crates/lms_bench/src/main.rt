@@ -5,10 +5,12 @@
 //! many bare digests of 55 bytes, each the least of several rounds. For trees that all processors build it prints the
 //! compressions a second; how many times as many these are as one thread makes with bare digests; what share they are of
 //! what such a thread on each processor makes; and how long it takes to start and join threads that do nothing. For places of
-//! pools that threads claim at once it prints the claims a second beside bare additions to one word. Last come the bytes
-//! that a forest holds.
+//! pools that threads claim at once it prints the claims a second beside bare additions to one word; for batches the signatures
+//! a second that one worker and several make; and how fast job lines are read and answers written. Last come the bytes that a
+//! forest holds. With the argument `cover` it makes one such forest.
 #![tactic(auto)]
 
+mod batches;
 mod bench;
 mod build;
 mod case;
@@ -17,35 +19,48 @@ mod compressions;
 mod held;
 mod hierarchy;
 mod hss_bench;
+mod lines;
 mod measure;
+mod measure_batches;
 mod signed_level;
+mod stopwatch;
 #[cfg(test)]
 mod tests;
+mod workers;
 
+use crate::batches::{Batches, SMALL};
 use crate::bench::{Bench, Timed};
 use crate::build::BUILDS;
-use crate::case::{CASES, SEED};
-use crate::claims::CLAIMS;
+use crate::case::{CASES, Case, MESSAGE, SEED};
+use crate::claims::time_claims;
+use crate::held::cover;
 use crate::hierarchy::{COVERED, VERIFIED};
 use crate::hss_bench::{Signing, Verification};
+use crate::lines::{ANSWERING, Lines, answered};
 use crate::measure::measure;
+use crate::workers::WORKERS;
 use anyhow::{Result, bail};
 use std::env;
+use std::sync::Wait;
 use std::thread::Threads;
-use std::time::Clock;
+use std::time::{Clock, CpuClock};
 
 fn main(rt: HostRuntime) -> Result<()> {
     let words: Vec<String> = env::args(&rt)?.collect(rt.alloc())?;
     match words.as_slice() {
         [] | [_] => run_once(&rt),
         [_, word] if word.as_str() == "measure" => measure(&rt),
-        _ => bail!("usage: lms_bench [measure]"),
+        [_, word] if word.as_str() == "cover" => cover(&rt),
+        _ => bail!("usage: lms_bench [measure|cover]"),
     }
 }
 
 /// Runs each case once and prints its name.
-fn run_once(rt: &(impl Print + AllocGlobal + Clock + Threads + Sync)) -> Result<()> {
-    for case in CASES {
+fn run_once(
+    rt: &(impl Print + AllocGlobal + Clock + CpuClock + Threads + Wait + Sync),
+) -> Result<()> {
+    for (operation, ots) in CASES {
+        let case = Case { operation, ots };
         let _value = Bench::new(case).run(SEED);
         println!(rt; "{case}")?;
     }
@@ -59,9 +74,31 @@ fn run_once(rt: &(impl Print + AllocGlobal + Clock + Threads + Sync)) -> Result<
         build.run(rt, rt.alloc())?;
         println!(rt; "{build}")?;
     }
-    for claims in CLAIMS {
-        claims.time(rt)?;
-        println!(rt; "{claims}")?;
+    for workers in WORKERS {
+        time_claims(rt, workers)?;
+        println!(rt; "IndexPool::claim threads={}", workers.count())?;
     }
+    run_batches_once(rt)
+}
+
+/// Signs four jobs by each number of workers, and four of job lines.
+fn run_batches_once<R>(rt: &R) -> Result<()>
+where
+    R: Print + AllocGlobal + Clock + CpuClock + Threads + Wait + Sync,
+{
+    let batches = Batches::new(rt.alloc(), SMALL, 4, &MESSAGE)?;
+    for workers in WORKERS {
+        batches.sign(rt, workers)?;
+        println!(rt;
+            "SigningService::sign_batch {SMALL} workers={}",
+            workers.count()
+        )?;
+    }
+    let mut lines = Lines::new(rt.alloc(), 4)?;
+    let (jobs, _time) = lines.jobs(rt)?;
+    println!(rt; "read_jobs")?;
+    let signed = answered(rt, jobs)?;
+    lines.time_write(rt, &signed.batch)?;
+    println!(rt; "write_batch {ANSWERING}")?;
     Ok(())
 }

@@ -1,14 +1,21 @@
 //! The timing.
+ghost use Rattle.std.specs.Prelude.{◌≤◌};
+
+use crate::batches::SIGNED;
 use crate::bench::{Bench, Timed};
 use crate::build::{BUILDS, Build};
-use crate::case::CASES;
-use crate::claims::{CLAIMS, COUNT, Claims};
+use crate::case::{CASES, Case};
+use crate::claims::{COUNT, time_additions, time_claims};
 use crate::held::Held;
 use crate::hierarchy::{COVERED, VERIFIED};
 use crate::hss_bench::{Signing, Verification};
+use crate::measure_batches::{measure_batches, measure_lines};
+use crate::workers::{WORKERS, Workers};
 use anyhow::Result;
+use lms_params::{LmsType, OtsType};
 use rayon::prelude::*;
 use sha2::{Digest, Sha256};
+use std::sync::Wait;
 use std::thread::Threads;
 use std::time::{Clock, CpuClock, Duration, Instant};
 
@@ -18,9 +25,38 @@ const ROUNDS: u32 = 20;
 /// How many compressions a round makes, at least, and how many bare digests stand beside a build.
 const COMPRESSIONS_A_ROUND: u64 = 1 << 16;
 
-/// Times each case, each build and claims, and weighs a forest.
-pub fn measure(rt: &(impl Print + AllocGlobal + Clock + CpuClock + Threads + Sync)) -> Result<()> {
-    for case in CASES {
+/// The heights at which a band tree is timed beside a whole one.
+const BOTH: [LmsType; 2] = [LmsType::H5, LmsType::H10];
+
+/// Times each case, each build, claims, batches and lines, and weighs a forest.
+pub fn measure(
+    rt: &(impl Print + AllocGlobal + Clock + CpuClock + Threads + Wait + Sync),
+) -> Result<()> {
+    measure_in_one_thread(rt)?;
+    for build in BUILDS {
+        measure_build(rt, build)?;
+    }
+    for lms in BOTH {
+        measure_band(rt, lms)?;
+    }
+    for workers in WORKERS {
+        measure_claims(rt, workers)?;
+    }
+    for hierarchy in SIGNED {
+        measure_batches(rt, hierarchy)?;
+    }
+    measure_lines(rt)?;
+    let bands = Held::with_bands(rt, rt.alloc())?;
+    print_held(rt, "in bands", bands)?;
+    print_held(rt, "in whole trees", Held::with_whole_trees())
+}
+
+/// Times each case, and the keys of HSS.
+fn measure_in_one_thread(
+    rt: &(impl Print + AllocGlobal + CpuClock + Threads + Sync),
+) -> Result<()> {
+    for (operation, ots) in CASES {
+        let case = Case { operation, ots };
         print!(rt; "{case}")?;
         measure_timed(rt, case.compressions(), &mut Bench::new(case))?;
     }
@@ -35,16 +71,7 @@ pub fn measure(rt: &(impl Print + AllocGlobal + Clock + CpuClock + Threads + Syn
     }
     let mut signing = Signing::new(rt, rt.alloc(), COVERED)?;
     print!(rt; "Forest::sign {COVERED}")?;
-    measure_timed(rt, signing.compressions(rt.alloc())?, &mut signing)?;
-    for build in BUILDS {
-        measure_build(rt, build)?;
-    }
-    for claims in CLAIMS {
-        measure_claims(rt, claims)?;
-    }
-    let bands = Held::with_bands(rt, rt.alloc())?;
-    print_held(rt, "in bands", bands)?;
-    print_held(rt, "in whole trees", Held::with_whole_trees())
+    measure_timed(rt, signing.compressions(rt.alloc())?, &mut signing)
 }
 
 /// Prints the time of a run, its compressions, and the ratio of its time to that of bare digests.
@@ -77,11 +104,12 @@ fn measure_build(
     let mut bare = Duration::MAX;
     let mut at_once = Duration::MAX;
     let mut nothing = Duration::MAX;
+    let processors = rayon::current_num_threads(rt);
     for _ in 0..ROUNDS {
         own = own.min(time_build(rt, build)?);
         bare = bare.min(time_digests(rt, COMPRESSIONS_A_ROUND)?);
-        at_once = at_once.min(time_digests_at_once(rt, compressions)?);
-        nothing = nothing.min(time_digests_at_once(rt, 0)?);
+        at_once = at_once.min(time_digests_at_once(rt, compressions, processors)?);
+        nothing = nothing.min(time_digests_at_once(rt, 0, processors)?);
     }
     let rate = compressions as f64 / own.as_secs_f64();
     let threads = rate * bare.as_secs_f64() / COMPRESSIONS_A_ROUND as f64;
@@ -93,22 +121,58 @@ fn measure_build(
     Ok(())
 }
 
+/// Prints how many times as much processor time of all threads as a whole tree of this height and w = 4 a band tree takes, and
+/// how many times as long. Low trees are built more often.
+fn measure_band(
+    rt: &(impl Print + AllocGlobal + Clock + CpuClock + Threads + Sync),
+    lms: LmsType,
+) -> Result<()> {
+    let whole = Build::Whole(lms, OtsType::W4);
+    let band = Build::Band(lms, OtsType::W4);
+    let compressions = whole.compressions(rt, rt.alloc())?;
+    let mut of_whole = (Duration::MAX, Duration::MAX);
+    let mut of_band = (Duration::MAX, Duration::MAX);
+    for _ in 0..u64::from(ROUNDS) * (1 + (1 << 20) / compressions.max(1)) {
+        of_whole = least_build(rt, whole, of_whole)?;
+        of_band = least_build(rt, band, of_band)?;
+    }
+    let processor = of_band.0.as_secs_f64() / of_whole.0.as_secs_f64();
+    let clock = of_band.1.as_secs_f64() / of_whole.1.as_secs_f64();
+    println!(rt;
+        "{band}: {processor:.3} times the processor time of {whole}, {clock:.3} times as long"
+    )?;
+    Ok(())
+}
+
+/// The least of these and of a build's processor time and time on the clock.
+fn least_build(
+    rt: &(impl AllocGlobal + Clock + CpuClock + Threads + Sync),
+    build: Build,
+    least: (Duration, Duration),
+) -> Result<(Duration, Duration)> {
+    let start = rt.process_cpu_time()?;
+    let clock = time_build(rt, build)?;
+    let processor = rt.process_cpu_time()?.saturating_sub(start);
+    Ok((least.0.min(processor), least.1.min(clock)))
+}
+
 /// Prints how many places are claimed a second, how many bare additions as many threads make, and the ratio of the times.
 fn measure_claims(
     rt: &(impl Print + AllocGlobal + Clock + Threads + Sync),
-    claims: Claims,
+    workers: Workers,
 ) -> Result<()> {
     let mut own = Duration::MAX;
     let mut bare = Duration::MAX;
     for _ in 0..ROUNDS {
-        own = own.min(claims.time(rt)?);
-        bare = bare.min(claims.time_bare(rt)?);
+        own = own.min(time_claims(rt, workers)?);
+        bare = bare.min(time_additions(rt, workers)?);
     }
     let claimed = COUNT as f64 / own.as_secs_f64();
     let added = COUNT as f64 / bare.as_secs_f64();
     let ratio = own.as_secs_f64() / bare.as_secs_f64();
+    let threads = workers.count();
     println!(rt;
-        "{claims}: {claimed:.0} a second, bare additions {added:.0} a second, ratio {ratio:.2}"
+        "IndexPool::claim threads={threads}: {claimed:.0} a second, bare additions {added:.0} a second, ratio {ratio:.2}"
     )?;
     Ok(())
 }
@@ -129,12 +193,14 @@ fn time_build(rt: &(impl AllocGlobal + Clock + Threads + Sync), build: Build) ->
     Ok(start.elapsed(rt)?)
 }
 
-/// The time of so many bare digests, in a thread for each processor, up to 32.
-fn time_digests_at_once(
+/// The time of so many bare digests, cut into as many parts, at once by a thread for each processor, up to 32.
+pub fn time_digests_at_once(
     rt: &(impl AllocGlobal + Clock + Threads + Sync),
     digests: u64,
-) -> Result<Duration> {
-    let threads = rayon::current_num_threads(rt);
+    threads: usize,
+) -> Result<Duration>
+    requires { 1 ≤ threads }
+{
     let each = digests / threads as u64;
     let mut texts = vec![in rt.alloc(); [0; 55]; threads]?;
     let start = Instant::now(rt)?;
@@ -159,7 +225,7 @@ fn time_runs<T: Timed>(clock: &impl CpuClock, timed: &mut T, runs: u64) -> Resul
 }
 
 /// The processor time of so many digests of 55 bytes, each a single compression.
-fn time_digests(clock: &impl CpuClock, digests: u64) -> Result<Duration> {
+pub fn time_digests(clock: &impl CpuClock, digests: u64) -> Result<Duration> {
     let mut text = [0; 55];
     let start = clock.thread_cpu_time()?;
     make_digests(&mut text, digests);

@@ -1,0 +1,135 @@
+//! The timing of batches and of their lines.
+use crate::batches::{Batches, JOBS};
+use crate::case::MESSAGE;
+use crate::hierarchy::Hierarchy;
+use crate::lines::{ANSWERING, Lines, answered};
+use crate::measure::{time_digests, time_digests_at_once};
+use crate::workers::{WORKERS, Workers};
+use anyhow::Result;
+use std::sync::Wait;
+use std::thread::Threads;
+use std::time::{Clock, CpuClock, Duration};
+
+/// How often each time of a batch is taken. The least counts.
+const ROUNDS: u32 = 5;
+
+/// The times of a batch, of covering its indices and of as many bare digests.
+#[derive(Clone, Copy)]
+struct Times {
+    whole: Duration,
+    cover: Duration,
+    signing: Duration,
+    processor: Duration,
+    bare: Duration,
+    at_once: Duration,
+}
+
+impl Times {
+    const NONE: Times = Times {
+        whole: Duration::MAX,
+        cover: Duration::MAX,
+        signing: Duration::MAX,
+        processor: Duration::MAX,
+        bare: Duration::MAX,
+        at_once: Duration::MAX,
+    };
+
+    /// The least of two times each.
+    fn least(self, other: Times) -> Times {
+        Times {
+            whole: self.whole.min(other.whole),
+            cover: self.cover.min(other.cover),
+            signing: self.signing.min(other.signing),
+            processor: self.processor.min(other.processor),
+            bare: self.bare.min(other.bare),
+            at_once: self.at_once.min(other.at_once),
+        }
+    }
+}
+
+/// Prints, for each number of workers, the signatures that they make a second, how many times those of one worker they are,
+/// and their share of what as many threads do with bare digests; then the signatures a second by the time of the batch less that
+/// of covering its indices, and the ratio of the time of signing to that of bare digests, both in processor time of one thread.
+pub fn measure_batches<R>(rt: &R, hierarchy: Hierarchy) -> Result<()>
+where
+    R: Print + AllocGlobal + Clock + CpuClock + Threads + Wait + Sync,
+{
+    let batches = Batches::new(rt.alloc(), hierarchy, JOBS, &MESSAGE)?;
+    let signed = batches.sign(rt, Workers::One)?;
+    let compressions = batches.compressions(rt.alloc(), &signed.batch)?;
+    let mut least = [Times::NONE; 3];
+    for _ in 0..ROUNDS {
+        measure_round(rt, &batches, compressions, &mut least)?;
+    }
+    let [one, ..] = least;
+    for (workers, times) in WORKERS.into_iter().zip(least) {
+        let count = workers.count();
+        print!(rt; "SigningService::sign_batch {hierarchy} workers={count}: ")?;
+        print_times(rt, one, times)?;
+    }
+    let ratio = one.processor.as_secs_f64() / one.bare.as_secs_f64();
+    println!(rt; "one worker: {compressions} compressions, ratio {ratio:.3}")?;
+    Ok(())
+}
+
+/// Takes the times of a batch by each number of workers.
+fn measure_round<R>(
+    rt: &R,
+    batches: &Batches,
+    compressions: u64,
+    least: &mut [Times; 3],
+) -> Result<()>
+where
+    R: AllocGlobal + Clock + CpuClock + Threads + Wait + Sync,
+{
+    for (workers, least) in WORKERS.into_iter().zip(least) {
+        let signed = batches.sign(rt, workers)?;
+        *least = least.least(Times {
+            whole: signed.whole,
+            cover: batches.time_cover(rt)?,
+            signing: signed.signing,
+            processor: signed.processor,
+            bare: time_digests(rt, compressions)?,
+            at_once: time_digests_at_once(rt, compressions, workers.count())?,
+        });
+    }
+    Ok(())
+}
+
+fn print_times(rt: &impl Print, one: Times, times: Times) -> Result<()> {
+    let rate = JOBS as f64 / times.signing.as_secs_f64();
+    let workers = one.signing.as_secs_f64() / times.signing.as_secs_f64();
+    let share = times.at_once.as_secs_f64() / times.signing.as_secs_f64();
+    let rest = times.whole.saturating_sub(times.cover).as_secs_f64();
+    let less_cover = JOBS as f64 / rest;
+    println!(rt;
+        "{rate:.0} signatures a second, {workers:.2} times one worker, share {share:.2}, {less_cover:.0} by the batch less its cover"
+    )?;
+    Ok(())
+}
+
+/// Prints how many bytes of job lines are read a second, and of answers written, and the share of both in the time in which one
+/// worker signs them.
+pub fn measure_lines<R>(rt: &R) -> Result<()>
+where
+    R: Print + AllocGlobal + Clock + CpuClock + Threads + Wait + Sync,
+{
+    let mut lines = Lines::new(rt.alloc(), JOBS)?;
+    let mut read = Duration::MAX;
+    let mut signing = Duration::MAX;
+    let mut write = Duration::MAX;
+    for _ in 0..ROUNDS {
+        let (jobs, time) = lines.jobs(rt)?;
+        read = read.min(time);
+        let signed = answered(rt, jobs)?;
+        signing = signing.min(signed.processor);
+        write = write.min(lines.time_write(rt, &signed.batch)?);
+    }
+    let read_rate = f64::from(lines.bytes_read()) / 1e6 / read.as_secs_f64();
+    let write_rate = f64::from(lines.bytes_written()) / 1e6 / write.as_secs_f64();
+    let share = (read.as_secs_f64() + write.as_secs_f64()) / signing.as_secs_f64();
+    println!(rt;
+        "read_jobs: {read_rate:.1} MB/s, write_batch {ANSWERING}: {write_rate:.1} MB/s, {share:.3} of the time of signing"
+    )?;
+    Ok(())
+}

@@ -1,0 +1,68 @@
+//! The time in which workers sign.
+use lms_batch::Gate;
+use std::sync::atomic::{AtomicU64, Ordering};
+use std::time::{Clock, CpuClock, Duration};
+
+/// A gate that reads the clock, and the processor time of the worker's thread, before and after each signature. It keeps what
+/// it read before the first one and after the last. Where a clock can't be read, that is 0.
+#[derive(Drop)]
+pub struct Stopwatch<'r, R> {
+    rt: &'r R,
+    began: AtomicU64,
+    ended: AtomicU64,
+    began_in_thread: AtomicU64,
+    ended_in_thread: AtomicU64,
+}
+
+impl<'r, R: Clock + CpuClock> Stopwatch<'r, R> {
+    pub fn new(rt: &'r R) -> Self {
+        Stopwatch {
+            rt,
+            began: AtomicU64::new(u64::MAX),
+            ended: AtomicU64::new(0),
+            began_in_thread: AtomicU64::new(u64::MAX),
+            ended_in_thread: AtomicU64::new(0),
+        }
+    }
+
+    /// The time on the clock from the beginning of the first signature to the end of the last.
+    pub fn time(&self) -> Duration {
+        between(&self.began, &self.ended)
+    }
+
+    /// The processor time between the two, where one worker made all.
+    pub fn processor_time(&self) -> Duration {
+        between(&self.began_in_thread, &self.ended_in_thread)
+    }
+
+    fn clock(&self) -> u64 {
+        nanoseconds(self.rt.monotonic().unwrap_or(Duration::ZERO))
+    }
+
+    fn thread_clock(&self) -> u64 {
+        nanoseconds(self.rt.thread_cpu_time().unwrap_or(Duration::ZERO))
+    }
+}
+
+impl<'r, R: Clock + CpuClock + Sync> Gate for Stopwatch<'r, R> {
+    fn before_sign(&self, _place: u64) {
+        self.began.fetch_min(self.clock(), Ordering::SeqCst);
+        self.began_in_thread
+            .fetch_min(self.thread_clock(), Ordering::SeqCst);
+    }
+
+    fn after_sign(&self, _place: u64) {
+        self.ended.fetch_max(self.clock(), Ordering::SeqCst);
+        self.ended_in_thread
+            .fetch_max(self.thread_clock(), Ordering::SeqCst);
+    }
+}
+
+fn nanoseconds(time: Duration) -> u64 {
+    u64::try_from(time.as_nanos()).unwrap_or(u64::MAX)
+}
+
+fn between(began: &AtomicU64, ended: &AtomicU64) -> Duration {
+    let ended = ended.load(Ordering::SeqCst);
+    Duration::from_nanos(ended.saturating_sub(began.load(Ordering::SeqCst)))
+}
