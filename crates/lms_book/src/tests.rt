@@ -135,8 +135,7 @@ fn an_exhausted_key_opens(rt: HostRuntime) -> Result<(), Fail> {
     Ok(())
 }
 
-/// `rt test` refuses no memory. `rt try --test --fail-alloc N` refuses one request of those that are made here, for each N
-/// from 1 to 4, and the second call works.
+/// `tests/refused` refuses each request for memory in turn, and the second call works.
 #[test]
 fn a_book_works_after_refused_memory(rt: HostRuntime) -> Result<(), Fail> {
     let mut book = small_book(rt.alloc(), 5)?;

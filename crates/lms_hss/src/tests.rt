@@ -1,6 +1,7 @@
 //! What tests of this crate share.
 ghost use Rattle.std.specs.Prelude.{◌≡◌, ◌≤◌, length};
 
+mod damage;
 mod forests;
 mod keys;
 mod verification;

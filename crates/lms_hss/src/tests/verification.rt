@@ -62,7 +62,7 @@ fn check_parts(rt: &impl Abort, public: &[u8], signature: &[u8]) {
 }
 
 /// A signature of `abc` is refused with another number in it.
-fn check_number(
+pub(super) fn check_number(
     rt: &(impl Abort + AllocGlobal),
     public: &[u8],
     signature: &[u8],

@@ -169,6 +169,17 @@ fn refuses_each_changed_byte(rt: HostRuntime) -> Result<(), Fail> {
     Ok(())
 }
 
+/// Three levels are named where there is room for one, with no digest made anew.
+#[test]
+fn a_wrong_length_comes_before_damage(rt: HostRuntime) -> Result<(), Fail> {
+    let mut text = SOUND.text(rt.alloc())?;
+    if let Some(byte) = text.get_mut(11) {
+        *byte = 3;
+    }
+    assert!(rt; fault(&text) == Some(ImageFault::WrongLength));
+    Ok(())
+}
+
 /// Texts with their digest, where two faults hold for the first.
 const WITH_THEIR_DIGEST: [(Fields, Option<ImageFault>); 16] = [
     (
