@@ -12,6 +12,7 @@ use Rattle.lms_commands.specs.declared.fault.Fault.{Fault}
 use Rattle.lms_commands.specs.declared.fault.Fault.TheVariants.{BadLevels, TooManyLevels, HeightNotSigned, TooTall, BadSeed, BadId, BadRandom, BadWorkers, BadJob, TooManyJobs, StateExists, StateInUse, ReadState, BadState, WriteState, WriteStateBurnt, Exhausted, OutOfMemory, OutOfMemoryBurnt, Partial, Input, Output}
 use Rattle.lms_commands.specs.declared.status.Status.{Status}
 use Rattle.lms_commands.specs.declared.status.Status.TheVariants as status
+use Rattle.lms_commands.specs.declared.status.Status.TheVariants.{Negative}
 
 -- a run ends as its command does
 pub command_ends : (old new : Moment) (words : List Text) (command : Command) → IsRead words command
@@ -95,7 +96,7 @@ partly_done old new (Verify public message signature) signed asked (inr (inr (in
 
 -- so a fault with a line on the errors and a status below 2 is that of `batch`
 pub speaks : (old new : Moment) (words : List Text) (fault : Fault) → code_of (status_of fault) < 2 → Fails old new words fault
-    → (code_of (status_of fault) ≡ 1) × AsksToRead words
+    → (status_of fault ≡ Negative) × AsksToRead words
 speaks old new words (Partial signed asked) low (command, reads, is) = (refl, (command, reads, partly_done old new command signed asked is))
 speaks old new words BadLevels low is = absurd (omega (arith, low))
 speaks old new words TooManyLevels low is = absurd (omega (arith, low))

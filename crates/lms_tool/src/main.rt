@@ -35,7 +35,7 @@ fn main(rt: HostRuntime) -> ExitCode {
     };
     // Nothing is printed any more.
     drop(held);
-    ExitCode::from(status)
+    ExitCode::from(status.code())
 }
 
 /// The program's arguments. `Input` where one is no UTF-8 text, `OutOfMemory` where memory ran out.

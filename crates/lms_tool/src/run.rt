@@ -20,7 +20,7 @@ use std::sync::Wait;
 use std::thread::Threads;
 
 /// The whole program, over its command-line arguments (`words`, the program's name first), its files and its three streams.
-/// Answers the exit status, the code of a `Status`.
+/// Answers how it ends; the exit status is the code of that.
 ///
 /// A fault is one line on `errors`, `error: ` and its text. Help is printed to `output` and a mistake in the arguments to
 /// `errors`, both in clap's wording. Nothing but `keygen`, `info`, `sign` and `batch` may change files or states, and of the
@@ -33,30 +33,29 @@ pub fn run<S: AsStr, W: World, I: Read, O: Write, E: Write>(
     input: &mut I,
     output: &mut O,
     errors: &mut E,
-) -> u8
-    ensures ends { (status : Status) × (result ≡ code_of status)
-        × Ends (moment (W.known world.old) (I.remaining input.old) (O.contents output.old))
-        (moment (W.known world.new) (I.remaining input.new) (O.contents output.new)) (map S.text words.now) status }
-    ensures quiet { result < 2 → (errors.new ≡ errors.old) ⊎ ((result ≡ 1) × AsksToRead (map S.text words.now)) }
-    ensures silent { 2 ≤ result → result < 6 → output.new ≡ output.old }
+) -> Status
+    ensures ends { Ends (moment (W.known world.old) (I.remaining input.old) (O.contents output.old))
+        (moment (W.known world.new) (I.remaining input.new) (O.contents output.new)) (map S.text words.now) result }
+    ensures quiet { code_of result < 2 → (errors.new ≡ errors.old) ⊎ ((result ≡ Status.Negative) × AsksToRead (map S.text words.now)) }
+    ensures silent { 2 ≤ code_of result → code_of result < 6 → output.new ≡ output.old }
     ensures files { (world.new ≡ world.old) ⊎ AsksToTouch (map S.text words.now) }
     ensures others { (name : List ℕ) → NoneWrites (map S.text words.now) name
         → SameFile (W.known world.old) (W.known world.new) name }
     ensures unread { (input.new ≡ input.old) ⊎ AsksToRead (map S.text words.now) }
 {
     match answer(rt, alloc, words, world, input, output, errors) {
-        Ok(status) => status.code(),
+        Ok(status) => status,
         Err(fault) => report(fault, errors),
     }
 }
 
-/// Prints a fault's line and answers the number to exit with.
-pub fn report<E: Write>(fault: Fault, errors: &mut E) -> u8
-    ensures { result ≡ code_of (status_of fault) }
+/// Prints a fault's line and answers how the program ends.
+pub fn report<E: Write>(fault: Fault, errors: &mut E) -> Status
+    ensures { result ≡ status_of fault }
 {
-    // Where even the line can't be printed, the number is all that is left to say.
+    // Where even the line can't be printed, the exit status is all that is left to say.
     let _ = print_fault(errors, fault);
-    fault.status().code()
+    fault.status()
 }
 
 /// Does what the arguments ask, and prints all but a fault.

@@ -52,7 +52,7 @@ fn status_of<W: World, O: Write, E: Write>(
     errors: &mut E,
 ) -> u8 {
     let mut input: &[u8] = &[];
-    run(rt, rt.alloc(), words, world, &mut input, output, errors)
+    run(rt, rt.alloc(), words, world, &mut input, output, errors).code()
 }
 
 fn end_of<W: World>(

@@ -41,7 +41,7 @@ pub(super) fn end_of_batch(
         &mut errors,
     );
     Ok(Ended {
-        status,
+        status: status.code(),
         output: String::from_utf8(output)?,
         errors: String::from_utf8(errors)?,
     })

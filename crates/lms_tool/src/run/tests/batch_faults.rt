@@ -1,11 +1,10 @@
 //! `batch` over streams, states and memory that fail.
 use super::batch::{batch, end_of_batch, lines, push_line};
-use super::faults::unwritable;
-use super::state::{ONE, image_of, is_at, keyed, store_of};
+use super::state::{ONE, TWO, image_of, is_at, keyed, store_at, store_of};
 use super::{Closed, Ended, Stuck};
 use crate::run::run;
 use lms_book::{Left, MemoryStore};
-use lms_commands::{MemoryWorld, World};
+use lms_commands::{MemoryWorld, Status, World};
 use std::alloc::Global;
 use std::io;
 use std::io::{ErrorKind, Read, Write};
@@ -66,7 +65,7 @@ fn ends_at<I: Read, O: Write>(
     let mut said = Vec::new(rt.alloc());
     let words = batch("2");
     let status = run(rt, rt.alloc(), &words, world, input, output, &mut said);
-    let is_said = status == 6 && said.as_slice() == errors.as_bytes();
+    let is_said = status == Status::Stream && said.as_slice() == errors.as_bytes();
     Ok(is_said && is_at(world, &ONE, counter)?)
 }
 
@@ -125,15 +124,24 @@ fn cannot_write_answers(rt: HostRuntime) -> Result<(), Fail> {
     Ok(())
 }
 
+/// The state of an unused key of 5/8,5/8, whose next write fails, and leaves the old text or the new one.
+fn unwritable(alloc: Global, left: Left) -> Result<MemoryWorld, Fail> {
+    let mut store = store_at(alloc, &TWO, 0)?;
+    store.fail_replace(1, left);
+    let mut world = MemoryWorld::new(alloc);
+    world.set_state(store);
+    Ok(world)
+}
+
 #[test]
 fn burns_the_indices_of_a_batch(rt: HostRuntime) -> Result<(), Fail> {
     let text = lines(rt.alloc(), 4)?;
-    for (left, counter) in [(Left::Old, 5), (Left::New, 9)] {
+    for (left, counter) in [(Left::Old, 0), (Left::New, 4)] {
         let mut world = unwritable(rt.alloc(), left)?;
         let end = end_of_batch(&rt, &mut world, "2", &text)?;
         assert!(rt; end.status == 3 && end.output.is_empty());
-        assert!(rt; end.errors.as_str() == "error: cannot write state: 5 to 8 burnt\n");
-        assert!(rt; is_at(&world, &ONE, counter)?);
+        assert!(rt; end.errors.as_str() == "error: cannot write state: 0 to 3 burnt\n");
+        assert!(rt; is_at(&world, &TWO, counter)?);
     }
     Ok(())
 }
@@ -168,22 +176,36 @@ fn fails_in_order(rt: HostRuntime) -> Result<(), Fail> {
     Ok(())
 }
 
-/// How many indices a batch of three jobs that ended so has used, and how many lines it printed.
+/// How many indices a batch of four jobs that ended so has used, and how many lines it printed.
 fn uses(end: &Ended) -> Option<(u64, usize)> {
     match (end.status, end.errors.as_str()) {
-        (0, "") => Some((3, 3)),
-        (1, "error: partial: 0 of 3 signed\n") => Some((3, 0)),
-        (1, "error: partial: 1 of 3 signed\n") => Some((3, 1)),
-        (1, "error: partial: 2 of 3 signed\n") => Some((3, 2)),
+        (0, "") => Some((4, 4)),
+        (1, "error: partial: 0 of 4 signed\n") => Some((4, 0)),
+        (1, "error: partial: 1 of 4 signed\n") => Some((4, 1)),
+        (1, "error: partial: 2 of 4 signed\n") => Some((4, 2)),
+        (1, "error: partial: 3 of 4 signed\n") => Some((4, 3)),
         (5, "error: out of memory\n") => Some((0, 0)),
-        (5, "error: out of memory: 3 burnt\n") => Some((3, 0)),
+        (5, "error: out of memory: 4 burnt\n") => Some((4, 0)),
         _ => None,
+    }
+}
+
+/// How many answer lines of 5/8 a text has, or `None` where one is not whole. An index has one digit or two.
+fn answers_in(text: &str) -> Option<usize> {
+    let mut is_whole = text.is_empty() || text.ends_with("\n");
+    for line in text.lines() {
+        is_whole = is_whole && (line.len() == 2594 || line.len() == 2595);
+    }
+    if is_whole {
+        Some(text.lines().count())
+    } else {
+        None
     }
 }
 
 /// How many indices after index 5 the state counts.
 fn used(world: &MemoryWorld) -> Result<u64, Fail> {
-    for count in 0..7 {
+    for count in 0..9 {
         if is_at(world, &ONE, 5 + count)? {
             return Ok(count);
         }
@@ -194,25 +216,25 @@ fn used(world: &MemoryWorld) -> Result<u64, Fail> {
 /// Whether a batch that ended so used as many indices as it says, from so many used to so many, and printed its lines. A
 /// writer that was refused memory has a beginning of them.
 fn is_true(end: &Ended, before: u64, after: u64) -> bool {
-    let count = end.output.lines().count();
     match (end.status, end.errors.as_str()) {
-        (6, "error: cannot write output\n") => after.checked_sub(before) == Some(3),
+        (6, "error: cannot write output\n") => after.checked_sub(before) == Some(4),
         _ => match uses(end) {
             Some((indices, printed)) => {
-                after.checked_sub(before) == Some(indices) && printed == count
+                after.checked_sub(before) == Some(indices)
+                    && answers_in(&end.output) == Some(printed)
             }
             None => false,
         },
     }
 }
 
-/// Three job lines, with room made at the first or at the second try.
-fn three_lines(alloc: Global) -> Result<Vec<u8>, Fail> {
-    let mut text = match Vec::with_capacity(alloc, 256) {
+/// Four job lines, with room made at the first or at the second try.
+fn four_lines(alloc: Global) -> Result<Vec<u8>, Fail> {
+    let mut text = match Vec::with_capacity(alloc, 512) {
         Ok(room) => room,
-        Err(_) => Vec::with_capacity(alloc, 256)?,
+        Err(_) => Vec::with_capacity(alloc, 512)?,
     };
-    for number in 0..3 {
+    for number in 0..4 {
         push_line(&mut text, number)?;
     }
     Ok(text)
@@ -238,11 +260,11 @@ fn world_at_last(alloc: Global) -> Result<MemoryWorld, Fail> {
 /// `tests/refused lms_tool run::tests::batch_faults::a_batch_says_what_it_used` refuses each request in turn.
 #[test]
 fn a_batch_says_what_it_used(rt: HostRuntime) -> Result<(), Fail> {
-    let text = three_lines(rt.alloc())?;
+    let text = four_lines(rt.alloc())?;
     let mut world = world_at_last(rt.alloc())?;
-    let first = end_of_batch(&rt, &mut world, "2", &text)?;
+    let first = end_of_batch(&rt, &mut world, "4", &text)?;
     let between = used(&world)?;
-    let second = end_of_batch(&rt, &mut world, "2", &text)?;
+    let second = end_of_batch(&rt, &mut world, "4", &text)?;
     let after = used(&world)?;
     assert!(rt; is_true(&first, 0, between));
     assert!(rt; is_true(&second, between, after));

@@ -216,6 +216,12 @@ fn meets_a_full_device(rt: HostRuntime) -> Result<(), Fail> {
     end(&rt)
 }
 
+/// Says that a user who may do all has not seen what is refused to others. `rt ci` runs tests as one who may not.
+fn is_skipped(files: &HostRuntime) -> Result<bool, Fail> {
+    println!(files; "skipped: this user may do what the test wants refused")?;
+    Ok(true)
+}
+
 /// Whether in a folder that may not be changed no state is stored, or the folder may be changed all the same.
 fn burns_in_the_folder(
     rt: &(impl Threads + Wait + AllocGlobal + Sync),
@@ -224,7 +230,11 @@ fn burns_in_the_folder(
     fs::set_permissions(files, "program_files", Permissions::from_mode(0o500))?;
     let changed = fs::write(files, "program_files/other", b"".as_slice()).is_ok();
     let line = "error: cannot write state: 0 to 0 burnt\n";
-    let burns = changed || fails(rt, files, &SIGN, 3, line);
+    let burns = if changed {
+        is_skipped(files)?
+    } else {
+        fails(rt, files, &SIGN, 3, line)
+    };
     fs::set_permissions(files, "program_files", Permissions::from_mode(0o700))?;
     Ok(burns)
 }
@@ -250,7 +260,11 @@ fn fails_without(
     line: &str,
 ) -> Result<bool, Fail> {
     fs::set_permissions(files, name, Permissions::from_mode(0))?;
-    let failed = fs::open(files, name).is_ok() || fails(rt, files, words, status, line);
+    let failed = if fs::open(files, name).is_ok() {
+        is_skipped(files)?
+    } else {
+        fails(rt, files, words, status, line)
+    };
     fs::set_permissions(files, name, Permissions::from_mode(0o600))?;
     Ok(failed)
 }

@@ -67,7 +67,7 @@ fn cannot_store_a_new_key(rt: HostRuntime) -> Result<(), Fail> {
 }
 
 /// A message, and a state of index 5 whose next write fails, and leaves the old text or the new one.
-pub(super) fn unwritable(alloc: Global, left: Left) -> Result<MemoryWorld, Fail> {
+fn unwritable(alloc: Global, left: Left) -> Result<MemoryWorld, Fail> {
     let mut world = keyed(alloc, &ONE, 5)?;
     let mut store = store_at(alloc, &ONE, 5)?;
     store.fail_replace(1, left);

@@ -2,7 +2,7 @@
 use super::batch::lines;
 use super::disk::{INFO, KEYGEN, SIGN, begin, end};
 use crate::run::run;
-use lms_commands::DiskWorld;
+use lms_commands::{DiskWorld, Status};
 use lms_store::lock;
 use std::alloc::Global;
 use std::io;
@@ -61,7 +61,7 @@ fn prints_locked(
         &mut rest,
         &mut output,
         &mut errors,
-    ) == 0
+    ) == Status::Done
 }
 
 /// The lock is held until the output is printed.
