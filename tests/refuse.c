@@ -8,11 +8,12 @@
 #include <unistd.h>
 
 static long requests;
+static int has_ended;
 
 static int is_refused(void) {
     const char *refused = getenv("REFUSE");
     long number = __sync_add_and_fetch(&requests, 1);
-    return refused && number == atol(refused);
+    return !has_ended && refused && number == atol(refused);
 }
 
 void *malloc(size_t size) {
@@ -29,6 +30,7 @@ void *realloc(void *block, size_t size) {
 __attribute__((destructor)) static void say(void) {
     const char *name = getenv("REQUESTS");
     long made = requests;
+    has_ended = 1;
     FILE *file = name ? fopen(name, "w") : NULL;
     if (file) {
         fprintf(file, "%ld\n", made);

@@ -1,24 +1,50 @@
-/* Loaded before a program, kills it at its operation on files of the number STOP, counted from 1: before that is done,
-   or, where it writes, once half of the bytes are written. */
+/* Loaded before a program, counts its operations on files and streams, from 1 on. That of the number STOP kills it: before
+   it is done, or, where it writes, once half of the bytes are written. Those of the numbers from FAIL to LAST fail: undone, but
+   for half of a write, or, where LATE is set, done all the same. */
 #define _GNU_SOURCE
 #include <dlfcn.h>
+#include <errno.h>
 #include <fcntl.h>
 #include <signal.h>
 #include <stdarg.h>
 #include <stdlib.h>
 #include <unistd.h>
 
-static int stops_here(void) {
-    static long operations;
-    const char *stop = getenv("STOP");
-    return stop && __sync_add_and_fetch(&operations, 1) == atol(stop);
+static long number(const char *name) {
+    const char *text = getenv(name);
+    return text ? atol(text) : 0;
 }
 
-static void stop(void) {
-    if (stops_here()) {
+/* Counts an operation, of which so much may be done before the program is killed, and says whether it fails. */
+static int fails(void (*half)(const void *), const void *given) {
+    static long operations;
+    long at = __sync_add_and_fetch(&operations, 1);
+    if (at == number("STOP")) {
+        if (half) {
+            half(given);
+        }
         kill(getpid(), SIGKILL);
     }
+    return number("FAIL") > 0 && number("FAIL") <= at && at <= number("LAST");
 }
+
+/* What an operation answers that was done, or fails all the same. */
+static long told(int is_failed, long answer) {
+    if (is_failed) {
+        errno = EIO;
+        return -1;
+    }
+    return answer;
+}
+
+#define ANSWER(call)                             \
+    do {                                         \
+        int is_failed = fails(NULL, NULL);       \
+        if (is_failed && !number("LATE")) {      \
+            return told(1, 0);                   \
+        }                                        \
+        return told(is_failed, (call));          \
+    } while (0)
 
 int open(const char *path, int flags, ...) {
     int (*next)(const char *, int, ...) = dlsym(RTLD_NEXT, "open");
@@ -29,45 +55,52 @@ int open(const char *path, int flags, ...) {
         mode = va_arg(rest, int);
         va_end(rest);
     }
-    stop();
-    return next(path, flags, mode);
+    ANSWER(next(path, flags, mode));
 }
 
 ssize_t read(int file, void *bytes, size_t count) {
     ssize_t (*next)(int, void *, size_t) = dlsym(RTLD_NEXT, "read");
-    stop();
-    return next(file, bytes, count);
+    ANSWER(next(file, bytes, count));
+}
+
+struct text {
+    int file;
+    const void *bytes;
+    size_t count;
+};
+
+static ssize_t write_first(const struct text *text, size_t count) {
+    ssize_t (*next)(int, const void *, size_t) = dlsym(RTLD_NEXT, "write");
+    return next(text->file, text->bytes, count);
+}
+
+static void write_half(const void *given) {
+    const struct text *text = given;
+    write_first(text, text->count / 2);
 }
 
 ssize_t write(int file, const void *bytes, size_t count) {
-    ssize_t (*next)(int, const void *, size_t) = dlsym(RTLD_NEXT, "write");
-    if (stops_here()) {
-        next(file, bytes, count / 2);
-        kill(getpid(), SIGKILL);
-    }
-    return next(file, bytes, count);
+    struct text text = {file, bytes, count};
+    int is_failed = fails(write_half, &text);
+    return told(is_failed, write_first(&text, is_failed && !number("LATE") ? count / 2 : count));
 }
 
 int fsync(int file) {
     int (*next)(int) = dlsym(RTLD_NEXT, "fsync");
-    stop();
-    return next(file);
+    ANSWER(next(file));
 }
 
 int flock(int file, int operation) {
     int (*next)(int, int) = dlsym(RTLD_NEXT, "flock");
-    stop();
-    return next(file, operation);
+    ANSWER(next(file, operation));
 }
 
 int rename(const char *from, const char *to) {
     int (*next)(const char *, const char *) = dlsym(RTLD_NEXT, "rename");
-    stop();
-    return next(from, to);
+    ANSWER(next(from, to));
 }
 
 int unlink(const char *path) {
     int (*next)(const char *) = dlsym(RTLD_NEXT, "unlink");
-    stop();
-    return next(path);
+    ANSWER(next(path));
 }
