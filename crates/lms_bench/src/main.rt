@@ -1,13 +1,13 @@
 //! Times one-time keys, trees and keys of HSS against bare SHA-256 digests.
 //!
-//! Without arguments it runs each case once and prints the cases' names. With the argument `measure` it prints for each case
-//! its time, the compressions of SHA-256 that the standard's definition needs, and the ratio of its time to that of as
-//! many bare digests of 55 bytes, each the least of several rounds. For trees that all processors build it prints the
-//! compressions a second; how many times as many these are as one thread makes with bare digests; what share they are of
-//! what such a thread on each processor makes; and how long it takes to start and join threads that do nothing. For places of
-//! pools that threads claim at once it prints the claims a second beside bare additions to one word; for batches the signatures
-//! a second that one worker and several make; and how fast job lines are read and answers written. Last come the bytes that a
-//! forest holds. With the argument `cover` it makes one such forest.
+//! Without arguments it runs each case once and prints the cases' names, and then what the cases need. With the argument
+//! `measure` it prints for each case its time, the compressions of SHA-256 that the standard's definition needs, and the
+//! ratio of its time to that of as many bare digests of 55 bytes, each the least of several rounds. For trees that all
+//! processors build it prints the compressions a second; how many times as many these are as one thread makes with bare
+//! digests; what share they are of what such a thread on each processor makes; and how long it takes to start and join
+//! threads that do nothing. For places of pools that threads claim at once it prints the claims a second beside bare
+//! additions to one word; for batches the signatures a second that one worker and several make; and how fast job lines are
+//! read and answers written. Last come the bytes that a forest holds. With the argument `cover` it makes one such forest.
 #![tactic(auto)]
 
 mod batches;
@@ -16,6 +16,7 @@ mod build;
 mod case;
 mod claims;
 mod compressions;
+mod counts;
 mod held;
 mod hierarchy;
 mod hss_bench;
@@ -24,8 +25,6 @@ mod measure;
 mod measure_batches;
 mod signed_level;
 mod stopwatch;
-#[cfg(test)]
-mod tests;
 mod workers;
 
 use crate::batches::{Batches, SMALL};
@@ -33,6 +32,7 @@ use crate::bench::{Bench, Timed};
 use crate::build::BUILDS;
 use crate::case::{CASES, Case, MESSAGE, SEED};
 use crate::claims::time_claims;
+use crate::counts::print_counts;
 use crate::held::cover;
 use crate::hierarchy::{COVERED, VERIFIED};
 use crate::hss_bench::{Signing, Verification};
@@ -55,7 +55,7 @@ fn main(rt: HostRuntime) -> Result<()> {
     }
 }
 
-/// Runs each case once and prints its name.
+/// Runs each case once and prints its name, and what the cases need.
 fn run_once(
     rt: &(impl Print + AllocGlobal + Clock + CpuClock + Threads + Wait + Sync),
 ) -> Result<()> {
@@ -78,7 +78,8 @@ fn run_once(
         time_claims(rt, workers)?;
         println!(rt; "IndexPool::claim threads={}", workers.count())?;
     }
-    run_batches_once(rt)
+    run_batches_once(rt)?;
+    print_counts(rt)
 }
 
 /// Signs four jobs by each number of workers, and four of job lines.
