@@ -191,7 +191,8 @@ fn stop_after_ten(alloc: Global, pool: &IndexPool, seat: DrawSeat) -> Drawn
     (seat, places)
 }
 
-/// Each seat claims in a thread of its own, all at once, up to `most` places; where one is to stop the pool, the first does, after ten.
+/// Each seat claims in a thread of its own, all at once, up to `most` places; where one is to stop the pool, the first does, after
+/// ten.
 fn drawn_by_all<R: Threads + Sync>(
     rt: &R,
     alloc: Global,

@@ -18,7 +18,7 @@ invariant_of-me c =
     let me = c.me.inside in
     let told = c.load-found.ensures in
     let same = ap (λ (s : SeatState). s.pool) c.me.view_is ∙ c.requires ∙ sym c.self.view_is in
-    let sees = ap (λ (p : PoolState). leb p.len c.load-found.result) (sym same) ∙ look_ends me.pool.value.len c.load-found.result in
+    let sees = c.write_change.ensures ∙ ap (λ (p : PoolState). leb p.len c.load-found.result) (sym same) ∙ look_ends me.pool.value.len c.load-found.result in
     (after_call me c.me.invariant calls.Look (Count (min c.load-found.result me.pool.value.len)) _ _ told.2 refl).stays me.stopped _ _ told.0 (omega arith) sees
 
 pub returns-clause-call : goal.returns-clause-call
