@@ -6,7 +6,7 @@ use Rattle.lms_book.specs.States.{BookState, LeaseState}
 use Rattle.lms_book.specs.Books.{ReservesInOrder}
 use Rattle.lms_shared_book.specs.Desks.{SharedState, Sums, sums, plus, Counts}
 use Rattle.lms_shared_book.specs.Shared.{IsFound}
-use Rattle.lms_batch.specs.Jobs.{JobText}
+use Rattle.lms_batch.specs.Jobs.{most_jobs, JobText}
 use Rattle.lms_batch.specs.Takes.{IsBatchOf}
 use Rattle.lms_batch.specs.declared.collector.Batch.{Batch}
 use Rattle.lms_batch.specs.declared.collector.Batch.TheVariants.{Complete, Partial}
@@ -30,7 +30,7 @@ IsBatchOfNone (Partial start slots) = ⊥
 -- what a desk counts of a batch of so many jobs: one entry, where there are any, and an index received for each
 abbrev pub CountsBatch : ℕ → Sums → Result Batch BatchFault → Sums → Type 0
 CountsBatch count old (Ok batch) new = new ≡ plus old (sums (min 1 count) count 0)
-CountsBatch count old (Err TooMany) new = (1024 < count) × (new ≡ old)
+CountsBatch count old (Err TooMany) new = (most_jobs < count) × (new ≡ old)
 CountsBatch count old (Err (Book fault)) new = Counts count old (Err fault) new
 CountsBatch count old (Err (OutOfMemory burnt)) new = (burnt ≡ count) × (new ≡ plus old (sums 1 count 0))
 

@@ -5,6 +5,10 @@ use Rattle.lms_hss.specs.Keys.{hss_key_of}
 use Rattle.lms_hss.specs.declared.key.HssKey.{HssKey as KeyOfCode}
 use Rattle.lms_batch.specs.declared.job.Job.{Job}
 
+-- the most jobs of a batch
+abbrev pub most_jobs : ℕ
+most_jobs = 1024
+
 -- a randomizer and a message
 pub record JobText : Type 0 where
   pub c : List ℕ

@@ -40,6 +40,8 @@ impl<'a> Crew<'a> {
     ) -> Result<Crew<'a>, OutOfMemory>
         ensures batch { IfOk result (λ crew. crew.collector ≡ none_of key start (texts_of jobs.now)) }
         ensures jobs { IfOk result (λ crew. crew.jobs.now ≡ jobs.now) }
+        ensures rooms { IfOk result (λ crew. vec_len crew.rooms ≡ workers) }
+        ensures none { IfOk result (λ crew. vec_len crew.workers ≡ 0) }
     {
         let collector = Collector::new(alloc, key, start, jobs)?;
         let mut rooms = Vec::with_capacity(alloc, workers)?;
@@ -54,11 +56,14 @@ impl<'a> Crew<'a> {
         })
     }
 
-    /// Gives each worker a seat of the open lease.
+    /// Makes a worker for each room, with a seat of the open lease.
     fn seated(self, lease: &'a OpenLease, seats: Vec<DrawSeat>) -> (Collector<'a>, Vec<Worker<'a>>)
         requires places { lease.now.len ≡ length self.jobs.now }
         requires own { All (λ seat. seat.pool ≡ lease.now) seats.items }
-        ensures { result.0 ≡ self.entry.collector }
+        requires rooms { vec_len self.rooms ≡ vec_len seats }
+        requires none { vec_len self.workers ≡ 0 }
+        ensures collector { result.0 ≡ self.entry.collector }
+        ensures workers { vec_len result.1 ≡ vec_len seats }
     {
         let Crew {
             collector,
@@ -67,7 +72,10 @@ impl<'a> Crew<'a> {
             mut workers,
         } = self;
         let mut seats = seats;
-        while let (Some(seat), Some(room)) = (seats.pop(), rooms.pop()) {
+        while let Some(room) = rooms.pop() {
+            let Some(seat) = seats.pop() else {
+                unreachable!()
+            };
             workers.push_reserved(Worker::new(lease, jobs, seat, room));
         }
         (collector, workers)
@@ -114,13 +122,11 @@ pub(crate) fn sign_leased<R: Threads + Sync, G: Gate>(
     let (opened, seats) = OpenLease::new(rt, alloc, lease, workers)?;
     let (collector, mut workers) = crew.seated(&opened, seats);
     let threads = workers.len();
-    if threads > 0 {
-        thread::for_each_mut(
-            rt,
-            &mut workers,
-            threads,
-            &|_, worker: &mut Worker| { worker.work(gate) },
-        );
-    }
+    thread::for_each_mut(
+        rt,
+        &mut workers,
+        threads,
+        &|_, worker: &mut Worker| { worker.work(gate) },
+    );
     Ok(gathered(collector, workers))
 }

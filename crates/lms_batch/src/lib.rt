@@ -17,7 +17,7 @@ mod worker;
 
 pub use crate::collector::{Batch, Collector, TakeFault};
 pub use crate::gate::{Gate, OpenGate};
-pub use crate::job::Job;
+pub use crate::job::{Job, MOST_JOBS};
 pub use crate::open_lease::{OpenLease, SignFault};
 pub use crate::receipt::Receipt;
 pub use crate::service::{BatchFault, SigningService};

@@ -2,13 +2,13 @@
 ghost use Rattle.std.specs.Prelude.{◌≡◌, ◌<◌, ◌≤◌, ◌+◌, ◌↔◌, Err, IfOk, IsOk, length};
 ghost use Rattle.lms_spec.specs.Hss.{capacity_of};
 ghost use Rattle.lms_hss.specs.Keys.{hss_key_of};
-ghost use Rattle.lms_batch.specs.Jobs.{texts_of};
+ghost use Rattle.lms_batch.specs.Jobs.{most_jobs, texts_of};
 ghost use Rattle.lms_batch.specs.Answers.{IsAnswerTo, IsBatchOfNone, CountsBatch, CouldBeReserved, start_of};
 
 use crate::collector::Batch;
 use crate::crew::sign_leased;
 use crate::gate::Gate;
-use crate::job::Job;
+use crate::job::{Job, MOST_JOBS};
 use lms_book::{BookFault, StateStore};
 use lms_hss::HssKey;
 use lms_shared_book::{Desk, SharedBook, Tally};
@@ -24,7 +24,7 @@ mod tests;
 /// Why no batch was made.
 #[derive(Clone, Copy, Debug, PartialEq, Eq, Error)]
 pub enum BatchFault {
-    /// There are more than 1024 jobs.
+    /// There are more than `MOST_JOBS` jobs.
     #[error("too many jobs")]
     TooMany,
     /// The reservation was refused.
@@ -71,12 +71,12 @@ impl<S: StateStore, E: Tally, G: Tally, B: Tally> SigningService<S, E, G, B> {
         self.book
     }
 
-    /// Reserves as many indices as there are jobs, 1 to 1024, from a start on, and signs the job at place k, counted from 0, by
+    /// Reserves as many indices as there are jobs, 1 to `MOST_JOBS`, from a start on, and signs the job at place k, counted from 0, by
     /// index start + k: by 1 to 64 workers at once, the caller's thread among them, but no more than there are jobs. Waits for
     /// the book's lock, and for the workers. For no jobs it answers `Complete` with start 0 and no signatures, and reserves
     /// nothing.
     ///
-    /// `TooMany` over 1024 jobs, with nothing reserved. `Book` where the reservation is refused, as `SharedBook::reserve`
+    /// `TooMany` over `MOST_JOBS` jobs, with nothing reserved. `Book` where the reservation is refused, as `SharedBook::reserve`
     /// answers it. `OutOfMemory` where memory is refused after it, before any worker ran: its indices sign nothing. A worker
     /// that is refused memory burns the index that it claimed and those that nobody has claimed yet; the batch is then
     /// `Partial`. The desk counts the reservation as `SharedBook::reserve` says, so all indices as received, also at `Partial`
@@ -95,11 +95,11 @@ impl<S: StateStore, E: Tally, G: Tally, B: Tally> SigningService<S, E, G, B> {
         ensures answer { IfOk result (λ batch. IsAnswerTo self.now.book.key (start_of batch) (texts_of jobs.now) batch) }
         ensures within { IfOk result (λ batch. start_of batch + length jobs.now ≤ capacity_of (hss_key_of self.now.book.key)) }
         ensures none { length jobs.now ≡ 0 → IsOk result × IfOk result IsBatchOfNone }
-        ensures too_many { (result ≡ Err BatchFault.TooMany) ↔ (1024 < length jobs.now) }
+        ensures too_many { (result ≡ Err BatchFault.TooMany) ↔ (most_jobs < length jobs.now) }
         ensures desk { CountsBatch (length jobs.now) desk.old result desk.new }
-        ensures lawful { 1 ≤ length jobs.now → length jobs.now ≤ 1024 → CouldBeReserved self.now desk.old (length jobs.now) result }
+        ensures lawful { 1 ≤ length jobs.now → length jobs.now ≤ most_jobs → CouldBeReserved self.now desk.old (length jobs.now) result }
     {
-        if jobs.len() > 1024 {
+        if jobs.len() > MOST_JOBS {
             return Err(BatchFault::TooMany);
         }
         if jobs.is_empty() {

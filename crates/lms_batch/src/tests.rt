@@ -67,8 +67,18 @@ fn signed_at_last<'j>(
     }
 }
 
-/// Signs a job with a pass.
+/// Signs a job with a pass, and again with the pass that is handed back where memory was refused.
 fn signed_with<'j>(lease: &OpenLease, pass: IndexPass, job: &'j Job) -> Result<Receipt<'j>, Fail>
+    requires { pass.pool ≡ lease.now }
+{
+    match lease.sign_with(pass, job) {
+        Ok(receipt) => Ok(receipt),
+        Err((_, pass)) => signed_again(lease, pass, job),
+    }
+}
+
+/// Signs a job with a pass at the second try.
+fn signed_again<'j>(lease: &OpenLease, pass: IndexPass, job: &'j Job) -> Result<Receipt<'j>, Fail>
     requires { pass.pool ≡ lease.now }
 {
     let signed = lease.sign_with(pass, job);
@@ -267,12 +277,15 @@ fn collector_of(alloc: Global, jobs: &[Job]) -> Result<Collector<'_>, Fail> {
 /// `tests/refused` refuses each request for memory in turn.
 #[test]
 fn a_lease_signs_after_refused_memory(rt: HostRuntime) -> Result<(), Fail> {
-    let jobs = [job(rt.alloc(), b"abc")?];
-    let (lease, mut seat) = opened(&rt, 0x11, 5, 1)?;
-    let receipt = signed_at_last(&lease, &mut seat, &jobs[0])?;
-    assert_eq!(rt; (receipt.place(), receipt.index()), (0, 5));
+    let jobs = [job(rt.alloc(), b"abc")?, job(rt.alloc(), b"")?];
+    let (lease, mut seat) = opened(&rt, 0x11, 5, 2)?;
+    let first = signed_at_last(&lease, &mut seat, &jobs[0])?;
+    assert_eq!(rt; (first.place(), first.index()), (0, 5));
+    let second = signed_after_claim(&lease, &mut seat, &jobs[1])?;
+    assert_eq!(rt; (second.place(), second.index()), (1, 6));
     let mut collector = collector_of(rt.alloc(), &jobs)?;
-    assert_eq!(rt; refusal(&mut collector, receipt), None);
+    assert_eq!(rt; refusal(&mut collector, first), None);
+    assert_eq!(rt; refusal(&mut collector, second), None);
     assert!(rt;
         matches!(
             collector.finish(),

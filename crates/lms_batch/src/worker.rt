@@ -1,8 +1,9 @@
 //! Workers, each of which signs the jobs of the places that it claims.
-ghost use Rattle.std.specs.Prelude.{◌≡◌, ◌+◌, ◌≤◌, IfSome, IfNone, length, vec_len, vec_capacity};
+ghost use Rattle.std.specs.Prelude.{◌≡◌, ◌+◌, ◌≤◌, Some, IfSome, IfNone, length, slice_get, vec_len, vec_capacity};
 ghost use Rattle.lms_pool.specs.declared.history.Call.TheVariants.{Claim};
 ghost use Rattle.lms_pool.specs.declared.history.Reply.TheVariants.{Place};
 ghost use Rattle.lms_pool.specs.States.{Calls, seen};
+ghost use Rattle.lms_batch.specs.Jobs.{texts_of};
 
 use crate::gate::Gate;
 use crate::job::Job;
@@ -63,6 +64,7 @@ impl<'a> Worker<'a> {
     /// the pool stopped.
     fn sign_next<G: Gate>(&mut self, gate: &G) -> Option<Receipt<'a>>
         ensures one_claim { IfSome result (λ signed. Calls self.old.seat Claim (Place signed.place) self.new.seat) }
+        ensures job { IfSome result (λ signed. slice_get (texts_of self.old.jobs.now) signed.place ≡ Some signed.job) }
         ensures none { IfNone result (seen self.new.seat ≡ self.new.lease.now.len) }
         ensures to_sign { self.new.to_sign ≡ self.old.to_sign }
     {

@@ -4,12 +4,14 @@ use Rattle.std.proofs.lemmas.List.Elements.{All-pop}
 use Rattle.lms_pool.specs.States.{SeatState}
 use Rattle.lms_batch.proofs.crew.Crew.seated.Goals as goal
 
-pub loop-seat-preserved : goal.loop-seat-preserved
-loop-seat-preserved c =
-    let inv = c.loop-seat.invariant in
+pub loop-room-preserved : goal.loop-room-preserved
+loop-room-preserved c =
+    let inv = c.loop-room.invariant in
     let pushed = c.push_reserved.ensures in
     record {
-      room = (All-pop (λ (room : _). (vec_len room ≡ 0) × (length c.args.self.jobs.now ≤ vec_capacity room)) _ _ _ c.pop-in-loop-seat.ensures.items inv.room).0;
-      fits = omega (arith, inv.fits, c.in-Some-Some.ensures'.len, pushed.len, pushed.capacity);
-      own = (All-pop (λ (seat : SeatState). seat.pool ≡ c.args.lease.now) _ _ _ c.pop.ensures.items inv.own).0;
+      room = (All-pop (λ (room : _). (vec_len room ≡ 0) × (length c.args.self.jobs.now ≤ vec_capacity room)) _ _ _ c.pop.ensures.items inv.room).0;
+      fits = omega (arith, inv.fits, c.in-Some.ensures.len, pushed.len, pushed.capacity);
+      own = (All-pop (λ (seat : SeatState). seat.pool ≡ c.args.lease.now) _ _ _ c.pop-in-Some.ensures.items inv.own).0;
+      each = omega (arith, inv.each, c.in-Some.ensures.len, c.in-Some-pop.ensures.len);
+      count = omega (arith, inv.count, c.in-Some.ensures.len, pushed.len);
     }
