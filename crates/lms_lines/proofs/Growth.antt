@@ -1,6 +1,6 @@
 use Rattle.std.proofs.Common.{◌≡◌, ◌<◌, ◌≤◌, ◌+◌, ℕ, List, [], ◌∷◌, ◌++◌, length, refl, sym, ap, ◌∙◌, subst, append_assoc, append-nil, length-append, eq-or-lt_of_le, inl, inr, arith}
-use Rattle.lms_batch.specs.Jobs.{JobText}
-use Rattle.lms_lines.specs.JobLines.{IsJobLine}
+use Rattle.lms_batch.specs.Jobs.{most_jobs, JobText}
+use Rattle.lms_lines.specs.JobLines.{longest_line, IsJobLine}
 use Rattle.lms_lines.specs.TextLines.{lines_of}
 use Rattle.lms_lines.specs.JobsTexts.{AreJobLines, IsJobsText, IsFirstBadLine, HasTooManyJobs}
 use Rattle.lms_lines.specs.Gathered.{HasNoEnd, Gathered, after_part, after_line, IsGatheredFrom}
@@ -13,7 +13,7 @@ job-lines-more (l ∷ lines) [] line job good last = absurd good
 job-lines-more (l ∷ lines) (j ∷ jobs) line job good last = (good.0, job-lines-more lines jobs line job good.1 last)
 
 -- a job line is no longer than this
-pub job-line-short : (line : List ℕ) (job : JobText) → IsJobLine line job → length line ≤ 131137
+pub job-line-short : (line : List ℕ) (job : JobText) → IsJobLine line job → length line ≤ longest_line
 job-line-short line job p =
     let whole : length line ≡ length (p.c_digits ++ 32 ∷ p.message_digits) = ap length p.parts in
     let parts : length (p.c_digits ++ 32 ∷ p.message_digits) ≡ length p.c_digits + length (32 ∷ p.message_digits) = length-append p.c_digits (32 ∷ p.message_digits) in
@@ -25,9 +25,9 @@ pub record LongLine (text : List ℕ) : Type 0 where
   pub bad : List ℕ
   pub after : List (List ℕ)
   pub parts : lines_of text ≡ bad ∷ after
-  pub long : 131137 < length bad
+  pub long : longest_line < length bad
 
-long-line : (start rest : List ℕ) → HasNoEnd start → 131137 < length start → LongLine (start ++ rest)
+long-line : (start rest : List ℕ) → HasNoEnd start → longest_line < length start → LongLine (start ++ rest)
 long-line [] rest one long = absurd (let h : ⊥ = omega arith in h)
 long-line (x ∷ front) rest one long =
     let line = begins-line x front rest one in
@@ -42,7 +42,7 @@ unfolding lines_of
 no-lines lines = append-nil lines
 
 -- where a line has begun, there is room for its job
-not-full : (g : Gathered) {done : List ℕ} → IsGatheredFrom done g → 0 < length g.line → length g.jobs < 1024
+not-full : (g : Gathered) {done : List ℕ} → IsGatheredFrom done g → 0 < length g.line → length g.jobs < most_jobs
 not-full g was some =
     elim (eq-or-lt_of_le was.count) [
       | inl all ↦ absurd (let none : length g.line ≡ 0 = ap length (was.full all) in let h : ⊥ = omega arith in h)
@@ -50,7 +50,7 @@ not-full g was some =
     ]
 
 module _ (done : List ℕ) (g : Gathered) (was : IsGatheredFrom done g) where
-  pub gathered-part : (part : List ℕ) → HasNoEnd part → length g.line + length part ≤ 131137 → length g.jobs < 1024 → IsGatheredFrom (done ++ part) (after_part g part)
+  pub gathered-part : (part : List ℕ) → HasNoEnd part → length g.line + length part ≤ longest_line → length g.jobs < most_jobs → IsGatheredFrom (done ++ part) (after_part g part)
   gathered-part part one short few = record {
     lines = was.lines;
     good = was.good;
@@ -62,7 +62,7 @@ module _ (done : List ℕ) (g : Gathered) (was : IsGatheredFrom done g) where
     size = let len = length-append g.line part in let read = length-append done part in let size = was.size in omega arith;
   }
 
-  pub gathered-line : (job : JobText) → IsJobLine g.line job → length g.jobs < 1024 → IsGatheredFrom (done ++ 10 ∷ []) (after_line g job)
+  pub gathered-line : (job : JobText) → IsJobLine g.line job → length g.jobs < most_jobs → IsGatheredFrom (done ++ 10 ∷ []) (after_line g job)
   gathered-line job is few = record {
     lines = was.lines ++ g.line ∷ [];
     good = job-lines-more was.lines g.jobs g.line job was.good is;
@@ -74,9 +74,9 @@ module _ (done : List ℕ) (g : Gathered) (was : IsGatheredFrom done g) where
     size = let len = length-append g.jobs (job ∷ []) in let read = length-append done (10 ∷ []) in let size = was.size in let short = was.short in omega arith;
   }
 
-  pub bad-long : (part rest : List ℕ) → HasNoEnd part → 131137 < length g.line + length part → length g.jobs < 1024 → IsFirstBadLine (done ++ (part ++ rest)) (length g.jobs + 1)
+  pub bad-long : (part rest : List ℕ) → HasNoEnd part → longest_line < length g.line + length part → length g.jobs < most_jobs → IsFirstBadLine (done ++ (part ++ rest)) (length g.jobs + 1)
   bad-long part rest one long few =
-      let size : 131137 < length (g.line ++ part) = let len = length-append g.line part in omega arith in
+      let size : longest_line < length (g.line ++ part) = let len = length-append g.line part in omega arith in
       let line = long-line (g.line ++ part) rest (no-end-append g.line part was.one_line one) size in record {
         before = was.lines;
         bad = line.bad;
@@ -89,13 +89,13 @@ module _ (done : List ℕ) (g : Gathered) (was : IsGatheredFrom done g) where
         count = few;
       }
 
-  pub bad-line : (rest : List ℕ) → ((job : JobText) → ¬ IsJobLine g.line job) → length g.jobs < 1024 → IsFirstBadLine (done ++ 10 ∷ rest) (length g.jobs + 1)
-  bad-line rest none few = record {
+  pub bad-line : (part rest : List ℕ) → HasNoEnd part → ((job : JobText) → ¬ IsJobLine (g.line ++ part) job) → length g.jobs < most_jobs → IsFirstBadLine (done ++ (part ++ 10 ∷ rest)) (length g.jobs + 1)
+  bad-line part rest one none few = record {
     before = was.lines;
-    bad = g.line;
+    bad = g.line ++ part;
     after = lines_of rest;
     jobs = g.jobs;
-    parts = was.whole (10 ∷ rest) ∙ ap (λ l. was.lines ++ l) (lines-end g.line rest was.one_line);
+    parts = was.whole (part ++ 10 ∷ rest) ∙ ap (λ l. was.lines ++ lines_of l) (sym (append_assoc g.line part (10 ∷ rest))) ∙ ap (λ l. was.lines ++ l) (lines-end (g.line ++ part) rest (no-end-append g.line part was.one_line one));
     good = was.good;
     is_bad = none;
     place = refl;
@@ -105,7 +105,7 @@ module _ (done : List ℕ) (g : Gathered) (was : IsGatheredFrom done g) where
   all-lines : lines_of done ≡ was.lines ++ lines_of g.line
   all-lines = ap lines_of (sym (append-nil done)) ∙ was.whole [] ∙ ap (λ l. was.lines ++ lines_of l) (append-nil g.line)
 
-  few-jobs : 0 < length g.line → length g.jobs < 1024
+  few-jobs : 0 < length g.line → length g.jobs < most_jobs
   few-jobs some = not-full g was some
 
   pub bad-last : 0 < length g.line → ((job : JobText) → ¬ IsJobLine g.line job) → IsFirstBadLine done (length g.jobs + 1)
@@ -121,9 +121,9 @@ module _ (done : List ℕ) (g : Gathered) (was : IsGatheredFrom done g) where
     count = few-jobs some;
   }
 
-  pub too-many : (x : ℕ) (rest : List ℕ) → 1024 ≤ length g.jobs → HasTooManyJobs (done ++ (x ∷ rest))
+  pub too-many : (x : ℕ) (rest : List ℕ) → most_jobs ≤ length g.jobs → HasTooManyJobs (done ++ (x ∷ rest))
   too-many x rest all =
-      let count : length g.jobs ≡ 1024 = let most = was.count in omega arith in
+      let count : length g.jobs ≡ most_jobs = let most = was.count in omega arith in
       let line = has-line x rest in record {
         before = was.lines;
         next = line.first;

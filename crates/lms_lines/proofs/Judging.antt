@@ -4,8 +4,8 @@ use Rattle.std.proofs.lemmas.Bool.{true≢false, cases_eq, cases_lt}
 use Rattle.std.proofs.lemmas.List.{length-drop, length-take-le, take-append-drop}
 use Rattle.hex.specs.Hex.{decode_of, decode_sized}
 use Rattle.hex.specs.declared.error.FromHexError.{FromHexError}
-use Rattle.lms_batch.specs.Jobs.{JobText}
-use Rattle.lms_lines.specs.JobLines.{IsJobLine}
+use Rattle.lms_batch.specs.Jobs.{most_jobs, JobText}
+use Rattle.lms_lines.specs.JobLines.{most_digits, IsJobLine}
 use Rattle.lms_lines.specs.TextLines.{lines_of}
 use Rattle.lms_lines.specs.JobsTexts.{AreJobLines}
 use Rattle.lms_lines.specs.JobsLaws.{HasSomeOutcome}
@@ -20,7 +20,7 @@ IsJudged line = ((job : JobText) × IsJobLine line job) ⊎ ((job : JobText) →
 message-line : (line digits : List ℕ) (job : JobText) (p : IsJobLine line job) → drop 64 line ≡ 32 ∷ digits → digits ≡ p.message_digits
 message-line line digits job p cut = ap (drop 1) (sym cut ∙ rest-line line job p)
 
-judged-texts : (line digits : List ℕ) (c message : Result (List ℕ) FromHexError) → drop 64 line ≡ 32 ∷ digits → length digits ≤ 131072 → decode_sized (take 64 line) 32 ≡ c → decode_of digits ≡ message → IsJudged line
+judged-texts : (line digits : List ℕ) (c message : Result (List ℕ) FromHexError) → drop 64 line ≡ 32 ∷ digits → length digits ≤ most_digits → decode_sized (take 64 line) 32 ≡ c → decode_of digits ≡ message → IsJudged line
 judged-texts line digits (Ok c) (Ok message) cut short of_c of_message =
     inl (
       record { c = c; message = message },
@@ -41,7 +41,7 @@ judged-texts line digits (Ok c) (Err e) cut short of_c of_message =
 
 judged-digits : (line digits : List ℕ) → drop 64 line ≡ 32 ∷ digits → IsJudged line
 judged-digits line digits cut =
-    elim (cases_lt 131072 (length digits)) [
+    elim (cases_lt most_digits (length digits)) [
       | inl long ↦ inr (λ job p. let same = ap length (message-line line digits job p cut) in let most = p.message_len in omega (arith, long, same, most))
       | inr short ↦ judged-texts line digits (decode_sized (take 64 line) 32) (decode_of digits) cut short refl refl
     ]
@@ -58,7 +58,7 @@ pub judged : (line : List ℕ) → IsJudged line
 judged line = judged-rest line (drop 64 line) refl
 
 -- the lines that come after good ones are judged one after another
-outcome-from : (text : List ℕ) (before lines : List (List ℕ)) (jobs : List JobText) → lines_of text ≡ before ++ lines → AreJobLines before jobs → length jobs ≤ 1024 → HasSomeOutcome text
+outcome-from : (text : List ℕ) (before lines : List (List ℕ)) (jobs : List JobText) → lines_of text ≡ before ++ lines → AreJobLines before jobs → length jobs ≤ most_jobs → HasSomeOutcome text
 outcome-from text before [] jobs parts good most =
     inl (jobs, record { each = subst (λ (l : List (List ℕ)). AreJobLines l jobs) (sym (parts ∙ append-nil before)) good; count = most })
 outcome-from text before (line ∷ lines) jobs parts good most =

@@ -3,7 +3,6 @@ pub mod Fronts
 pub mod LineLemmas
 pub mod Growth
 pub mod Steps
-pub mod Numerals
 pub mod Outcomes
 pub mod Judging
 pub mod SignedLines

@@ -4,7 +4,7 @@ use Rattle.std.proofs.lemmas.List.{length-map}
 use Rattle.lms_spec.specs.Hss.{capacity_of}
 use Rattle.lms_hss.specs.Keys.{hss_key_of}
 use Rattle.lms_shared_book.specs.Desks.{SharedState, Sums}
-use Rattle.lms_batch.specs.Jobs.{text_of, texts_of}
+use Rattle.lms_batch.specs.Jobs.{most_jobs, text_of, texts_of}
 use Rattle.lms_batch.specs.Answers.{CouldBeReserved, CountsBatch, IsAnswerTo, start_of}
 use Rattle.lms_batch.specs.declared.collector.Batch.{Batch}
 use Rattle.lms_batch.specs.declared.job.Job.{Job}
@@ -17,12 +17,12 @@ module _ (shared : SharedState) (old_input new_input : Option (List ℕ)) (befor
   count : length lent ≡ length (map text_of jobs)
   count = ap length same ∙ sym (length-map jobs text_of)
 
-  few : length lent ≤ 1024
+  few : length lent ≤ most_jobs
   few = omega (arith, count, read.is_text.count)
 
   pub batch_read : (batch : Batch) → IsAnswerTo shared.book.key (start_of batch) (texts_of lent) batch
       → start_of batch + length lent ≤ capacity_of (hss_key_of shared.book.key) → CountsBatch (length lent) before (Ok batch) after
-      → (1 ≤ length lent → length lent ≤ 1024 → CouldBeReserved shared before (length lent) (Ok batch))
+      → (1 ≤ length lent → length lent ≤ most_jobs → CouldBeReserved shared before (length lent) (Ok batch))
       → (is : IsBatchRead shared old_input new_input before after batch) × (length is.jobs ≡ length jobs)
   batch_read batch answer within counted reserved = (
     record {
@@ -36,8 +36,8 @@ module _ (shared : SharedState) (old_input new_input : Option (List ℕ)) (befor
     length-map jobs text_of,
   )
 
-  pub batch_refused : (fault : BatchFault) → (1 ≤ length lent) → CountsBatch (length lent) before (Err fault) after → (fault ≡ TooMany → 1024 < length lent)
-      → (1 ≤ length lent → length lent ≤ 1024 → CouldBeReserved shared before (length lent) (Err fault))
+  pub batch_refused : (fault : BatchFault) → (1 ≤ length lent) → CountsBatch (length lent) before (Err fault) after → (fault ≡ TooMany → most_jobs < length lent)
+      → (1 ≤ length lent → length lent ≤ most_jobs → CouldBeReserved shared before (length lent) (Err fault))
       → IsBatchRefused shared old_input new_input before after fault
   batch_refused fault some counted many reserved = record {
     jobs = map text_of jobs;

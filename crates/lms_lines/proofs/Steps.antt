@@ -1,14 +1,15 @@
-use Rattle.std.proofs.Common.{◌≡◌, ◌<◌, ◌≤◌, ◌+◌, inl, inr, ℕ, suc, add-one, List, [], ◌∷◌, ◌++◌, length, take, drop, get_or, Result, Ok, Err, IfErr, IsErrAnd, Option, None, Some, IfSome, refl, sym, ap, ◌∙◌, subst, append_assoc, append-nil, drop-cons, arith}
+use Rattle.std.proofs.Common.{◌≡◌, ◌<◌, ◌≤◌, ◌+◌, inl, inr, ℕ, suc, add-one, List, [], ◌∷◌, ◌++◌, length, take, drop, get_or, Bool, true, false, length-append, Result, Ok, Err, IfErr, IsErrAnd, Option, None, Some, IfSome, refl, sym, ap, ◌∙◌, subst, append_assoc, append-nil, drop-cons, arith}
+use Rattle.std.proofs.lemmas.Bool.{true≢false, cases_lt}
 use Rattle.std.proofs.lemmas.List.{take-append-drop}
 use Rattle.std.proofs.Math.Seq.{take-suc, take-append_seam}
 use Rattle.std.specs.Io.KnownBytes.{Consumes, IsAtEnd, Keeps}
-use Rattle.lms_batch.specs.Jobs.{JobText}
-use Rattle.lms_lines.specs.JobLines.{IsJobLine}
+use Rattle.lms_batch.specs.Jobs.{most_jobs, JobText}
+use Rattle.lms_lines.specs.JobLines.{longest_line, IsJobLine}
 use Rattle.lms_lines.specs.JobsTexts.{IsFaultOf}
 use Rattle.lms_lines.specs.Gathered.{HasNoEnd, Gathered, after_part, after_line, IsGatheredFrom, IsRefusal, Advances, Fails}
 use Rattle.lms_lines.specs.declared.fault.JobsFault.{JobsFault}
 use Rattle.lms_lines.specs.declared.fault.JobsFault.TheVariants.{TooManyJobs, BadJob}
-use Rattle.lms_lines.proofs.Growth.{gathered-part, gathered-line, bad-long, bad-line, bad-last, too-many}
+use Rattle.lms_lines.proofs.Growth.{job-line-short, gathered-part, gathered-line, bad-long, bad-line, bad-last, too-many}
 
 -- a `?` that hands on the same fault
 pub IfErr-same : {A E : Type 0} (P : E → Type 0) (r : Result A E) (fault : E) → IsErrAnd r (λ e. e ≡ fault) → P fault → IfErr r P
@@ -24,31 +25,52 @@ pub take-through-at : (xs : List ℕ) (at x : ℕ) → at < length xs → get_or
 take-through-at xs at x below is =
     ap (λ (n : ℕ). take n xs) (add-one at) ∙ take-suc xs at 0 below ∙ ap (λ (y : ℕ). take at xs ++ y ∷ []) is
 
-pub fails-full : (g : Gathered) (bytes : List ℕ) → 0 < length bytes → 1024 ≤ length g.jobs → Fails g bytes TooManyJobs
+pub fails-full : (g : Gathered) (bytes : List ℕ) → 0 < length bytes → most_jobs ≤ length g.jobs → Fails g bytes TooManyJobs
 fails-full g [] some all = absurd (let h : ⊥ = omega arith in h)
 fails-full g (x ∷ bytes) some all = λ done rest was. too-many done g was x (bytes ++ rest) all
 
-pub fails-long : (g : Gathered) (part tail : List ℕ) (fault : JobsFault) → IsRefusal g fault (131137 < length g.line + length part) → HasNoEnd part → length g.jobs < 1024 → Fails g (part ++ tail) fault
+pub fails-long : (g : Gathered) (part tail : List ℕ) (fault : JobsFault) → IsRefusal g fault (longest_line < length g.line + length part) → HasNoEnd part → length g.jobs < most_jobs → Fails g (part ++ tail) fault
 fails-long g part tail fault (inl memory) one few = λ done rest was. subst (IsFaultOf (done ++ ((part ++ tail) ++ rest))) (sym memory) tt
 fails-long g part tail fault (inr bad) one few = λ done rest was.
     subst (IsFaultOf (done ++ ((part ++ tail) ++ rest))) (sym bad.0)
     (subst (λ (l : List ℕ). IsFaultOf (done ++ l) (BadJob (length g.jobs + 1))) (sym (append_assoc part tail rest)) (bad-long done g was part (tail ++ rest) one bad.1 few))
 
-pub fails-line : (g : Gathered) (part tail : List ℕ) (fault : JobsFault) → IsRefusal (after_part g part) fault ((job : JobText) → ¬ IsJobLine (g.line ++ part) job) → HasNoEnd part → length g.line + length part ≤ 131137 → length g.jobs < 1024 → Fails g (part ++ 10 ∷ tail) fault
-fails-line g part tail fault (inl memory) one short few = λ done rest was. subst (IsFaultOf (done ++ ((part ++ 10 ∷ tail) ++ rest))) (sym memory) tt
-fails-line g part tail fault (inr bad) one short few = λ done rest was.
-    let text : (done ++ part) ++ 10 ∷ (tail ++ rest) ≡ done ++ ((part ++ 10 ∷ tail) ++ rest)
-    = append_assoc done part (10 ∷ (tail ++ rest)) ∙ ap (λ l. done ++ l) (sym (append_assoc part (10 ∷ tail) rest)) in
+pub fails-line : (g : Gathered) (part tail : List ℕ) (fault : JobsFault) → IsRefusal g fault ((job : JobText) → ¬ IsJobLine (g.line ++ part) job) → HasNoEnd part → length g.jobs < most_jobs → Fails g (part ++ 10 ∷ tail) fault
+fails-line g part tail fault (inl memory) one few = λ done rest was. subst (IsFaultOf (done ++ ((part ++ 10 ∷ tail) ++ rest))) (sym memory) tt
+fails-line g part tail fault (inr bad) one few = λ done rest was.
     subst (IsFaultOf (done ++ ((part ++ 10 ∷ tail) ++ rest))) (sym bad.0)
-    (subst (λ (l : List ℕ). IsFaultOf l (BadJob (length g.jobs + 1))) text (bad-line (done ++ part) (after_part g part) (gathered-part done g was part one short few) (tail ++ rest) bad.1 few))
+    (subst (λ (l : List ℕ). IsFaultOf (done ++ l) (BadJob (length g.jobs + 1))) (sym (append_assoc part (10 ∷ tail) rest)) (bad-line done g was part (tail ++ rest) one bad.1 few))
 
-pub advances-part : (g : Gathered) (part : List ℕ) → HasNoEnd part → length g.line + length part ≤ 131137 → length g.jobs < 1024 → Advances g (after_part g part) part
+pub advances-part : (g : Gathered) (part : List ℕ) → HasNoEnd part → length g.line + length part ≤ longest_line → length g.jobs < most_jobs → Advances g (after_part g part) part
 advances-part g part one short few = λ done was. gathered-part done g was part one short few
 
-pub advances-line : (g : Gathered) (part : List ℕ) (job : JobText) → IsJobLine (g.line ++ part) job → HasNoEnd part → length g.line + length part ≤ 131137 → length g.jobs < 1024 → Advances g (after_line (after_part g part) job) (part ++ 10 ∷ [])
-advances-line g part job is one short few = λ done was.
-    subst (λ (l : List ℕ). IsGatheredFrom l (after_line (after_part g part) job)) (append_assoc done part (10 ∷ []))
+pub advances-line : (g : Gathered) (part : List ℕ) (job : JobText) → IsJobLine (g.line ++ part) job → HasNoEnd part → length g.jobs < most_jobs → Advances g (after_line g job) (part ++ 10 ∷ [])
+advances-line g part job is one few = λ done was.
+    let short : length g.line + length part ≤ longest_line =
+    let len = length-append g.line part in
+    let most = job-line-short (g.line ++ part) job is in
+    omega (arith, len, most) in
+    subst (λ (l : List ℕ). IsGatheredFrom l (after_line g job)) (append_assoc done part (10 ∷ []))
     (gathered-line (done ++ part) (after_part g part) (gathered-part done g was part one short few) job is few)
+
+-- a line that is too long is none of a job
+pub refused-long : (g : Gathered) (part : List ℕ) (fault : JobsFault) → IsRefusal g fault (longest_line < length g.line + length part) → IsRefusal g fault ((job : JobText) → ¬ IsJobLine (g.line ++ part) job)
+refused-long g part fault (inl memory) = inl memory
+refused-long g part fault (inr bad) = inr (
+  bad.0,
+  λ job is.
+      let len = length-append g.line part in
+      let most = job-line-short (g.line ++ part) job is in
+      omega (arith, len, most, bad.1),
+)
+
+-- a list of fewer jobs than there may be is not full
+pub few-jobs : (is_full : Bool) (n : ℕ) → (is_full ≡ true → most_jobs ≤ n) × (most_jobs ≤ n → is_full ≡ true) → is_full ≡ false → n < most_jobs
+few-jobs is_full n tells not =
+    elim (cases_lt n most_jobs) [
+      | inl less ↦ less
+      | inr more ↦ absurd (true≢false (sym (tells.1 more) ∙ not))
+    ]
 
 pub advances-both : (a b c : Gathered) (xs ys : List ℕ) → Advances a b xs → Advances b c ys → Advances a c (xs ++ ys)
 advances-both a b c xs ys p q = λ done was. subst (λ (l : List ℕ). IsGatheredFrom l c) (append_assoc done xs ys) (q (done ++ xs) (p done was))

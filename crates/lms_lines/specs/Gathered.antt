@@ -1,6 +1,7 @@
 -- What the reading of a text has come to.
 use Rattle.std.specs.Prelude.{◌≡◌, ◌≢◌, ℕ, ◌+◌, ◌*◌, ◌≤◌, ◌⊎◌, List, [], ◌∷◌, ◌++◌, length, map}
-use Rattle.lms_batch.specs.Jobs.{JobText, text_of}
+use Rattle.lms_batch.specs.Jobs.{most_jobs, JobText, text_of}
+use Rattle.lms_lines.specs.JobLines.{longest_line}
 use Rattle.lms_lines.specs.TextLines.{lines_of}
 use Rattle.lms_lines.specs.JobsTexts.{AreJobLines, IsFaultOf}
 use Rattle.lms_lines.specs.declared.fault.JobsFault.{JobsFault}
@@ -38,10 +39,10 @@ pub record IsGatheredFrom (done : List ℕ) (g : Gathered) : Type 0 where
   pub good : AreJobLines lines g.jobs
   pub whole : (rest : List ℕ) → lines_of (done ++ rest) ≡ lines ++ lines_of (g.line ++ rest)
   pub one_line : HasNoEnd g.line
-  pub short : length g.line ≤ 131137
-  pub count : length g.jobs ≤ 1024
-  pub full : length g.jobs ≡ 1024 → g.line ≡ []
-  pub size : length done ≤ length g.jobs * 131138 + length g.line
+  pub short : length g.line ≤ longest_line
+  pub count : length g.jobs ≤ most_jobs
+  pub full : length g.jobs ≡ most_jobs → g.line ≡ []
+  pub size : length done ≤ length g.jobs * (longest_line + 1) + length g.line
 
 -- after these bytes more
 abbrev pub Advances : Gathered → Gathered → List ℕ → Type 0

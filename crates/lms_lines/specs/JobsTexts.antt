@@ -1,7 +1,7 @@
 -- Texts of job lines: their jobs, or their fault.
 use Rattle.std.specs.Prelude.{◌≡◌, ℕ, ◌+◌, ◌<◌, ◌≤◌, List, [], ◌∷◌, ◌++◌, length, Option}
 use Rattle.std.specs.Io.KnownBytes.{Consumes, IsAtEnd}
-use Rattle.lms_batch.specs.Jobs.{JobText}
+use Rattle.lms_batch.specs.Jobs.{most_jobs, JobText}
 use Rattle.lms_lines.specs.JobLines.{IsJobLine}
 use Rattle.lms_lines.specs.TextLines.{lines_of}
 use Rattle.lms_lines.specs.declared.fault.JobsFault.{JobsFault}
@@ -14,12 +14,12 @@ AreJobLines (line ∷ lines) (job ∷ jobs) = IsJobLine line job × AreJobLines 
 AreJobLines [] (job ∷ jobs) = ⊥
 AreJobLines (line ∷ lines) [] = ⊥
 
--- every line is a job line, and there are at most 1024
+-- every line is a job line, and there are no more than a batch may have
 pub record IsJobsText (text : List ℕ) (jobs : List JobText) : Type 0 where
   pub each : AreJobLines (lines_of text) jobs
-  pub count : length jobs ≤ 1024
+  pub count : length jobs ≤ most_jobs
 
--- this line, counted from 1, is no job line, and all before it, fewer than 1024, are
+-- this line, counted from 1, is no job line, and all before it, fewer than a batch may have, are
 pub record IsFirstBadLine (text : List ℕ) (number : ℕ) : Type 0 where
   pub before : List (List ℕ)
   pub bad : List ℕ
@@ -29,9 +29,9 @@ pub record IsFirstBadLine (text : List ℕ) (number : ℕ) : Type 0 where
   pub good : AreJobLines before jobs
   pub is_bad : (job : JobText) → ¬ IsJobLine bad job
   pub place : number ≡ length jobs + 1
-  pub count : length jobs < 1024
+  pub count : length jobs < most_jobs
 
--- the first 1024 lines are job lines, and another follows
+-- as many lines as a batch may have are job lines, and another follows
 pub record HasTooManyJobs (text : List ℕ) : Type 0 where
   pub before : List (List ℕ)
   pub next : List ℕ
@@ -39,7 +39,7 @@ pub record HasTooManyJobs (text : List ℕ) : Type 0 where
   pub jobs : List JobText
   pub parts : lines_of text ≡ before ++ next ∷ after
   pub good : AreJobLines before jobs
-  pub count : length jobs ≡ 1024
+  pub count : length jobs ≡ most_jobs
 
 -- the text has this fault; of a failed reader and of want of memory nothing is said
 abbrev pub IsFaultOf : List ℕ → JobsFault → Type 0

@@ -4,7 +4,7 @@ ghost use Rattle.std.specs.Io.KnownBytes.{Appends, Keeps};
 ghost use Rattle.hex.specs.Hex.{encode_lower};
 ghost use Rattle.lms_lines.specs.AnswerLines.{answer_line, answer_text, AppendsFront};
 
-use crate::decimal::{MOST_DIGITS, place_digits};
+use itoa::Buffer;
 use lms_batch::Batch;
 use std::io::{ErrorKind, Write};
 use thiserror::Error;
@@ -50,9 +50,8 @@ fn write_number<W: Write>(writer: &mut W, number: u128) -> Result<(), WriteFault
     ensures ok { OnOk result (Appends (W.contents writer.old) (W.contents writer.new) (decimal number)) }
     ensures err { OnErr result (AppendsFront (W.contents writer.old) (W.contents writer.new) (decimal number)) }
 {
-    let mut room = [0; MOST_DIGITS];
-    let start = place_digits(number, &mut room);
-    write_bytes(writer, &room[start..])
+    let mut buffer = Buffer::new();
+    write_bytes(writer, buffer.format(number).as_bytes())
 }
 
 fn write_hex<W: Write>(writer: &mut W, bytes: &[u8]) -> Result<(), WriteFault>

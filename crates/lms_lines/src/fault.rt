@@ -14,7 +14,7 @@ pub enum JobsFault {
     /// This line, counted from 1, is the first that is no job line.
     #[error("line {line}: bad job")]
     BadJob { line: u64 },
-    /// The first 1024 lines are job lines, and more follows.
+    /// The first `MOST_JOBS` lines are job lines, and more follows.
     #[error("too many jobs")]
     TooManyJobs,
     /// A request for memory was refused.

@@ -1,18 +1,16 @@
 //! Jobs gathered from the blocks of a text.
-ghost use Rattle.std.specs.Prelude.{◌≡◌, ℕ, List, [], ◌+◌, ◌<◌, ◌≤◌, ◌++◌, ◌⊎◌, length, take, map, slice_index, Err, OnOk, IfOk, IfErr, MatchOption};
-ghost use Rattle.lms_batch.specs.Jobs.{text_of, JobText};
-ghost use Rattle.lms_lines.specs.JobLines.{IsJobLine};
+ghost use Rattle.std.specs.Prelude.{◌≡◌, ℕ, List, [], ◌+◌, ◌<◌, ◌≤◌, ◌↔◌, ◌++◌, ◌⊎◌, length, take, map, slice_index, Err, OnOk, IfOk, IfErr, IsTrue, MatchOption};
+ghost use Rattle.lms_batch.specs.Jobs.{most_jobs, text_of, JobText};
+ghost use Rattle.lms_lines.specs.JobLines.{longest_line, IsJobLine};
 ghost use Rattle.lms_lines.specs.JobsTexts.{IsJobsText, IsFaultOf};
 ghost use Rattle.lms_lines.specs.Gathered.{HasNoEnd, gathered, IsGatheredFrom, Advances, Fails, after_part, after_line, IsRefusal};
 ghost use Rattle.lms_lines.specs.declared.fault.JobsFault.TheVariants.{BadJob};
 
 use crate::fault::JobsFault;
 use crate::job_line::{LONGEST_LINE, LineFault, parse_job};
-use lms_batch::Job;
+use lms_batch::{Job, MOST_JOBS};
+use memchr::memchr;
 use std::alloc::Global;
-
-/// The most jobs of a text.
-const MOST_JOBS: usize = 1024;
 
 /// The jobs of the lines so far, and what there is of the next line, which is never longer than a job line.
 #[derive(Drop)]
@@ -51,13 +49,12 @@ impl Gathering {
         ensures ok { IfOk result (λ n. Advances (gathered self.old) (gathered self.new) (take n bytes.now)) }
         ensures fault { IfErr result (Fails (gathered self.old) bytes.now) }
     {
-        if self.jobs.len() >= MOST_JOBS {
+        if self.is_full() {
             return Err(JobsFault::TooManyJobs);
         }
         match line_end(bytes) {
             Some(at) => {
-                self.add(&bytes[..at])?;
-                self.end_line(alloc)?;
+                self.end_line(alloc, &bytes[..at])?;
                 Ok(at + 1)
             }
             None => {
@@ -67,11 +64,19 @@ impl Gathering {
         }
     }
 
+    /// Whether there are as many jobs as there may be.
+    fn is_full(&self) -> bool
+        ensures { IsTrue result ↔ (most_jobs ≤ length (gathered self.now).jobs) }
+    {
+        self.jobs.len() >= MOST_JOBS
+    }
+
     /// Adds bytes to the line.
     fn add(&mut self, part: &[u8]) -> Result<(), JobsFault>
         ensures ok { OnOk result (gathered self.new ≡ after_part (gathered self.old) part.now) }
-        ensures short { OnOk result (length self.old.line.items + length part.now ≤ 131137) }
-        ensures fault { IfErr result (λ e. IsRefusal (gathered self.old) e (131137 < length self.old.line.items + length part.now)) }
+        ensures jobs { OnOk result (self.new.jobs ≡ self.old.jobs) }
+        ensures short { OnOk result (length self.old.line.items + length part.now ≤ longest_line) }
+        ensures fault { IfErr result (λ e. IsRefusal (gathered self.old) e (longest_line < length self.old.line.items + length part.now)) }
     {
         if part.len() > LONGEST_LINE || self.line.len() > LONGEST_LINE - part.len() {
             return Err(self.bad_line());
@@ -80,17 +85,37 @@ impl Gathering {
         Ok(())
     }
 
-    /// Ends the line.
-    fn end_line(&mut self, alloc: Global) -> Result<(), JobsFault>
-        ensures ok { OnOk result ((job : JobText) × IsJobLine self.old.line.items job × (gathered self.new ≡ after_line (gathered self.old) job)) }
-        ensures fault { IfErr result (λ e. IsRefusal (gathered self.old) e ((job : JobText) → ¬ IsJobLine self.old.line.items job)) }
+    /// Ends the line with these bytes.
+    fn end_line(&mut self, alloc: Global, end: &[u8]) -> Result<(), JobsFault>
+        ensures ok { OnOk result ((job : JobText) × IsJobLine (self.old.line.items ++ end.now) job × (gathered self.new ≡ after_line (gathered self.old) job)) }
+        ensures fault { IfErr result (λ e. IsRefusal (gathered self.old) e ((job : JobText) → ¬ IsJobLine (self.old.line.items ++ end.now) job)) }
     {
-        match parse_job(alloc, self.line.as_slice()) {
-            Ok(job) => {
-                self.jobs.push(job)?;
-                self.line.clear();
-                Ok(())
-            }
+        let job = self.ended(alloc, end)?;
+        self.jobs.push(job)?;
+        self.line.clear();
+        Ok(())
+    }
+
+    /// The job of the line that ends with these bytes. Where they are the whole line, they are judged where they lie.
+    fn ended(&mut self, alloc: Global, end: &[u8]) -> Result<Job, JobsFault>
+        ensures ok { IfOk result (λ job. IsJobLine (self.old.line.items ++ end.now) (text_of job)) }
+        ensures jobs { OnOk result (self.new.jobs ≡ self.old.jobs) }
+        ensures fault { IfErr result (λ e. IsRefusal (gathered self.old) e ((job : JobText) → ¬ IsJobLine (self.old.line.items ++ end.now) job)) }
+    {
+        if self.line.is_empty() {
+            return self.judged(alloc, end);
+        }
+        self.add(end)?;
+        self.judged(alloc, self.line.as_slice())
+    }
+
+    /// The job of this line, which comes next.
+    fn judged(&self, alloc: Global, line: &[u8]) -> Result<Job, JobsFault>
+        ensures ok { IfOk result (λ job. IsJobLine line.now (text_of job)) }
+        ensures fault { IfErr result (λ e. IsRefusal (gathered self.now) e ((job : JobText) → ¬ IsJobLine line.now job)) }
+    {
+        match parse_job(alloc, line) {
+            Ok(job) => Ok(job),
             Err(LineFault::BadJob) => Err(self.bad_line()),
             Err(LineFault::OutOfMemory) => Err(JobsFault::OutOfMemory),
         }
@@ -114,7 +139,7 @@ impl Gathering {
             let Gathering { jobs, line: _ } = self;
             return Ok(jobs);
         }
-        self.end_line(alloc)?;
+        self.end_line(alloc, b"")?;
         let Gathering { jobs, line: _ } = self;
         Ok(jobs)
     }
@@ -124,10 +149,5 @@ impl Gathering {
 fn line_end(bytes: &[u8]) -> Option<usize>
     ensures { MatchOption result (HasNoEnd bytes.now) (λ at. (at < length bytes.now) × HasNoEnd (take at bytes.now) × (slice_index bytes.now at ≡ 10)) }
 {
-    for (i, byte) in bytes.iter().enumerate() {
-        if *byte == b'\n' {
-            return Some(i);
-        }
-    }
-    None
+    memchr(b'\n', bytes)
 }

@@ -10,8 +10,11 @@ use std::alloc::Global;
 /// The length of a randomizer's digits.
 const C_DIGITS: usize = 64;
 
+/// The most digits of a message.
+const MOST_DIGITS: usize = 131_072;
+
 /// The most bytes that a job line has before its LF.
-pub(crate) const LONGEST_LINE: usize = C_DIGITS + 1 + 131_072;
+pub(crate) const LONGEST_LINE: usize = C_DIGITS + 1 + MOST_DIGITS;
 
 /// Why a line gave no job.
 #[derive(Clone, Copy, Debug, PartialEq, Eq)]

@@ -8,15 +8,15 @@ ghost use Rattle.lms_lines.specs.declared.fault.JobsFault.TheVariants.{Read as R
 use crate::fault::JobsFault;
 use crate::gathering::Gathering;
 use crate::job_line::LONGEST_LINE;
-use lms_batch::Job;
+use lms_batch::{Job, MOST_JOBS};
 use std::alloc::Global;
 use std::io::{ErrorKind, Read};
 
 /// How many bytes are asked for at once.
 const BLOCK: usize = 65_536;
 
-/// More bytes than a text has that gives no fault before: 1025 of the longest lines, with LF.
-const TOO_LONG: usize = 1025 * (LONGEST_LINE + 1);
+/// More bytes than a text has that gives no fault before: the longest lines, with LF, and one more of them than jobs are taken.
+const TOO_LONG: usize = (MOST_JOBS + 1) * (LONGEST_LINE + 1);
 
 /// The jobs of a text of job lines, which is read to its end. The lines are judged one after another, and the first fault
 /// ends it. A line that is too long is refused without being stored whole.

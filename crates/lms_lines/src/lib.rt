@@ -2,7 +2,6 @@
 #![tactic(auto)]
 
 mod answers;
-mod decimal;
 mod fault;
 mod gathering;
 mod job_line;

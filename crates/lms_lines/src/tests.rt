@@ -70,6 +70,28 @@ impl Write for Sink {
     }
 }
 
+/// A line that is read again and again, until so many bytes are read.
+#[derive(Drop)]
+struct Repeated<'t> {
+    line: &'t [u8],
+    rest: &'t [u8],
+    left: usize,
+}
+
+impl<'t> Read for Repeated<'t> {
+    fn read(&mut self, buf: &mut [u8]) -> io::Result<usize> {
+        if self.rest.is_empty() {
+            self.rest = self.line;
+        }
+        let count = buf.len().min(self.rest.len()).min(self.left);
+        let (now, later) = self.rest.split_at(count);
+        buf[..count].copy_from_slice(now);
+        self.rest = later;
+        self.left -= count;
+        Ok(count)
+    }
+}
+
 fn read_whole(alloc: Global, text: &[u8]) -> Result<Vec<Job>, JobsFault> {
     let mut rest = text;
     read_jobs(alloc, &mut rest)
@@ -145,6 +167,31 @@ fn the_longest_message(rt: HostRuntime) -> Result<(), Fail> {
         read_jobs(alloc, &mut io::repeat(b'7')).is_err_and(|e| e == JobsFault::BadJob { line: 1 }),
         true
     );
+    Ok(())
+}
+
+/// How many jobs of 65,536 bytes so many bytes have of a line that is read again and again.
+fn count_repeated(alloc: Global, line: &[u8], bytes: usize) -> Result<usize, JobsFault> {
+    let mut text = Repeated {
+        line,
+        rest: line,
+        left: bytes,
+    };
+    let jobs = read_jobs(alloc, &mut text)?;
+    Ok(
+        jobs.iter()
+            .filter(|job| job.message.len() == 65_536)
+            .count(),
+    )
+}
+
+/// 1024 lines of 131,138 bytes each, and a byte more.
+#[test]
+fn the_longest_text(rt: HostRuntime) -> Result<(), Fail> {
+    let alloc = rt.alloc();
+    let line = line_of_digits(alloc, 131_072)?;
+    assert!(rt; count_repeated(alloc, &line, 134_285_312) == Ok(1024));
+    assert!(rt; count_repeated(alloc, &line, 134_285_313) == Err(JobsFault::TooManyJobs));
     Ok(())
 }
 
