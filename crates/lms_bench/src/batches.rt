@@ -49,6 +49,8 @@ pub struct SignedBatch {
     pub signing: Duration,
     /// The processor time of that, where one worker signed.
     pub processor: Duration,
+    /// The processor time of the call, of all threads.
+    pub whole_processor: Duration,
 }
 
 impl Batches {
@@ -130,6 +132,7 @@ where
     let desk = desks.first_mut().context("a desk")?;
     let service = SigningService::over(shared);
     let gate = Stopwatch::new(rt);
+    let used = rt.process_cpu_time()?;
     let start = Instant::now(rt)?;
     let batch = service.sign_batch(rt, rt.alloc(), desk, jobs, workers.count(), &gate)?;
     Ok(SignedBatch {
@@ -137,5 +140,6 @@ where
         whole: start.elapsed(rt)?,
         signing: gate.time(),
         processor: gate.processor_time(),
+        whole_processor: rt.process_cpu_time()?.saturating_sub(used),
     })
 }

@@ -108,8 +108,8 @@ fn print_times(rt: &impl Print, one: Times, times: Times) -> Result<()> {
     Ok(())
 }
 
-/// Prints how many bytes of job lines are read a second, and of answers written, and the share of both in the time in which one
-/// worker signs them.
+/// Prints how many bytes of job lines are read a second, and of answers written; then how much processor time both take beside
+/// that in which one worker signs the jobs, and beside that of the whole call, with the trees that it builds.
 pub fn measure_lines<R>(rt: &R) -> Result<()>
 where
     R: Print + AllocGlobal + Clock + CpuClock + Threads + Wait + Sync,
@@ -117,19 +117,23 @@ where
     let mut lines = Lines::new(rt.alloc(), JOBS)?;
     let mut read = Duration::MAX;
     let mut signing = Duration::MAX;
+    let mut call = Duration::MAX;
     let mut write = Duration::MAX;
     for _ in 0..ROUNDS {
         let (jobs, time) = lines.jobs(rt)?;
         read = read.min(time);
         let signed = answered(rt, jobs)?;
         signing = signing.min(signed.processor);
+        call = call.min(signed.whole_processor);
         write = write.min(lines.time_write(rt, &signed.batch)?);
     }
     let read_rate = f64::from(lines.bytes_read()) / 1e6 / read.as_secs_f64();
     let write_rate = f64::from(lines.bytes_written()) / 1e6 / write.as_secs_f64();
-    let share = (read.as_secs_f64() + write.as_secs_f64()) / signing.as_secs_f64();
+    let both = read.as_secs_f64() + write.as_secs_f64();
+    let of_signing = both / signing.as_secs_f64();
+    let of_call = both / call.as_secs_f64();
     println!(rt;
-        "read_jobs: {read_rate:.1} MB/s, write_batch {ANSWERING}: {write_rate:.1} MB/s, {share:.3} of the time of signing"
+        "read_jobs: {read_rate:.1} MB/s, write_batch {ANSWERING}: {write_rate:.1} MB/s, {of_signing:.3} of the time of signing, {of_call:.3} of that of the call"
     )?;
     Ok(())
 }
