@@ -141,17 +141,36 @@ fn signs_job_lines(rt: HostRuntime) -> Result<(), Fail> {
     Ok(())
 }
 
-/// A job line of zeros and no message, without its end, and the key's first index.
+/// Numbers of workers: one, several, and the most.
+const WORKERS: [&str; 3] = ["1", "2", "64"];
+
+/// Whether one line is answered with a line of 2595 bytes that has the index 0, which is used then.
+fn answers_by(
+    rt: &(impl Threads + Wait + AllocGlobal + Sync),
+    workers: &str,
+    line: &[u8],
+) -> Result<bool, Fail> {
+    let mut world = keyed(rt.alloc(), &ONE, 0)?;
+    let end = end_of_batch(rt, &mut world, workers, line)?;
+    let is_line = end.output.len() == 2595 && end.output.starts_with("0 ");
+    Ok(end.status == 0 && is_line && is_at(&world, &ONE, 1)?)
+}
+
+/// Whether it is answered so by each number of workers.
+fn answers_one(rt: &(impl Threads + Wait + AllocGlobal + Sync), line: &[u8]) -> Result<bool, Fail> {
+    let mut is_answered = true;
+    for workers in WORKERS {
+        is_answered = is_answered && answers_by(rt, workers, line)?;
+    }
+    Ok(is_answered)
+}
+
+/// A job line of zeros and no message, without its end.
 #[test]
 fn signs_an_empty_message(rt: HostRuntime) -> Result<(), Fail> {
-    let mut world = keyed(rt.alloc(), &ONE, 0)?;
     let mut line = [b'0'; 65];
     line[64] = b' ';
-    let end = end_of_batch(&rt, &mut world, "2", &line)?;
-    assert!(rt; end.status == 0);
-    assert!(rt; end.output.len() == 2595);
-    assert!(rt; end.output.starts_with("0 "));
-    assert!(rt; is_at(&world, &ONE, 1)?);
+    assert!(rt; answers_one(&rt, &line)?);
     Ok(())
 }
 
@@ -167,6 +186,19 @@ fn refuses(
     let end = end_of_batch(rt, &mut world, workers, input)?;
     let is_said = end.status == status && end.errors.as_str() == errors;
     Ok(is_said && end.output.is_empty() && is_at(&world, &ONE, 5)?)
+}
+
+/// Whether these lines are refused so with each number of workers.
+fn refuses_lines(
+    rt: &(impl Threads + Wait + AllocGlobal + Sync),
+    input: &[u8],
+    errors: &str,
+) -> Result<bool, Fail> {
+    let mut is_refused = true;
+    for workers in WORKERS {
+        is_refused = is_refused && refuses(rt, workers, input, 2, errors)?;
+    }
+    Ok(is_refused)
 }
 
 #[test]
@@ -215,15 +247,15 @@ fn refuses_bad_lines(rt: HostRuntime) -> Result<(), Fail> {
         " 6g\n",
     ] {
         let text = with_second(rt.alloc(), end)?;
-        assert!(rt; refuses(&rt, "2", &text, 2, line)?, "{end}");
+        assert!(rt; refuses_lines(&rt, &text, line)?, "{end}");
     }
     let mut text = lines(rt.alloc(), 1)?;
     text.push(b'\n')?;
-    assert!(rt; refuses(&rt, "2", &text, 2, line)?);
+    assert!(rt; refuses_lines(&rt, &text, line)?);
     text = lines(rt.alloc(), 1)?;
     text.extend_from_slice(&RANDOM.as_bytes()[1..])?;
     text.extend_from_slice(b" 61\n")?;
-    assert!(rt; refuses(&rt, "2", &text, 2, line)?);
+    assert!(rt; refuses_lines(&rt, &text, line)?);
     Ok(())
 }
 
@@ -240,31 +272,29 @@ fn long_line(alloc: Global, digits: usize) -> Result<Vec<u8>, Fail> {
 
 #[test]
 fn takes_the_longest_message(rt: HostRuntime) -> Result<(), Fail> {
-    let mut world = keyed(rt.alloc(), &ONE, 5)?;
-    let end = end_of_batch(&rt, &mut world, "1", &long_line(rt.alloc(), 131_072)?)?;
-    assert!(rt; end.status == 0 && end.output.starts_with("5 "));
+    let longest = long_line(rt.alloc(), 131_072)?;
+    assert!(rt; answers_one(&rt, &longest)?);
     let longer = long_line(rt.alloc(), 131_074)?;
-    assert!(rt; refuses(&rt, "1", &longer, 2, "error: line 1: bad job\n")?);
+    assert!(rt; refuses_lines(&rt, &longer, "error: line 1: bad job\n")?);
     Ok(())
 }
 
 #[test]
 fn refuses_too_many_jobs(rt: HostRuntime) -> Result<(), Fail> {
     let many = lines(rt.alloc(), 1025)?;
-    assert!(rt; refuses(&rt, "2", &many, 2, "error: too many jobs\n")?);
+    assert!(rt; refuses_lines(&rt, &many, "error: too many jobs\n")?);
     let mut text = with_second(rt.alloc(), " 61\n\n")?;
     text.extend_from_slice(&many)?;
-    assert!(rt; refuses(&rt, "2", &text, 2, "error: line 3: bad job\n")?);
+    assert!(rt; refuses_lines(&rt, &text, "error: line 3: bad job\n")?);
     Ok(())
 }
 
 #[test]
 fn refuses_more_jobs_than_indices(rt: HostRuntime) -> Result<(), Fail> {
-    let mut world = keyed(rt.alloc(), &ONE, 0)?;
-    let text = lines(rt.alloc(), 33)?;
-    let end = end_of_batch(&rt, &mut world, "2", &text)?;
-    assert!(rt; end.status == 4 && end.output.is_empty());
-    assert!(rt; end.errors.as_str() == "error: exhausted: 32 left\n");
-    assert!(rt; is_at(&world, &ONE, 0)?);
+    let text = lines(rt.alloc(), 28)?;
+    let line = "error: exhausted: 27 left\n";
+    for workers in WORKERS {
+        assert!(rt; refuses(&rt, workers, &text, 4, line)?, "{workers}");
+    }
     Ok(())
 }
