@@ -7,7 +7,7 @@ use Rattle.std.specs.Str.Parse.{ParsesUnsigned, AllDigits, digits_value}
 use Rattle.std.proofs.lemmas.Fmt.{decimal-digits_value, first_decimal, parse-decimal}
 use Rattle.std.proofs.lemmas.Result.{OkIff-at_ok}
 use Rattle.std.proofs.lemmas.Str.Parse.{IsNumeralModel, parse_plain}
-use Rattle.lms_commands.specs.Batches.{AreWorkers, IsWorkers}
+use Rattle.lms_commands.specs.Options.{AreWorkers, IsWorkers}
 
 own : IsNumeralModel (AllDigits 10) (digits_value 10)
 own = record { to = λ ds is. is; from = λ ds is. is; same = λ ds is. refl }

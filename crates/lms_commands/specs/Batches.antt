@@ -1,5 +1,5 @@
 -- What `batch` does with job lines and a key's state, and where it fails.
-use Rattle.std.specs.Prelude.{ℕ, ◌≡◌, ◌≢◌, ◌+◌, ◌≤◌, List, length, Option, IfSome, decimal}
+use Rattle.std.specs.Prelude.{ℕ, ◌≡◌, ◌≢◌, ◌+◌, ◌≤◌, List, length, Option, IfSome}
 use Rattle.std.specs.Io.KnownBytes.{Appends}
 use Rattle.lms_spec.specs.Hss.{capacity_of}
 use Rattle.lms_hss.specs.Keys.{hss_key_of}
@@ -12,16 +12,10 @@ use Rattle.lms_lines.specs.AnswerLines.{answer_text, AppendsFront}
 use Rattle.lms_lines.specs.JobsTexts.{HasTooManyJobs, IsFirstBadLine, ReadsJobs}
 use Rattle.lms_lines.specs.SignedLines.{signatures_in}
 use Rattle.lms_commands.specs.Known.{IsOldOr, Known, Stays, Text}
+use Rattle.lms_commands.specs.Options.{AreWorkers}
 use Rattle.lms_commands.specs.Signing.{IsAt, IsBadState, LacksIndices}
 use Rattle.lms_commands.specs.declared.fault.Fault.{Fault}
 use Rattle.lms_commands.specs.declared.fault.Fault.TheVariants.{BadWorkers, BadJob, TooManyJobs, StateInUse, ReadState, BadState, WriteStateBurnt, Exhausted, OutOfMemory, OutOfMemoryBurnt, Input, Output, Partial}
-
--- the text is a number of workers, from 1 to 64, in decimal
-abbrev pub IsWorkers : Text → ℕ → Type 0
-IsWorkers text workers = (1 ≤ workers) × (workers ≤ 64) × (text ≡ decimal workers)
-
-abbrev pub AreWorkers : Text → Type 0
-AreWorkers text = (workers : ℕ) × IsWorkers text workers
 
 -- the streams of a command at one moment: what is still to be read, and what is printed so far
 pub record Streams : Type 0 where

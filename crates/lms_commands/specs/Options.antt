@@ -1,5 +1,5 @@
 -- The texts of options.
-use Rattle.std.specs.Prelude.{ℕ, ◌≡◌, ◌<◌, ◌++◌, List, length, codes}
+use Rattle.std.specs.Prelude.{ℕ, ◌≡◌, ◌<◌, ◌≤◌, ◌++◌, List, length, codes}
 use Rattle.std.specs.Fmt.{decimal}
 use Rattle.std.specs.List.{join_by}
 use Rattle.lms_params.specs.LmsType.{lms_set_of}
@@ -26,3 +26,10 @@ levels_text pairs = join_by pair_text (codes ",") pairs
 -- the text is that of these levels, of which there is one at least
 abbrev pub IsLevelsText : List ℕ → List (LmsType × OtsType) → Type 0
 IsLevelsText text pairs = (0 < length pairs) × (text ≡ levels_text pairs)
+
+-- the text is a number of workers, from 1 to 64, in decimal
+abbrev pub IsWorkers : List ℕ → ℕ → Type 0
+IsWorkers text workers = (1 ≤ workers) × (workers ≤ 64) × (text ≡ decimal workers)
+
+abbrev pub AreWorkers : List ℕ → Type 0
+AreWorkers text = (workers : ℕ) × IsWorkers text workers

@@ -1,8 +1,9 @@
 //! `batch`: job lines signed by the next indices of a key's state.
 ghost use Rattle.std.specs.Prelude.{◌≡◌, ◌≤◌, [], ◌∷◌, length, IfErr, IfOk, OnOk};
 ghost use Rattle.lms_shared_book.specs.Desks.{BlankFits, sums};
-ghost use Rattle.lms_commands.specs.Batches.{AreWorkers, FailsToBatch, FailsToSignJobs, IsSilent, SignsAllJobs, SignsJobs, streams};
+ghost use Rattle.lms_commands.specs.Batches.{FailsToBatch, FailsToSignJobs, IsSilent, SignsAllJobs, SignsJobs, streams};
 ghost use Rattle.lms_commands.specs.Known.{SameFiles};
+ghost use Rattle.lms_commands.specs.Options.{AreWorkers};
 ghost use Rattle.lms_commands.specs.SharedBooks.{IsDoneAtDesk, IsDoneBy, IsRefusedAtDesk, IsRefusedBy};
 
 use crate::fault::Fault;

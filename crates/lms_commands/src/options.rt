@@ -4,8 +4,7 @@ ghost use Rattle.hex.specs.Hex.{decode_of};
 ghost use Rattle.lms_params.specs.declared.lms_type.LmsType.{LmsType as LmsKind};
 ghost use Rattle.lms_params.specs.declared.ots_type.OtsType.{OtsType as OtsKind};
 ghost use Rattle.lms_commands.specs.Faults.{of_text, text_of};
-ghost use Rattle.lms_commands.specs.Batches.{AreWorkers, IsWorkers};
-ghost use Rattle.lms_commands.specs.Options.{height_text, pair_text, width_text, IsLevelsText};
+ghost use Rattle.lms_commands.specs.Options.{height_text, pair_text, width_text, AreWorkers, IsLevelsText, IsWorkers};
 
 use crate::fault::Fault;
 use hex::FromHex;

@@ -4,10 +4,11 @@ use Rattle.std.specs.Io.KnownBytes.{Appends}
 use Rattle.clap.specs.Words.{Text}
 use Rattle.lms_hss.specs.declared.key.HssKey.{HssKey as KeyOfCode}
 use Rattle.lms_tool.specs.Commands.{AsksForHelp, IsMistaken, IsRead}
-use Rattle.lms_commands.specs.Batches.{AreWorkers, FailsToBatch, SignsAllJobs, Streams, streams}
+use Rattle.lms_commands.specs.Batches.{FailsToBatch, SignsAllJobs, Streams, streams}
 use Rattle.lms_commands.specs.Faults.{status_of}
 use Rattle.lms_commands.specs.Keygen.{FailsToMakeKey, IsKeyOf, IsNoKey, MakesKey}
 use Rattle.lms_commands.specs.Known.{Known, Stays}
+use Rattle.lms_commands.specs.Options.{AreWorkers}
 use Rattle.lms_commands.specs.Signing.{Describes, FailsToDescribe, FailsToSign, SignsFile}
 use Rattle.lms_commands.specs.Verdicts.{line_of}
 use Rattle.lms_commands.specs.Verifying.{FailsToJudge, Judges}
