@@ -37,10 +37,11 @@ impl<'t> Read for Source<'t> {
     }
 }
 
-/// Takes one byte a write. After so many writes it fails, or takes nothing. Every second write is interrupted.
+/// Takes so many bytes a write at most. After so many writes it fails, or takes nothing. Every second write is interrupted.
 #[derive(Drop)]
 pub(crate) struct Sink {
     pub(crate) taken: Vec<u8>,
+    pub(crate) most: usize,
     pub(crate) writes: usize,
     pub(crate) fails: bool,
     pub(crate) is_interrupted: bool,
@@ -60,7 +61,7 @@ impl Write for Sink {
             };
         }
         self.writes -= 1;
-        let count = buf.len().min(1);
+        let count = buf.len().min(self.most);
         self.taken.extend_from_slice(&buf[..count])?;
         Ok(count)
     }
@@ -332,6 +333,7 @@ fn a_failed_writer_has_a_beginning(rt: HostRuntime) -> Result<(), Fail> {
         for writes in 0..30 {
             let mut sink = Sink {
                 taken: Vec::new(alloc),
+                most: 1,
                 writes,
                 fails,
                 is_interrupted: false,

@@ -1,4 +1,4 @@
-ghost use Rattle.std.specs.Prelude.{◌≡◌, [], IfOk};
+ghost use Rattle.std.specs.Prelude.{◌≡◌, ◌≤◌, [], IfOk};
 ghost use Rattle.lms_shared_book.specs.Desks.{BlankFits};
 
 mod memory;
@@ -27,13 +27,28 @@ enum Scenario {
     Batches,
     /// Four lines by four workers, where any request for memory may be refused.
     RefusedMemory,
+    /// Four lines to a writer that fails after so many writes, or takes nothing, and four more.
+    FailedWriter { writes: usize, fails: bool },
 }
 
-/// A book of the key 5/8,5/8 whose next index is 30. Memory that is refused once is asked for again.
-fn book(alloc: Global) -> Result<Book<MemoryStore>, Fail>
+/// The levels 5/8,5/8, and how long their answer line for an index of two digits is.
+const LEVELS: [(LmsType, OtsType); 2] = [(LmsType::H5, OtsType::W8); 2];
+
+const LINE: usize = 5292;
+
+/// The same of the levels 5/2,5/2, whose trees take a twentieth of the work.
+const CHEAP: [(LmsType, OtsType); 2] = [(LmsType::H5, OtsType::W2); 2];
+
+const CHEAP_LINE: usize = 17_964;
+
+/// How many writes four answer lines of 5/2,5/2 are: for each its index, a space, nine parts of its digits, and its end.
+const CHEAP_WRITES: usize = 48;
+
+/// A book of a key of these levels whose next index is 30. Memory that is refused once is asked for again.
+fn book(alloc: Global, levels: &[(LmsType, OtsType)]) -> Result<Book<MemoryStore>, Fail>
     ensures { IfOk result (λ book. book.history ≡ []) }
 {
-    let levels = Levels::new(&[(LmsType::H5, OtsType::W8); 2]);
+    let levels = Levels::new(levels);
     let levels = levels.ok().ok_or("the signer takes the levels")?;
     let key = HssKey::new(levels, [0x11; 32], [0x22; 16]);
     if key.capacity() < 30 {
@@ -62,10 +77,11 @@ fn signed<E: Tally, G: Tally, B: Tally>(
     sign_lines(rt, rt.alloc(), service, &mut rest, writer, desk, 2)
 }
 
-/// A writer that takes so many bytes, and then fails, or takes nothing.
+/// A writer that takes so many bytes, one a write, and then fails, or takes nothing.
 fn sink(alloc: Global, writes: usize, fails: bool) -> Sink {
     Sink {
         taken: Vec::new(alloc),
+        most: 1,
         writes,
         fails,
         is_interrupted: false,
@@ -79,17 +95,20 @@ fn begins_answer(text: &[u8], index: u64) -> bool {
     text.starts_with(&[tens, ones, b' '])
 }
 
-/// Whether a text is an answer line of 5292 bytes that has this index, of two digits.
-fn is_answer(text: &[u8], index: u64) -> bool {
-    text.len() == 5292 && begins_answer(text, index) && text.ends_with(b"\n")
+/// Whether a text is an answer line of this length that has this index, of two digits.
+fn is_answer(text: &[u8], length: usize, index: u64) -> bool {
+    text.len() == length && begins_answer(text, index) && text.ends_with(b"\n")
 }
 
-/// Whether a text has four answer lines, from this index on.
-fn has_four_answers(text: &[u8], first: u64) -> bool {
+/// Whether a text has four answer lines of this length, from this index on.
+fn has_four_answers(text: &[u8], length: usize, first: u64) -> bool
+    requires some { 1 ≤ length }
+    requires at_most { length ≤ 20000 }
+{
     let mut index = first;
-    let mut is_right = text.len() == 4 * 5292;
-    for line in text.chunks(5292) {
-        is_right = is_right && is_answer(line, index);
+    let mut is_right = text.len() == 4 * length;
+    for line in text.chunks(length) {
+        is_right = is_right && is_answer(line, length, index);
         index = index.saturating_add(1);
     }
     is_right
@@ -114,13 +133,17 @@ fn refuses<E: Tally, G: Tally, B: Tally>(
     answer == Err(fault) && writer.taken.is_empty() && counts(desk) == before
 }
 
-/// Whether four lines are answered from this index on.
+/// Whether four lines are answered from this index on, by lines of this length.
 fn answers_four<E: Tally, G: Tally, B: Tally>(
     rt: &(impl AllocGlobal + Threads + Wait + Sync),
     service: &SigningService<MemoryStore, E, G, B>,
     desk: &mut Desk<E, G, B>,
+    length: usize,
     first: u64,
-) -> Result<bool, Fail> {
+) -> Result<bool, Fail>
+    requires some { 1 ≤ length }
+    requires at_most { length ≤ 20000 }
+{
     let text = lines(rt.alloc(), 4)?;
     let mut writer = sink(rt.alloc(), 100_000, true);
     let done = signed(rt, service, desk, &text, &mut writer);
@@ -128,7 +151,7 @@ fn answers_four<E: Tally, G: Tally, B: Tally>(
         signed: 4,
         asked: 4,
     };
-    Ok(done == Ok(all) && has_four_answers(&writer.taken, first))
+    Ok(done == Ok(all) && has_four_answers(&writer.taken, length, first))
 }
 
 /// Whether a writer that takes 5300 bytes gets the first answer and the beginning of the second.
@@ -142,9 +165,11 @@ fn writes_a_beginning<E: Tally, G: Tally, B: Tally>(
     let text = lines(rt.alloc(), 4)?;
     let mut writer = sink(rt.alloc(), 5300, fails);
     let answer = signed(rt, service, desk, &text, &mut writer);
-    let (line, more) = writer.taken.split_at(writer.taken.len().min(5292));
+    let (line, more) = writer.taken.split_at(writer.taken.len().min(LINE));
     let second = first.saturating_add(1);
-    let is_beginning = is_answer(line, first) && begins_answer(more, second) && more.len() == 8;
+    let is_beginning = is_answer(line, LINE, first)
+        && begins_answer(more, second)
+        && more.len() == 8;
     Ok(answer == Err(LinesFault::Write) && is_beginning)
 }
 
@@ -195,13 +220,42 @@ fn sign_batches<E: Tally, G: Tally, B: Tally>(
     assert!(rt; refuses(rt, &service, desk, b"\n", bad));
     assert!(rt; is_never_signed_unread(rt, &service, desk)?);
     assert!(rt; writes_a_beginning(rt, &service, desk, 30, true)?);
-    assert!(rt; answers_four(rt, &service, desk, 34)?);
+    assert!(rt; answers_four(rt, &service, desk, LINE, 34)?);
     assert!(rt; writes_a_beginning(rt, &service, desk, 38, false)?);
-    assert!(rt; answers_four(rt, &service, desk, 42)?);
+    assert!(rt; answers_four(rt, &service, desk, LINE, 42)?);
     let many = lines(rt.alloc(), 1024)?;
     let exhausted = LinesFault::Batch(BatchFault::Book(BookFault::Exhausted { left: 978 }));
     assert!(rt; refuses(rt, &service, desk, &many, exhausted));
     assert_eq!(rt; counts(desk), (4, 16, 0));
+    Ok(())
+}
+
+/// Signs four lines from index 30 on to a writer that fails after so many writes, or takes nothing: it has a beginning of the
+/// answers, and the next four lines are answered from index 34 on.
+fn fail_to_write<E: Tally, G: Tally, B: Tally>(
+    rt: &(impl Abort + AllocGlobal + Threads + Wait + Sync),
+    service: SigningService<MemoryStore, E, G, B>,
+    desks: Vec<Desk<E, G, B>>,
+    writes: usize,
+    fails: bool,
+) -> Result<(), Fail> {
+    let mut desks = desks;
+    let desk = desks.first_mut().ok_or("a desk")?;
+    let answers = memory::four_answers(rt, service.key())?;
+    let text = lines(rt.alloc(), 4)?;
+    let mut writer = sink(rt.alloc(), writes, fails);
+    writer.most = CHEAP_LINE;
+    let answer = signed(rt, &service, desk, &text, &mut writer);
+    assert!(rt; answers.starts_with(&writer.taken), "{writes}");
+    if writes < CHEAP_WRITES {
+        assert!(rt; answer == Err(LinesFault::Write), "{writes}");
+    } else {
+        assert!(rt; answer.is_ok() && writer.taken.len() == answers.len());
+    }
+    assert!(rt;
+        answers_four(rt, &service, desk, CHEAP_LINE, 34)?,
+        "{writes}"
+    );
     Ok(())
 }
 
@@ -226,15 +280,19 @@ fn carried_out<E: Tally, G: Tally, B: Tally>(
     match scenario {
         Scenario::Batches => sign_batches(rt, service, desks),
         Scenario::RefusedMemory => memory::sign_four(rt, service, desks),
+        Scenario::FailedWriter { writes, fails } => {
+            fail_to_write(rt, service, desks, writes, fails)
+        }
     }
 }
 
-/// Carries a scenario out.
+/// Carries a scenario out with a key of these levels.
 fn carry_out(
     rt: &(impl Abort + AllocGlobal + Threads + Wait + Sync),
+    levels: &[(LmsType, OtsType)],
     scenario: Scenario,
 ) -> Result<(), Fail> {
-    let book = book(rt.alloc())?;
+    let book = book(rt.alloc(), levels)?;
     let blanks = Blanks {
         entries: Blank::new(2),
         given: Blank::new(2),
@@ -245,5 +303,16 @@ fn carry_out(
 
 #[test]
 fn lines_are_signed(rt: HostRuntime) -> Result<(), Fail> {
-    carry_out(&rt, Scenario::Batches)
+    carry_out(&rt, &LEVELS, Scenario::Batches)
+}
+
+/// Each write of four answers fails in turn.
+#[test]
+fn each_failed_write_leaves_a_beginning(rt: HostRuntime) -> Result<(), Fail> {
+    for writes in 0..=CHEAP_WRITES {
+        for fails in [true, false] {
+            carry_out(&rt, &CHEAP, Scenario::FailedWriter { writes, fails })?;
+        }
+    }
+    Ok(())
 }

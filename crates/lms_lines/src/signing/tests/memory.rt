@@ -1,5 +1,5 @@
 //! Job lines signed where a request for memory is refused.
-use super::{Scenario, carry_out, counts, has_four_answers};
+use super::{CHEAP, CHEAP_LINE, Scenario, carry_out, counts, has_four_answers};
 use crate::tests::push_line;
 use crate::{Done, JobsFault, LinesFault, sign_lines, write_batch};
 use lms_batch::{Batch, BatchFault, SigningService};
@@ -22,9 +22,9 @@ const MESSAGE: [u8; 2] = [0xab, 0xff];
 
 /// An empty text with room for four answer lines, made at the first or at the second try.
 fn roomy(alloc: Global) -> Result<Vec<u8>, Fail> {
-    match Vec::with_capacity(alloc, 22_000) {
+    match Vec::with_capacity(alloc, 4 * CHEAP_LINE) {
         Ok(room) => Ok(room),
-        Err(_) => Ok(Vec::with_capacity(alloc, 22_000)?),
+        Err(_) => Ok(Vec::with_capacity(alloc, 4 * CHEAP_LINE)?),
     }
 }
 
@@ -62,8 +62,11 @@ fn signature_of(forest: &Forest, g: u64) -> Result<Vec<u8>, Fail> {
     }
 }
 
-/// The four answers.
-fn whole(rt: &(impl AllocGlobal + Threads + Sync), key: HssKey) -> Result<Vec<u8>, Fail> {
+/// The four answers to lines signed from index 30 on.
+pub(super) fn four_answers(
+    rt: &(impl AllocGlobal + Threads + Sync),
+    key: HssKey,
+) -> Result<Vec<u8>, Fail> {
     let forest = forest_of(rt, key)?;
     let mut text = roomy(rt.alloc())?;
     for start in 30..34 {
@@ -82,7 +85,7 @@ fn whole(rt: &(impl AllocGlobal + Threads + Sync), key: HssKey) -> Result<Vec<u8
 fn answers_in(text: &[u8], whole: &[u8]) -> Option<usize> {
     let mut rest = text;
     let mut count = 0_usize;
-    for line in whole.chunks(5292) {
+    for line in whole.chunks(CHEAP_LINE) {
         if let Some(more) = rest.strip_prefix(line) {
             rest = more;
             count = count.saturating_add(1);
@@ -111,8 +114,8 @@ pub(super) fn sign_four<E: Tally, G: Tally, B: Tally>(
 ) -> Result<(), Fail> {
     let mut desks = desks;
     let desk = desks.first_mut().ok_or("a desk")?;
-    let whole = whole(rt, service.key())?;
-    assert!(rt; has_four_answers(&whole, 30));
+    let whole = four_answers(rt, service.key())?;
+    assert!(rt; has_four_answers(&whole, CHEAP_LINE, 30));
     let input = four_lines(rt.alloc())?;
     let mut rest: &[u8] = &input;
     let mut text = roomy(rt.alloc())?;
@@ -129,5 +132,5 @@ pub(super) fn sign_four<E: Tally, G: Tally, B: Tally>(
 /// `tests/refused` refuses each request for memory in turn.
 #[test]
 fn lines_after_refused_memory(rt: HostRuntime) -> Result<(), Fail> {
-    carry_out(&rt, Scenario::RefusedMemory)
+    carry_out(&rt, &CHEAP, Scenario::RefusedMemory)
 }
