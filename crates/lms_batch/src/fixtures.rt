@@ -17,9 +17,12 @@ const WRITES: usize = 8;
 /// The levels 5/8,5/8, with 1024 indices.
 pub(crate) const LEVELS: [(LmsType, OtsType); 2] = [(LmsType::H5, OtsType::W8); 2];
 
+/// The levels 5/2,5/2, with as many indices, whose trees take a twentieth of the work.
+pub(crate) const CHEAP: [(LmsType, OtsType); 2] = [(LmsType::H5, OtsType::W2); 2];
+
 /// The key of these levels, and of a seed of this byte.
-pub(crate) fn key_of(seed: u8) -> Result<HssKey, Fail> {
-    let levels = Levels::new(&LEVELS)
+pub(crate) fn key_of(levels: &[(LmsType, OtsType)], seed: u8) -> Result<HssKey, Fail> {
+    let levels = Levels::new(levels)
         .ok()
         .ok_or("the signer takes the levels")?;
     Ok(HssKey::new(levels, [seed; 32], [0x22; 16]))
@@ -37,8 +40,13 @@ pub(crate) fn public_key(
 }
 
 /// A store that holds the image of such a key whose next index is this one.
-pub(crate) fn store_at(alloc: Global, seed: u8, start: u64) -> Result<MemoryStore, Fail> {
-    let key = key_of(seed)?;
+pub(crate) fn store_at(
+    alloc: Global,
+    levels: &[(LmsType, OtsType)],
+    seed: u8,
+    start: u64,
+) -> Result<MemoryStore, Fail> {
+    let key = key_of(levels, seed)?;
     if start > key.capacity() {
         return Err(Fail::from("a start past the capacity"));
     }
@@ -63,12 +71,18 @@ pub(crate) fn book_of(alloc: Global, store: MemoryStore) -> Result<Book<MemorySt
 }
 
 /// A lease of `len` indices of such a key from `start` on.
-pub(crate) fn lease(alloc: Global, seed: u8, start: u64, len: u64) -> Result<Lease, Fail>
+pub(crate) fn lease(
+    alloc: Global,
+    levels: &[(LmsType, OtsType)],
+    seed: u8,
+    start: u64,
+    len: u64,
+) -> Result<Lease, Fail>
     requires some { 1 ≤ len }
     requires at_most { len ≤ 1024 }
     ensures { IfOk result (λ lease. lease.len ≡ len) }
 {
-    let mut book = book_of(alloc, store_at(alloc, seed, start)?)?;
+    let mut book = book_of(alloc, store_at(alloc, levels, seed, start)?)?;
     let lease = match book.reserve(len) {
         Ok(lease) => Ok(lease),
         Err(_) => book.reserve(len),
@@ -79,6 +93,7 @@ pub(crate) fn lease(alloc: Global, seed: u8, start: u64, len: u64) -> Result<Lea
 /// Such a lease, opened, with one seat.
 pub(crate) fn opened(
     rt: &(impl AllocGlobal + Threads + Sync),
+    levels: &[(LmsType, OtsType)],
     seed: u8,
     start: u64,
     len: u64,
@@ -87,7 +102,7 @@ pub(crate) fn opened(
     requires at_most { len ≤ 1024 }
     ensures { IfOk result (λ r. r.1.pool ≡ r.0) }
 {
-    let lease = lease(rt.alloc(), seed, start, len)?;
+    let lease = lease(rt.alloc(), levels, seed, start, len)?;
     let made = match OpenLease::new(rt, rt.alloc(), lease, 1) {
         Ok(made) => Ok(made),
         Err((_, lease)) => OpenLease::new(rt, rt.alloc(), lease, 1),

@@ -1,6 +1,6 @@
 ghost use Rattle.std.specs.Prelude.{◌≡◌, ◌≤◌};
 
-use crate::fixtures::{LEVELS, job, key_of, opened, public_key};
+use crate::fixtures::{CHEAP, LEVELS, job, key_of, opened, public_key};
 use crate::{Batch, BatchFault, Collector, Job, OpenLease, Receipt, SignFault, TakeFault};
 use lms_book::BookFault;
 use lms_hss::verify;
@@ -147,7 +147,7 @@ fn finished(alloc: Global, lease: OpenLease, seat: DrawSeat) -> Result<Tally, Fa
 
 #[test]
 fn signs_without_a_wait(rt: HostRuntime) -> Result<(), Fail> {
-    let (lease, mut seat) = opened(&rt, 0x11, 31, 4)?;
+    let (lease, mut seat) = opened(&rt, &LEVELS, 0x11, 31, 4)?;
     let job = job(rt.alloc(), b"abc")?;
     assert!(rt; signs_twice(rt.alloc(), &lease, &mut seat, &job, 31)?);
     assert_eq!(rt; lease.look(&mut seat), 2);
@@ -191,7 +191,7 @@ fn refusal_of_another<'j>(
 ) -> Result<Option<TakeFault>, Fail>
     requires { place ≤ 8 }
 {
-    let (lease, seat) = opened(rt, seed, start, place + 1)?;
+    let (lease, seat) = opened(rt, &LEVELS, seed, start, place + 1)?;
     let mut seat = after_claims(&lease, seat, place);
     let receipt = signed(&lease, &mut seat, job)?;
     Ok(refusal(collector, receipt))
@@ -221,7 +221,7 @@ fn has_the_first_alone(alloc: Global, batch: &Batch, first: &Job) -> Result<bool
 #[test]
 fn a_place_takes_its_receipt_once(rt: HostRuntime) -> Result<(), Fail> {
     let jobs = [job(rt.alloc(), b"abc")?, job(rt.alloc(), b"")?];
-    let mut collector = Collector::new(rt.alloc(), key_of(0x11)?, 30, &jobs)?;
+    let mut collector = Collector::new(rt.alloc(), key_of(&LEVELS, 0x11)?, 30, &jobs)?;
     for (seed, start, place, of, expected) in RECEIPTS {
         let job = jobs.get(of).ok_or("one of two jobs")?;
         let found = refusal_of_another(&rt, &mut collector, seed, start, place, job)?;
@@ -243,7 +243,7 @@ pub(crate) fn is_complete(
     let Batch::Complete { start, signatures } = batch else {
         return Ok(false);
     };
-    let public = public_key(rt, key_of(0x11)?)?;
+    let public = public_key(rt, key_of(&LEVELS, 0x11)?)?;
     let mut is_right = *start == first && signatures.len() == jobs.len();
     for ((signature, job), g) in signatures.iter().zip(jobs).zip(first..1024) {
         let slow = slow(rt.alloc(), g, job)?;
@@ -255,8 +255,8 @@ pub(crate) fn is_complete(
 #[test]
 fn a_batch_is_in_the_order_of_its_jobs(rt: HostRuntime) -> Result<(), Fail> {
     let jobs = [job(rt.alloc(), b"a")?, job(rt.alloc(), b"b")?];
-    let (lease, mut seat) = opened(&rt, 0x11, 31, 2)?;
-    let mut collector = Collector::new(rt.alloc(), key_of(0x11)?, 31, &jobs)?;
+    let (lease, mut seat) = opened(&rt, &LEVELS, 0x11, 31, 2)?;
+    let mut collector = Collector::new(rt.alloc(), key_of(&LEVELS, 0x11)?, 31, &jobs)?;
     let first = signed(&lease, &mut seat, &jobs[0])?;
     let second = signed(&lease, &mut seat, &jobs[1])?;
     assert_eq!(rt; refusal(&mut collector, second), None);
@@ -265,9 +265,9 @@ fn a_batch_is_in_the_order_of_its_jobs(rt: HostRuntime) -> Result<(), Fail> {
     Ok(())
 }
 
-/// A collector for jobs from index 5 on. Memory that is refused once is asked for again.
+/// A collector for jobs from index 5 of 5/2,5/2 on. Memory that is refused once is asked for again.
 fn collector_of(alloc: Global, jobs: &[Job]) -> Result<Collector<'_>, Fail> {
-    let key = key_of(0x11)?;
+    let key = key_of(&CHEAP, 0x11)?;
     match Collector::new(alloc, key, 5, jobs) {
         Ok(collector) => Ok(collector),
         Err(OutOfMemory) => Ok(Collector::new(alloc, key, 5, jobs)?),
@@ -278,7 +278,7 @@ fn collector_of(alloc: Global, jobs: &[Job]) -> Result<Collector<'_>, Fail> {
 #[test]
 fn a_lease_signs_after_refused_memory(rt: HostRuntime) -> Result<(), Fail> {
     let jobs = [job(rt.alloc(), b"abc")?, job(rt.alloc(), b"")?];
-    let (lease, mut seat) = opened(&rt, 0x11, 5, 2)?;
+    let (lease, mut seat) = opened(&rt, &CHEAP, 0x11, 5, 2)?;
     let first = signed_at_last(&lease, &mut seat, &jobs[0])?;
     assert_eq!(rt; (first.place(), first.index()), (0, 5));
     let second = signed_after_claim(&lease, &mut seat, &jobs[1])?;

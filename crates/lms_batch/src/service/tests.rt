@@ -2,12 +2,13 @@ ghost use Rattle.std.specs.Prelude.{◌≡◌, ◌≤◌, []};
 ghost use Rattle.lms_shared_book.specs.Desks.{BlankFits};
 
 mod gates;
+mod memory;
 
 use super::{BatchFault, SigningService};
-use crate::fixtures::{book_of, job, public_key, store_at};
+use crate::fixtures::{LEVELS, book_of, job, public_key, store_at};
 use crate::tests::is_complete;
 use crate::{Batch, Job, OpenGate};
-use gates::{Meeting, Notes};
+use gates::Meeting;
 use lms_book::{Book, BookFault, Entry, Left, MemoryStore};
 use lms_hss::verify;
 use lms_shared_book::{Blanks, Desk, SharedBook, Tally};
@@ -35,7 +36,7 @@ enum Scenario {
     AllIndices,
     /// Four jobs by one to four workers, where any request for memory may be refused.
     RefusedMemory { workers: usize },
-    /// Two jobs by one or two workers, each of which waits a while until the other one has begun.
+    /// Two jobs by one to three workers, each signature of which waits a while until the other one has begun.
     Meeting { workers: usize },
 }
 
@@ -63,7 +64,7 @@ fn carried_out<E: Tally + Send + Sync, G: Tally + Send + Sync, B: Tally + Send +
         Scenario::FailedWrite => failed_write(rt, service, desks),
         Scenario::AtOnce => at_once(rt, service, desks),
         Scenario::AllIndices => all_indices(rt, service, desks),
-        Scenario::RefusedMemory { workers } => refused_memory(rt, service, desks, workers),
+        Scenario::RefusedMemory { workers } => memory::sign_four(rt, service, desks, workers),
         Scenario::Meeting { workers } => meet(rt, service, desks, workers),
     }
 }
@@ -139,7 +140,7 @@ fn four_jobs<E: Tally, G: Tally, B: Tally>(
 #[test]
 fn four_jobs_are_signed_by_each_number_of_workers(rt: HostRuntime) -> Result<(), Fail> {
     for workers in [1, 4, 64] {
-        let store = store_at(rt.alloc(), 0x11, 30)?;
+        let store = store_at(rt.alloc(), &LEVELS, 0x11, 30)?;
         carry_out(&rt, store, Scenario::FourJobs { workers })?;
     }
     Ok(())
@@ -176,7 +177,7 @@ fn too_few_and_too_many<E: Tally, G: Tally, B: Tally>(
 
 #[test]
 fn too_few_and_too_many_jobs_reserve_nothing(rt: HostRuntime) -> Result<(), Fail> {
-    let store = store_at(rt.alloc(), 0x11, 30)?;
+    let store = store_at(rt.alloc(), &LEVELS, 0x11, 30)?;
     carry_out(&rt, store, Scenario::TooFewAndTooMany)
 }
 
@@ -202,7 +203,7 @@ fn failed_write<E: Tally, G: Tally, B: Tally>(
 
 #[test]
 fn a_failed_write_burns_a_batch(rt: HostRuntime) -> Result<(), Fail> {
-    let mut store = store_at(rt.alloc(), 0x11, 0)?;
+    let mut store = store_at(rt.alloc(), &LEVELS, 0x11, 0)?;
     store.fail_replace(1, Left::Old);
     carry_out(&rt, store, Scenario::FailedWrite)
 }
@@ -276,7 +277,7 @@ fn at_once<E: Tally + Send + Sync, G: Tally + Send + Sync, B: Tally + Send + Syn
 
 #[test]
 fn batches_at_once(rt: HostRuntime) -> Result<(), Fail> {
-    let store = store_at(rt.alloc(), 0x11, 0)?;
+    let store = store_at(rt.alloc(), &LEVELS, 0x11, 0)?;
     carry_out(&rt, store, Scenario::AtOnce)
 }
 
@@ -298,11 +299,11 @@ fn all_indices<E: Tally, G: Tally, B: Tally>(
 
 #[test]
 fn all_indices_are_signed_by_as_many_workers_as_may_be(rt: HostRuntime) -> Result<(), Fail> {
-    let store = store_at(rt.alloc(), 0x11, 0)?;
+    let store = store_at(rt.alloc(), &LEVELS, 0x11, 0)?;
     carry_out(&rt, store, Scenario::AllIndices)
 }
 
-/// Signs two jobs by one or two workers, where one alone waits in vain for another.
+/// Signs two jobs by one to three workers, where one alone waits in vain for another, and a third finds no job.
 fn meet<E: Tally, G: Tally, B: Tally>(
     rt: &(impl Abort + AllocGlobal + Threads + Wait + Sync),
     service: SigningService<MemoryStore, E, G, B>,
@@ -313,7 +314,7 @@ fn meet<E: Tally, G: Tally, B: Tally>(
     let desk = desks.first_mut().ok_or("a desk")?;
     let jobs = jobs_of(rt.alloc(), 2)?;
     let gate = Meeting::new();
-    let workers = workers.clamp(1, 2);
+    let workers = workers.clamp(1, 3);
     let batch = service.sign_batch(rt, rt.alloc(), desk, &jobs, workers, &gate);
     assert!(rt; is_complete(rt, &batch.ok().ok_or("a batch")?, 30, &jobs)?);
     assert!(rt; gate.is_missed() == (workers == 1) && gate.is_called_in_turn());
@@ -322,69 +323,9 @@ fn meet<E: Tally, G: Tally, B: Tally>(
 
 #[test]
 fn two_workers_sign_at_once(rt: HostRuntime) -> Result<(), Fail> {
-    for workers in [2, 1] {
-        let store = store_at(rt.alloc(), 0x11, 30)?;
+    for workers in [3, 2, 1] {
+        let store = store_at(rt.alloc(), &LEVELS, 0x11, 30)?;
         carry_out(&rt, store, Scenario::Meeting { workers })?;
-    }
-    Ok(())
-}
-
-/// Whether each slot is empty or has a signature of its job that is accepted, and one at least is empty.
-fn is_partly_valid(public: &[u8], slots: &[Option<Vec<u8>>], jobs: &[Job]) -> bool {
-    let mut is_valid = slots.len() == jobs.len();
-    let mut has_gap = false;
-    for (slot, job) in slots.iter().zip(jobs) {
-        match slot {
-            Some(signature) => is_valid = is_valid && verify(public, &job.message, signature),
-            None => has_gap = true,
-        }
-    }
-    is_valid && has_gap
-}
-
-/// Whether a batch begins with index 30 and has valid signatures of the jobs, or of some of them.
-fn is_from_30(public: &[u8], batch: &Batch, jobs: &[Job]) -> bool {
-    match batch {
-        Batch::Complete { .. } => start_of_valid(public, batch, jobs) == Some(30),
-        Batch::Partial { start, slots } => *start == 30 && is_partly_valid(public, slots, jobs),
-    }
-}
-
-/// All jobs are signed, or some, or none, with their indices used; or nothing is reserved. The gate is told accordingly.
-fn refused_memory<E: Tally, G: Tally, B: Tally>(
-    rt: &(impl Abort + AllocGlobal + Threads + Wait + Sync),
-    service: SigningService<MemoryStore, E, G, B>,
-    desks: Vec<Desk<E, G, B>>,
-    workers: usize,
-) -> Result<(), Fail> {
-    let mut desks = desks;
-    let desk = desks.first_mut().ok_or("a desk")?;
-    let jobs = jobs_of(rt.alloc(), 4)?;
-    let public = public_key(rt, service.key())?;
-    let notes = Notes::new();
-    let workers = workers.clamp(1, 4);
-    let answer = service.sign_batch(rt, rt.alloc(), desk, &jobs, workers, &notes);
-    let used = match answer {
-        Ok(batch) => is_from_30(&public, &batch, &jobs) && notes.is_of(&batch, workers),
-        Err(BatchFault::OutOfMemory { burnt }) => burnt == 4 && notes.is_blank(),
-        Err(fault) => {
-            assert_eq!(rt; fault, BatchFault::Book(BookFault::OutOfMemory));
-            assert!(rt; notes.is_blank());
-            assert_eq!(rt; counts(desk), (0, 0, 0));
-            return settled(rt, service, desks, &[], 30);
-        }
-    };
-    assert!(rt; used);
-    assert_eq!(rt; counts(desk), (1, 4, 0));
-    settled(rt, service, desks, &[Entry::Given { len: 4 }], 34)
-}
-
-/// `tests/refused` refuses each request for memory in turn.
-#[test]
-fn a_batch_after_refused_memory(rt: HostRuntime) -> Result<(), Fail> {
-    for workers in [4, 1] {
-        let store = store_at(rt.alloc(), 0x11, 30)?;
-        carry_out(&rt, store, Scenario::RefusedMemory { workers })?;
     }
     Ok(())
 }

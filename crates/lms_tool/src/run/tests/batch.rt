@@ -27,8 +27,20 @@ pub(super) fn end_of_batch(
     workers: &str,
     input: &[u8],
 ) -> Result<Ended, Fail> {
+    let output = Vec::new(rt.alloc());
+    end_of_batch_to(rt, world, workers, input, output)
+}
+
+/// The same, where the output goes into this list.
+pub(super) fn end_of_batch_to(
+    rt: &(impl Threads + Wait + AllocGlobal + Sync),
+    world: &mut MemoryWorld,
+    workers: &str,
+    input: &[u8],
+    output: Vec<u8>,
+) -> Result<Ended, Fail> {
     let mut rest = input;
-    let mut output = Vec::new(rt.alloc());
+    let mut output = output;
     let mut errors = Vec::new(rt.alloc());
     let words = batch(workers);
     let status = run(

@@ -1,5 +1,5 @@
 //! Commands to which memory is refused once, where it is.
-use super::state::{INFO, ONE, is_at, keygen_one, sign_text};
+use super::state::{CHEAP, ID, INFO, SEED, is_at, keygen, sign_text};
 use super::{Ended, VERIFY, end_of};
 use lms_commands::{MemoryWorld, World};
 use std::alloc::Global;
@@ -10,7 +10,7 @@ use std::thread::Threads;
 /// How many indices of the key are used.
 fn used(world: &MemoryWorld) -> Result<u64, Fail> {
     for counter in 0..4 {
-        if is_at(world, &ONE, counter)? {
+        if is_at(world, &CHEAP, counter)? {
             return Ok(counter);
         }
     }
@@ -50,12 +50,13 @@ fn makes_a_key(
     rt: &(impl Threads + Wait + AllocGlobal + Sync),
     world: &mut MemoryWorld,
 ) -> Result<bool, Fail> {
-    let first = end_of(rt, &keygen_one(), world)?;
+    let words = keygen("5/2", SEED, ID);
+    let first = end_of(rt, &words, world)?;
     Ok(match (first.status, first.errors.as_str()) {
         (0, "") | (6, "error: cannot write output\n") => true,
         (5, "error: out of memory\n") => {
-            let made = is_at(world, &ONE, 0)?;
-            end_of(rt, &keygen_one(), world)?.status == if made { 3 } else { 0 }
+            let made = is_at(world, &CHEAP, 0)?;
+            end_of(rt, &words, world)?.status == if made { 3 } else { 0 }
         }
         _ => false,
     })
