@@ -8,8 +8,9 @@ use anyhow::{Result, ensure};
 use lms_book::Lease;
 use lms_pool::{DrawSeat, IndexPool};
 use std::alloc::Global;
+use std::array;
 use std::sync::Arc;
-use std::sync::atomic::{AtomicU64, Ordering};
+use std::sync::atomic::{AtomicU64, AtomicUsize, Ordering};
 use std::thread::{self, Threads};
 use std::time::{Clock, Duration, Instant};
 
@@ -21,6 +22,10 @@ const PLACES: u64 = 1024;
 
 /// How many places are claimed.
 pub const COUNT: u64 = POOLS * PLACES;
+
+/// How many words stand beside each other where one is added to: as many as a pool's table has. The middle one counts, so nothing
+/// else stands on its cache lines.
+const WORDS: usize = 32;
 
 /// A pool, and a seat of it.
 #[derive(Drop)]
@@ -58,9 +63,18 @@ pub fn time_claims(
     rt: &(impl AllocGlobal + Clock + Threads + Sync),
     workers: Workers,
 ) -> Result<Duration> {
-    let callers = new_callers(rt.alloc(), workers.count())?;
+    let threads = workers.count();
+    let begun = AtomicUsize::new(0);
+    let callers = new_callers(rt.alloc(), threads)?;
     let start = Instant::now(rt)?;
-    let claimed = thread::map_vec(rt, callers, &|own: Vec<Caller>| -> u64 { claim_by(own) })?;
+    let claimed = thread::map_vec(
+        rt,
+        callers,
+        &|own: Vec<Caller>| -> u64 {
+            begin_together(&begun, threads);
+            claim_by(own)
+        },
+    )?;
     let time = start.elapsed(rt)?;
     ensure!(
         sum_of(&claimed) == COUNT,
@@ -75,11 +89,20 @@ pub fn time_additions(
     workers: Workers,
 ) -> Result<Duration> {
     let threads = workers.count();
+    let begun = AtomicUsize::new(0);
     let each = COUNT / threads as u64;
-    let word = AtomicU64::new(0);
+    let words: [AtomicU64; WORDS] = array::from_fn(|_| AtomicU64::new(0));
+    let word = &words[WORDS / 2];
     let shares = vec![in rt.alloc(); each; threads]?;
     let start = Instant::now(rt)?;
-    let _added = thread::map_vec(rt, shares, &|share: u64| -> u64 { add(&word, share) })?;
+    let _added = thread::map_vec(
+        rt,
+        shares,
+        &|share: u64| -> u64 {
+            begin_together(&begun, threads);
+            add(word, share)
+        },
+    )?;
     let time = start.elapsed(rt)?;
     ensure!(
         word.load(Ordering::SeqCst) == each * threads as u64,
@@ -132,6 +155,16 @@ fn share_out(pool: &Arc<IndexPool>, seats: Vec<DrawSeat>, callers: &mut [Vec<Cal
         own.push(Caller { pool, seat })?;
     }
     Ok(())
+}
+
+/// Lets as many threads begin together, or gives up after a million turns.
+fn begin_together(begun: &AtomicUsize, threads: usize) {
+    begun.fetch_add(1, Ordering::SeqCst);
+    for _ in 0..1_000_000 {
+        if begun.load(Ordering::SeqCst) >= threads {
+            break;
+        }
+    }
 }
 
 /// Claims all places of the pools, and answers how many it got.

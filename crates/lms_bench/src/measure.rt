@@ -19,7 +19,7 @@ use std::sync::Wait;
 use std::thread::Threads;
 use std::time::{Clock, CpuClock, Duration, Instant};
 
-/// How often each time is taken. The least counts.
+/// How often each time is taken. The least counts; of claims it is the sum.
 const ROUNDS: u32 = 20;
 
 /// How many compressions a round makes, at least, and how many bare digests stand beside a build.
@@ -156,19 +156,21 @@ fn least_build(
     Ok((least.0.min(processor), least.1.min(clock)))
 }
 
-/// Prints how many places are claimed a second, how many bare additions as many threads make, and the ratio of the times.
+/// Prints how many places are claimed a second, how many bare additions as many threads make, and the ratio of the times. All are of
+/// the rounds together: how much threads contend changes from round to round, and the least times would be of different ones.
 fn measure_claims(
     rt: &(impl Print + AllocGlobal + Clock + Threads + Sync),
     workers: Workers,
 ) -> Result<()> {
-    let mut own = Duration::MAX;
-    let mut bare = Duration::MAX;
+    let mut own = Duration::ZERO;
+    let mut bare = Duration::ZERO;
     for _ in 0..ROUNDS {
-        own = own.min(time_claims(rt, workers)?);
-        bare = bare.min(time_additions(rt, workers)?);
+        own = own.saturating_add(time_claims(rt, workers)?);
+        bare = bare.saturating_add(time_additions(rt, workers)?);
     }
-    let claimed = COUNT as f64 / own.as_secs_f64();
-    let added = COUNT as f64 / bare.as_secs_f64();
+    let count = f64::from(ROUNDS) * COUNT as f64;
+    let claimed = count / own.as_secs_f64();
+    let added = count / bare.as_secs_f64();
     let ratio = own.as_secs_f64() / bare.as_secs_f64();
     let threads = workers.count();
     println!(rt;
