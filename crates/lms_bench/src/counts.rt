@@ -12,12 +12,11 @@ use std::thread::Threads;
 /// keys, trees and signatures and verifies these, and the bytes by the numbers of nodes that the trees of a forest have to hold.
 pub fn print_counts(rt: &(impl Print + AllocGlobal + Threads + Sync)) -> Result<()> {
     for ots in [OtsType::W1, OtsType::W2, OtsType::W4, OtsType::W8] {
-        println!(rt;
-            "public_hash w={0}: {1} compressions; a tree of 10/{0}: {2}",
-            ots.w(),
-            public_hash_compressions(ots),
-            tree_compressions(LmsType::H10, ots)
-        )?;
+        let w = ots.w();
+        let hash = public_hash_compressions(ots);
+        let tree = tree_compressions(LmsType::H10, ots);
+        println!(rt; "public_hash w={w}: {hash} compressions")?;
+        println!(rt; "a tree of 10/{w}: {tree} compressions")?;
     }
     for hierarchy in VERIFIED {
         let count = Verification::new(rt, rt.alloc(), hierarchy)?.compressions(rt.alloc())?;
