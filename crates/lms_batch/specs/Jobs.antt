@@ -1,6 +1,7 @@
 -- What a job signs, and what contracts see of one that was signed.
 use Rattle.std.specs.Prelude.{◌≡◌, ℕ, ◌<◌, List, map}
-use Rattle.lms_spec.specs.Hss.{capacity_of, hss_signature, hss_public_key, HssAccepts}
+use Rattle.lms_spec.specs.Hss.{capacity_of, HssAccepts}
+use Rattle.lms_spec.specs.Profile.{hss_signature, hss_public_key}
 use Rattle.lms_hss.specs.Keys.{hss_key_of}
 use Rattle.lms_hss.specs.declared.key.HssKey.{HssKey as KeyOfCode}
 use Rattle.lms_batch.specs.declared.job.Job.{Job}

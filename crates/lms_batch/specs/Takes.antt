@@ -1,7 +1,7 @@
 -- What a collector answers.
 use Rattle.std.specs.Prelude.{◌≡◌, ℕ, ◌+◌, List, None, Some, slice_get, map, Contains}
 use Rattle.lms_batch.specs.Jobs.{SignedJob}
-use Rattle.lms_spec.specs.Hss.{hss_public_key}
+use Rattle.lms_spec.specs.Profile.{hss_public_key}
 use Rattle.lms_hss.specs.Keys.{hss_key_of}
 use Rattle.lms_batch.specs.Batches.{AreAccepted, Gathered, batch_of, contents, HoldsOnly}
 use Rattle.lms_batch.specs.declared.collector.TakeFault.{TakeFault}

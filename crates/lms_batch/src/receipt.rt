@@ -1,6 +1,7 @@
 //! What a signed job gives.
 ghost use Rattle.std.specs.Prelude.{◌≡◌, ◌<◌};
-ghost use Rattle.lms_spec.specs.Hss.{capacity_of, hss_public_key, HssAccepts};
+ghost use Rattle.lms_spec.specs.Hss.{capacity_of, HssAccepts};
+ghost use Rattle.lms_spec.specs.Profile.{hss_public_key};
 ghost use Rattle.lms_hss.specs.Keys.{hss_key_of};
 ghost use Rattle.lms_batch.specs.Jobs.{text_of, signature_of, IsSigned};
 

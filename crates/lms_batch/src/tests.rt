@@ -4,17 +4,22 @@ use crate::fixtures::{CHEAP, LEVELS, job, key_of, opened, public_key};
 use crate::{Batch, BatchFault, Collector, Job, OpenLease, Receipt, SignFault, TakeFault};
 use lms_book::BookFault;
 use lms_hss::verify;
-use lms_params::OutOfMemory;
+use lms_params::{LmsType, OtsType, OutOfMemory};
 use lms_pool::{DrawSeat, IndexPass, MissingSeats, Tally};
 use lms_slow::{SlowKey, slow_sign};
 use std::alloc::Global;
 use std::test::Fail;
 use std::thread::Threads;
 
-/// The slow signer's signature of a job by an index.
-fn slow(alloc: Global, g: u64, job: &Job) -> Result<Vec<u8>, Fail> {
+/// The slow signer's signature of a job by an index of a key of these levels.
+pub(crate) fn slow(
+    alloc: Global,
+    levels: &[(LmsType, OtsType); 2],
+    g: u64,
+    job: &Job,
+) -> Result<Vec<u8>, Fail> {
     let key = SlowKey {
-        levels: &LEVELS,
+        levels,
         seed: [0x11; 32],
         id: [0x22; 16],
     };
@@ -110,7 +115,7 @@ fn is_at(
     index: u64,
 ) -> Result<bool, Fail> {
     let is_there = receipt.place() == place && receipt.index() == index;
-    Ok(is_there && receipt.signature() == slow(alloc, index, job)?.as_slice())
+    Ok(is_there && receipt.signature() == slow(alloc, &LEVELS, index, job)?.as_slice())
 }
 
 /// Whether the next receipt is right, and the one after it, made by a claim and a signature.
@@ -214,7 +219,7 @@ fn has_the_first_alone(alloc: Global, batch: &Batch, first: &Job) -> Result<bool
     let Batch::Partial { start, slots } = batch else {
         return Ok(false);
     };
-    let expected = [Some(slow(alloc, 30, first)?), None];
+    let expected = [Some(slow(alloc, &LEVELS, 30, first)?), None];
     Ok(*start == 30 && slots.as_slice() == expected.as_slice())
 }
 
@@ -246,7 +251,7 @@ pub(crate) fn is_complete(
     let public = public_key(rt, key_of(&LEVELS, 0x11)?)?;
     let mut is_right = *start == first && signatures.len() == jobs.len();
     for ((signature, job), g) in signatures.iter().zip(jobs).zip(first..1024) {
-        let slow = slow(rt.alloc(), g, job)?;
+        let slow = slow(rt.alloc(), &LEVELS, g, job)?;
         is_right = is_right && *signature == slow && verify(&public, &job.message, signature);
     }
     Ok(is_right)

@@ -5,7 +5,7 @@ ghost use Rattle.lms_hss.specs.Covered.{IsCovered};
 use crate::case::{ID, MESSAGE, RANDOMIZER, SEED};
 use anyhow::Result;
 use lms_book::{Book, MemoryStore};
-use lms_hss::{Forest, HssKey, Levels};
+use lms_hss::{Forest, HssKey, Levels, LevelsText};
 use lms_image::{Image, encode_image};
 use lms_params::{LmsType, OtsType};
 use std::alloc::Global;
@@ -32,12 +32,7 @@ pub const COVERED: Hierarchy = Hierarchy(&[(LmsType::H10, OtsType::W8); 2]);
 
 impl fmt::Display for Hierarchy {
     fn fmt<W: fmt::Write>(&self, f: &mut fmt::Formatter<W>) -> fmt::Result {
-        let mut comma = "";
-        for (lms, ots) in self.0 {
-            write!(f, "{comma}{}/{}", lms.height(), ots.w())?;
-            comma = ",";
-        }
-        Ok(())
+        write!(f, "{}", LevelsText(self.0))
     }
 }
 

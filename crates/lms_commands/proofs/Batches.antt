@@ -26,12 +26,12 @@ use Rattle.lms_lines.specs.declared.fault.JobsFault.TheVariants as jobs
 use Rattle.lms_lines.specs.declared.signing.Done.{Done}
 use Rattle.lms_lines.specs.declared.signing.LinesFault.{LinesFault}
 use Rattle.lms_lines.specs.declared.signing.LinesFault.TheVariants as lines
-use Rattle.lms_commands.specs.Batches.{BurnsIndices, FailsToSignJobs, IsSilent, SignsAllJobs, SignsBatch, SignsJobs, SignsJobsInVain, Streams, UsesIndices, streams}
+use Rattle.lms_commands.specs.Batches.{FailsToSignJobs, IsSilent, SignsAllJobs, SignsBatch, SignsInput, SignsJobs, SignsJobsInVain, Streams, streams}
 use Rattle.lms_commands.specs.Faults.{of_lines}
 use Rattle.lms_commands.specs.declared.fault.Fault.{Fault}
-use Rattle.lms_commands.specs.Known.{IsOldOr, Known, Stays, Text}
+use Rattle.lms_world.specs.Known.{IsOldOr, Known, Stays, Text}
 use Rattle.lms_commands.specs.SharedBooks.{IsDoneBy, IsRefusedBy, at_one_desk}
-use Rattle.lms_commands.specs.Signing.{IsAt, LacksIndices}
+use Rattle.lms_commands.specs.Signing.{BurnsIndices, IsAt, LacksIndices, Opens, UsesIndices}
 
 same_sums : (a b : Sums) → a.entries ≡ b.entries → a.received ≡ b.received → a.burnt ≡ b.burnt → a ≡ b
 same_sums a b e r u i = record { entries = e i; received = r i; burnt = u i }
@@ -159,23 +159,34 @@ module _ (old new : Known) (state : Text) (start left : BookState) (store : Stor
     start = λ some. starts_at start (length is.jobs) batch (is.reserved some) ∙ at;
   }
 
-  pub done_so : (before after : Streams) (done : Done) → IsDoneBy start before after done left → SignsJobs old new state before after done.signed done.asked
-  done_so before after done (sum, (batch, is, printed, signed, asked), settled) = record {
+  signs_input : (before after : Streams) (sum : Sums) (batch : Batch) → IsBatchRead (at_one_desk start) before.input after.input (sums 0 0 0) sum batch
+      → IsSettled start sum left → SignsInput old new state before after
+  signs_input before after sum batch is settled = record {
     jobs = is.jobs;
     batch = batch;
     read = is.read;
     signs = signs_batch before after sum batch is settled;
+  }
+
+  pub done_so : (before after : Streams) (done : Done) → IsDoneBy start before after done left → SignsJobs old new state before after done.signed done.asked
+  unfolding signs_input
+  done_so before after done (sum, (batch, is, printed, signed, asked), settled) = record {
+    made = signs_input before after sum batch is settled;
     signed_is = signed;
     asked_is = asked;
     printed = printed;
   }
 
+  opens : Opens old state
+  opens = (start.key, start.base, counted, opened)
+
   lines_failed : (before after : Streams) (fault : LinesFault) (sum : Sums)
       → IsLinesFault (at_one_desk start) before.input after.input before.output after.output (sums 0 0 0) sum fault → IsSettled start sum left
       → FailsToSignJobs old new state before after (of_lines fault)
-  lines_failed before after (lines.Jobs jobs.Read) sum is settled = stays (subst (λ (s : Sums). IsSettled start s left) is.1 settled)
-  lines_failed before after (lines.Jobs (jobs.BadJob line)) sum is settled = (is.0, stays (subst (λ (s : Sums). IsSettled start s left) is.1 settled))
-  lines_failed before after (lines.Jobs jobs.TooManyJobs) sum is settled = (is.0, stays (subst (λ (s : Sums). IsSettled start s left) is.1 settled))
+  unfolding signs_input
+  lines_failed before after (lines.Jobs jobs.Read) sum is settled = (opens, stays (subst (λ (s : Sums). IsSettled start s left) is.1 settled))
+  lines_failed before after (lines.Jobs (jobs.BadJob line)) sum is settled = (opens, is.0, stays (subst (λ (s : Sums). IsSettled start s left) is.1 settled))
+  lines_failed before after (lines.Jobs jobs.TooManyJobs) sum is settled = (opens, is.0, stays (subst (λ (s : Sums). IsSettled start s left) is.1 settled))
   lines_failed before after (lines.Jobs jobs.OutOfMemory) sum is settled = stays (subst (λ (s : Sums). IsSettled start s left) is.1 settled)
   lines_failed before after (lines.Batch unsigned.TooMany) sum is settled = absurd (is.few refl)
   lines_failed before after (lines.Batch (unsigned.Book (book.Exhausted rest))) sum is settled =
@@ -194,13 +205,7 @@ module _ (old new : Known) (state : Text) (start left : BookState) (store : Stor
       let n = length is.jobs in
       let used = uses n is.some (subst (λ (s : Sums). IsSettled start s left) (is.counted.1 ∙ from_none _) settled) in
       (is.jobs, is.read, (is.counted.0, (start.key, start.base, used)))
-  lines_failed before after lines.Write sum (batch, is, printed) settled = record {
-    jobs = is.jobs;
-    batch = batch;
-    read = is.read;
-    signs = signs_batch before after sum batch is settled;
-    printed = printed;
-  }
+  lines_failed before after lines.Write sum (batch, is, printed) settled = record { made = signs_input before after sum batch is settled; printed = printed }
 
   pub failed_so : (before after : Streams) (fault : Fault) → IsRefusedBy start before after fault left → FailsToSignJobs old new state before after fault
   failed_so before after fault (sum, (lines, same, is), settled) =
@@ -235,13 +240,14 @@ flushed (Some x) (Some y) None text appends keeps = absurd keeps
 flushed (Some x) (Some y) (Some z) text appends keeps = keeps ∙ appends
 
 module _ (old new : Known) (state : Text) (before mid : Streams) (printed : Option (List ℕ)) (signed asked : ℕ) (keeps : Keeps mid.output printed) (is : SignsJobs old new state before mid signed asked) where
+  made : SignsInput old new state before (streams mid.input printed)
+  made = record { jobs = is.made.jobs; batch = is.made.batch; read = is.made.read; signs = is.made.signs }
+
   -- what was printed stays when it is passed on
   pub passed_on : SignsJobs old new state before (streams mid.input printed) signed asked
+  unfolding made
   passed_on = record {
-    jobs = is.jobs;
-    batch = is.batch;
-    read = is.read;
-    signs = is.signs;
+    made = made;
     signed_is = is.signed_is;
     asked_is = is.asked_is;
     printed = flushed before.output mid.output printed _ is.printed keeps;
@@ -252,12 +258,10 @@ module _ (old new : Known) (state : Text) (before mid : Streams) (printed : Opti
 
   -- or may not have been passed on
   pub not_passed_on : SignsJobsInVain old new state before (streams mid.input printed)
+  unfolding made
   not_passed_on = record {
-    jobs = is.jobs;
-    batch = is.batch;
-    read = is.read;
-    signs = is.signs;
-    printed = record { front = answer_text is.batch; rest = []; whole = sym (append-nil _); appended = flushed before.output mid.output printed _ is.printed keeps };
+    made = made;
+    printed = record { front = answer_text is.made.batch; rest = []; whole = sym (append-nil _); appended = flushed before.output mid.output printed _ is.printed keeps };
   }
 
 -- of an input of which nothing is said

@@ -2,12 +2,12 @@
 use Rattle.std.proofs.Common.{◌≡◌, ◌⊎◌, inl, inr, ℕ, List, length, Option, Result, Ok, Err, sym, subst}
 use Rattle.std.specs.Prelude.{OnOk}
 use Rattle.hex.specs.Hex.{decode_of}
-use Rattle.lms_spec.specs.Hss.{hss_public_key}
+use Rattle.lms_spec.specs.Profile.{hss_public_key}
 use Rattle.lms_hss.specs.Keys.{hss_key_of}
 use Rattle.lms_hss.specs.declared.key.HssKey.{HssKey as KeyOfCode}
 use Rattle.lms_image.specs.Image.{image_of}
 use Rattle.lms_commands.specs.Keygen.{FailsToMakeKey}
-use Rattle.lms_commands.specs.Known.{IsPrintedLast, Known, Stays, Text}
+use Rattle.lms_world.specs.Known.{IsPrintedLast, Known, Stays, Text}
 use Rattle.lms_commands.specs.Signing.{FailsToSign, SignsNext}
 use Rattle.lms_commands.specs.declared.fault.Fault.{Fault}
 use Rattle.lms_commands.specs.declared.fault.Fault.TheVariants.{OutOfMemory, Output}
@@ -52,12 +52,14 @@ pub not_delivered : (old new : Known) (state random message out : Text) (before 
     → (fault ≡ Output) × IsPrintedLast new out signature before after → FailsToSign old new state random message out before after fault
 not_delivered old new state random message out before after randomizer text signature index read given signed fault (is, last) =
     subst (FailsToSign old new state random message out before after) (sym is) (record {
-      randomizer = randomizer;
-      text = text;
-      signature = signature;
-      index = index;
-      randomizer_read = read;
-      text_given = given;
-      signed = signed;
+      made = record {
+        randomizer = randomizer;
+        text = text;
+        signature = signature;
+        index = index;
+        randomizer_read = read;
+        text_given = given;
+        signed = signed;
+      };
       printed_last = last;
     })

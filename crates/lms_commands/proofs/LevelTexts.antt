@@ -11,7 +11,8 @@ use Rattle.lms_params.specs.declared.lms_type.LmsType.{LmsType}
 use Rattle.lms_params.specs.declared.lms_type.LmsType.TheVariants.{H5, H10, H15, H20, H25}
 use Rattle.lms_params.specs.declared.ots_type.OtsType.{OtsType}
 use Rattle.lms_params.specs.declared.ots_type.OtsType.TheVariants.{W1, W2, W4, W8}
-use Rattle.lms_commands.specs.Options.{height_text, levels_text, pair_text, width_text, IsLevelsText}
+use Rattle.lms_hss.specs.Texts.{height_text, levels_text, pair_text, width_text}
+use Rattle.lms_commands.specs.Options.{IsLevelsText}
 
 -- a text that is none of these is no height's
 pub no_height : (text : List ℕ) → text ≢ codes "5" → text ≢ codes "10" → text ≢ codes "15" → text ≢ codes "20" → text ≢ codes "25"

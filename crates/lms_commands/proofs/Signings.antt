@@ -8,7 +8,7 @@ use Rattle.lms_book.specs.States.{BookState}
 use Rattle.lms_book.specs.Books.{counter}
 use Rattle.lms_book.proofs.Leaving.{leaves_failed, only_has}
 use Rattle.lms_commands.specs.Faults.{of_signing}
-use Rattle.lms_commands.specs.Known.{IsOldOr, Known, Stays, Text}
+use Rattle.lms_world.specs.Known.{IsOldOr, Known, Stays, Text}
 use Rattle.lms_commands.specs.Signing.{FailsToSignNext, IsAt, SignsNothing}
 use Rattle.lms_commands.specs.declared.signing.SignFault.{SignFault}
 use Rattle.lms_commands.specs.declared.signing.SignFault.TheVariants as unsigned

@@ -4,7 +4,7 @@ use Rattle.std.specs.Fmt.{decimal}
 use Rattle.lms_spec.specs.Hss.{capacity_of}
 use Rattle.lms_hss.specs.Keys.{hss_key_of}
 use Rattle.lms_hss.specs.declared.key.HssKey.{HssKey}
-use Rattle.lms_commands.specs.Options.{levels_text}
+use Rattle.lms_hss.specs.Texts.{levels_text}
 
 -- a word and a number
 abbrev pub number_line : List ℕ → ℕ → List ℕ

@@ -4,15 +4,16 @@ use Rattle.std.specs.Io.KnownBytes.{Appends}
 use Rattle.hex.specs.Hex.{decode_of}
 use Rattle.lms_params.specs.declared.lms_type.LmsType.{LmsType}
 use Rattle.lms_params.specs.declared.ots_type.OtsType.{OtsType}
-use Rattle.lms_spec.specs.Hss.{capacity_of, hss_public_key}
+use Rattle.lms_spec.specs.Hss.{capacity_of}
+use Rattle.lms_spec.specs.Profile.{hss_public_key}
 use Rattle.lms_hss.specs.Keys.{hss_key_of}
-use Rattle.lms_hss.specs.Levels.{IsAdmitted, Judges}
+use Rattle.lms_hss.specs.Levels.{IsAdmitted, JudgesLevels}
 use Rattle.lms_hss.specs.declared.key.HssKey.{HssKey as KeyOfCode}
 use Rattle.lms_hss.specs.declared.levels.KeyFault.{KeyFault}
 use Rattle.lms_hss.specs.declared.levels.KeyFault.TheVariants as refused
 use Rattle.lms_image.specs.Image.{image_of}
 use Rattle.lms_commands.specs.Descriptions.{number_line}
-use Rattle.lms_commands.specs.Known.{Exists, IsOldOr, IsPrintedLast, Known, Stays, Text}
+use Rattle.lms_world.specs.Known.{Exists, IsOldOr, IsPrintedLast, Known, Stays, Text}
 use Rattle.lms_commands.specs.Options.{IsLevelsText}
 use Rattle.lms_commands.specs.declared.fault.Fault.{Fault}
 use Rattle.lms_commands.specs.declared.fault.Fault.TheVariants.{BadLevels, TooManyLevels, HeightNotSigned, TooTall, BadSeed, BadId, StateExists, StateInUse, WriteState, OutOfMemory, Output}
@@ -36,11 +37,11 @@ pub record IsKeyOf (levels seed id : Text) (key : KeyOfCode) : Type 0 where
 
 -- the text is that of levels which are refused so
 abbrev pub AreRefused : Text → KeyFault → Type 0
-AreRefused text fault = (levels : List (LmsType × OtsType)) × IsLevelsText text levels × Judges levels (Err fault)
+AreRefused text fault = (levels : List (LmsType × OtsType)) × IsLevelsText text levels × JudgesLevels levels (Err fault)
 
 -- the text is that of levels which the signer takes
 abbrev pub AreTaken : Text → Type 0
-AreTaken text = (levels : List (LmsType × OtsType)) × IsLevelsText text levels × Judges levels (Ok levels)
+AreTaken text = (levels : List (LmsType × OtsType)) × IsLevelsText text levels × JudgesLevels levels (Ok levels)
 
 -- why the texts are those of no key: the first of them that is bad; memory may run out while the levels are read
 abbrev pub IsNoKey : Text → Text → Text → Fault → Type 0

@@ -1,11 +1,10 @@
 pub mod Descriptions
 pub mod Faults
-pub mod Files
 pub mod Keygen
-pub mod Known
 pub mod Options
 pub mod Signing
 pub mod Batches
 pub mod SharedBooks
+pub mod Judging
 pub mod Verdicts
 pub mod Verifying

@@ -2,7 +2,8 @@
 use Rattle.std.specs.Prelude.{ℕ, ◌≡◌, ◌⊎◌, ◌+◌, ◌-◌, ◌<◌, ◌≤◌, List, ◌++◌, [], ◌∷◌, length, Ok, Err, Some, Option, codes}
 use Rattle.std.specs.Io.KnownBytes.{Appends}
 use Rattle.hex.specs.Hex.{decode_of}
-use Rattle.lms_spec.specs.Hss.{capacity_of, hss_public_key, hss_signature, HssAccepts}
+use Rattle.lms_spec.specs.Hss.{capacity_of, HssAccepts}
+use Rattle.lms_spec.specs.Profile.{hss_public_key, hss_signature}
 use Rattle.lms_hss.specs.Keys.{hss_key_of}
 use Rattle.lms_hss.specs.declared.key.HssKey.{HssKey as KeyOfCode}
 use Rattle.lms_book.specs.Books.{Reserves, capacity, counter}
@@ -12,12 +13,12 @@ use Rattle.lms_book.specs.Stops.{after_write}
 use Rattle.lms_book.specs.declared.history.Entry.TheVariants.{Given as Gave}
 use Rattle.lms_commands.specs.Descriptions.{info_text, number_line}
 use Rattle.lms_commands.specs.Keygen.{IsHexOf}
-use Rattle.lms_commands.specs.Known.{Given, IsOldOr, IsPrintedLast, Known, Stays, Text}
+use Rattle.lms_world.specs.Known.{Given, IsOldOr, IsPrintedLast, Known, Stays, Text}
 use Rattle.lms_commands.specs.declared.fault.Fault.{Fault}
 use Rattle.lms_commands.specs.declared.fault.Fault.TheVariants.{BadRandom, StateInUse, ReadState, BadState, WriteStateBurnt, Exhausted, OutOfMemory, OutOfMemoryBurnt, Input, Output}
 use Rattle.lms_commands.specs.declared.signing.SignFault.{SignFault}
 use Rattle.lms_commands.specs.declared.signing.SignFault.TheVariants as unsigned
-use Rattle.lms_commands.specs.declared.world.WorldFault.TheVariants as world
+use Rattle.lms_world.specs.declared.world.WorldFault.TheVariants as world
 
 -- a book's next index is given, once the image that counts it is all that a stop leaves
 pub record GivesOne (old new : BookState) : Type 0 where
@@ -34,17 +35,17 @@ SignsNothing old unsigned.OutOfMemory new = GivesOne old new
 abbrev pub IsAt : Known → Text → KeyOfCode → ℕ → Type 0
 IsAt at state key used = at.keeps state (image_of key used)
 
--- an index of the state's key is used
-pub record UsesIndex (old new : Known) (state : Text) (key : KeyOfCode) (index : ℕ) : Type 0 where
+-- n indices of the state's key are used, from this one on
+pub record UsesIndices (n : ℕ) (old new : Known) (state : Text) (key : KeyOfCode) (index : ℕ) : Type 0 where
   pub counted : HasImage key index
-  pub within : index < capacity_of (hss_key_of key)
+  pub within : index + n ≤ capacity_of (hss_key_of key)
   pub opened : IsAt old state key index
-  pub stored : IsAt new state key (index + 1)
+  pub stored : IsAt new state key (index + n)
 
 -- a signature is the one that the next index of the state's key makes, and is accepted
 pub record SignsNext (old new : Known) (state : Text) (random message signature : List ℕ) (index : ℕ) : Type 0 where
   pub key : KeyOfCode
-  pub used : UsesIndex old new state key index
+  pub used : UsesIndices 1 old new state key index
   pub signature_is : signature ≡ hss_signature (hss_key_of key) index random message
   pub accepted : HssAccepts (hss_public_key (hss_key_of key)) message signature
 
@@ -65,10 +66,11 @@ abbrev pub LacksIndices : ℕ → Known → Text → ℕ → Type 0
 LacksIndices n at state left = (key : KeyOfCode) × (index : ℕ) × HasImage key index × (capacity_of (hss_key_of key) < index + n)
     × (left ≡ capacity_of (hss_key_of key) - index) × IsAt at state key index
 
--- the state's next index could not be stored as used: the state is what it was, or counts that index
-abbrev pub IsBurnt : Known → Known → Text → ℕ → Type 0
-IsBurnt old new state index = (key : KeyOfCode) × HasImage key index × (index < capacity_of (hss_key_of key)) × IsAt old state key index
-    × IsOldOr (image_of key (index + 1)) old new state
+-- n indices from this one on could not be stored as used: the state is what it was, or counts them
+abbrev pub BurnsIndices : ℕ → Known → Known → Text → ℕ → Type 0
+BurnsIndices n old new state index =
+    (key : KeyOfCode) × HasImage key index × (index + n ≤ capacity_of (hss_key_of key)) × IsAt old state key index
+    × IsOldOr (image_of key (index + n)) old new state
 
 -- why nothing was signed, and which indices are used
 abbrev pub FailsToSignNext : Known → Known → Text → Fault → Type 0
@@ -76,10 +78,14 @@ FailsToSignNext old new state ReadState = old.fails state × Stays old new state
 FailsToSignNext old new state (BadState fault) = IsBadState old state (BadState fault) × Stays old new state
 FailsToSignNext old new state OutOfMemory = Stays old new state
 FailsToSignNext old new state (Exhausted left) = LacksIndices 1 old state left × Stays old new state
-FailsToSignNext old new state (WriteStateBurnt start len) = IsBurnt old new state start × (len ≡ 1)
+FailsToSignNext old new state (WriteStateBurnt start len) = BurnsIndices 1 old new state start × (len ≡ 1)
 FailsToSignNext old new state (OutOfMemoryBurnt count) =
-    (key : KeyOfCode) × (index : ℕ) × UsesIndex old new state key index × (count ≡ 1)
+    (key : KeyOfCode) × (index : ℕ) × UsesIndices 1 old new state key index × (count ≡ 1)
 FailsToSignNext old new state _ = ⊥
+
+-- the state was opened: it is that of a key, with so many indices used
+abbrev pub Opens : Known → Text → Type 0
+Opens at state = (key : KeyOfCode) × (used : ℕ) × HasImage key used × IsAt at state key used
 
 -- the four lines of the state's key are printed
 pub record Describes (at : Known) (state : Text) (before after : Option (List ℕ)) : Type 0 where
@@ -92,15 +98,14 @@ pub record Describes (at : Known) (state : Text) (before after : Option (List �
 -- why no key was described; memory may run out at any state
 abbrev pub FailsToDescribe : Known → Text → Fault → Type 0
 FailsToDescribe at state StateInUse = at.in_use state
-FailsToDescribe at state Output = (key : KeyOfCode) × (used : ℕ) × HasImage key used × IsAt at state key used
+FailsToDescribe at state Output = Opens at state
 FailsToDescribe at state ReadState = at.fails state
 FailsToDescribe at state (BadState fault) = IsBadState at state (BadState fault)
 FailsToDescribe at state OutOfMemory = Unit {0}
 FailsToDescribe at state _ = ⊥
 
--- a message was signed with the next index of the state's key, under the randomizer of this text; the signature is in a
--- file, and the index is printed
-pub record SignsFile (old new : Known) (state random message out : Text) (before after : Option (List ℕ)) : Type 0 where
+-- a message was signed with the next index of the state's key, under the randomizer of this text
+pub record SignsMessage (old new : Known) (state random message : Text) : Type 0 where
   pub randomizer : List ℕ
   pub text : List ℕ
   pub signature : List ℕ
@@ -108,20 +113,17 @@ pub record SignsFile (old new : Known) (state random message out : Text) (before
   pub randomizer_read : (length randomizer ≡ 32) × (decode_of random ≡ Ok randomizer)
   pub text_given : old.gives message text
   pub signed : SignsNext old new state randomizer text signature index
-  pub signature_given : new.gives out signature
-  pub printed : Appends before after (number_line (codes "index") index)
 
--- a message was signed with the next index of the state's key, and the signature not written, or the index not printed: nothing is
--- printed before the file has the signature
+-- it was, the signature is in a file, and the index is printed
+pub record SignsFile (old new : Known) (state random message out : Text) (before after : Option (List ℕ)) : Type 0 where
+  pub made : SignsMessage old new state random message
+  pub signature_given : new.gives out made.signature
+  pub printed : Appends before after (number_line (codes "index") made.index)
+
+-- it was, and the signature not written, or the index not printed: nothing is printed before the file has the signature
 pub record SignsInVain (old new : Known) (state random message out : Text) (before after : Option (List ℕ)) : Type 0 where
-  pub randomizer : List ℕ
-  pub text : List ℕ
-  pub signature : List ℕ
-  pub index : ℕ
-  pub randomizer_read : (length randomizer ≡ 32) × (decode_of random ≡ Ok randomizer)
-  pub text_given : old.gives message text
-  pub signed : SignsNext old new state randomizer text signature index
-  pub printed_last : IsPrintedLast new out signature before after
+  pub made : SignsMessage old new state random message
+  pub printed_last : IsPrintedLast new out made.signature before after
 
 -- memory ran out before an index was reserved: for the message, or once it was read
 abbrev pub LacksMemory : Known → Known → Text → Text → Type 0

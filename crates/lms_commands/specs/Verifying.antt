@@ -1,11 +1,12 @@
 -- What `verify` does, and where it fails.
 use Rattle.std.specs.Prelude.{ℕ, ◌≡◌, ◌⊎◌, List}
-use Rattle.lms_commands.specs.Known.{Given, Known, Text}
+use Rattle.lms_world.specs.Known.{Given, Known, Text}
 use Rattle.lms_commands.specs.Verdicts.{IsRightFor}
 use Rattle.lms_commands.specs.declared.fault.Fault.{Fault}
 use Rattle.lms_commands.specs.declared.fault.Fault.TheVariants.{Input, OutOfMemory, Output}
 use Rattle.lms_commands.specs.declared.verdict.Verdict.{Verdict}
-use Rattle.lms_commands.specs.declared.world.WorldFault.TheVariants as world
+use Rattle.lms_world.specs.declared.world.WorldFault.{WorldFault}
+use Rattle.lms_world.specs.declared.world.WorldFault.TheVariants as world
 
 -- the three names gave bytes for which the verdict is right
 pub record Judges (at : Known) (public_name message_name signature_name : Text) (verdict : Verdict) : Type 0 where
@@ -16,6 +17,11 @@ pub record Judges (at : Known) (public_name message_name signature_name : Text) 
   pub message_given : at.gives message_name message
   pub signature_given : at.gives signature_name signature
   pub right : IsRightFor verdict public message signature
+
+-- the fault that a refused read comes to
+abbrev pub read_fault : WorldFault → Fault
+read_fault world.Device = Input
+read_fault world.OutOfMemory = OutOfMemory
 
 -- the fault that a read of a name comes to
 abbrev pub RefusedAt : Known → Text → Fault → Type 0

@@ -2,18 +2,18 @@
 ghost use Rattle.std.specs.Prelude.{◌≡◌, ◌≤◌, [], ◌∷◌, length, IfErr, IfOk, OnOk};
 ghost use Rattle.lms_shared_book.specs.Desks.{BlankFits, sums};
 ghost use Rattle.lms_commands.specs.Batches.{FailsToBatch, FailsToSignJobs, IsSilent, SignsAllJobs, SignsJobs, streams};
-ghost use Rattle.lms_commands.specs.Known.{SameFiles};
+ghost use Rattle.lms_world.specs.Known.{SameFiles};
 ghost use Rattle.lms_commands.specs.Options.{AreWorkers};
 ghost use Rattle.lms_commands.specs.SharedBooks.{IsDoneAtDesk, IsDoneBy, IsRefusedAtDesk, IsRefusedBy};
 
 use crate::fault::Fault;
 use crate::files::{lock_state, open_state};
 use crate::options::workers_from;
-use crate::world::World;
 use lms_batch::SigningService;
 use lms_book::{Book, StateStore};
 use lms_lines::{Done, sign_lines};
 use lms_shared_book::{Blanks, Desk, SharedBook, Tally};
+use lms_world::World;
 use std::alloc::Global;
 use std::io::{Read, Write};
 use std::marker::Brand;

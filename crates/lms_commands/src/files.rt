@@ -2,17 +2,27 @@
 ghost use Rattle.std.specs.Prelude.{[], ◌≡◌, ◌⊎◌, ◌↔◌, ℕ, List, IfErr, IfOk, OnOk};
 ghost use Rattle.lms_image.specs.Image.{image_of, HasImage};
 ghost use Rattle.lms_book.specs.Stops.{MayLeave};
-ghost use Rattle.lms_commands.specs.Known.{SameFiles, SameFilesBut, Stays};
+ghost use Rattle.lms_world.specs.Known.{Given, SameFiles, SameFilesBut, Stays};
 ghost use Rattle.lms_commands.specs.Signing.{FailsToOpen};
-ghost use Rattle.lms_commands.specs.Verifying.{RefusedAt};
+ghost use Rattle.lms_commands.specs.Verifying.{read_fault, RefusedAt};
 
 use crate::fault::Fault;
-use crate::world::{World, WorldFault};
 use lms_book::Book;
 use lms_params::OutOfMemory;
+use lms_world::{Contents, Taker, World, WorldFault};
 use std::alloc::Global;
 
-/// The bytes of a file. `Input` where it can't be read, `OutOfMemory` where memory for it was refused.
+/// The fault that a refused read comes to: `Input` where a file can't be read, `OutOfMemory` where memory for it was refused.
+fn fault_of_read(fault: WorldFault) -> Fault
+    ensures { result ≡ read_fault fault }
+{
+    match fault {
+        WorldFault::Device => Fault::Input,
+        WorldFault::OutOfMemory => Fault::OutOfMemory,
+    }
+}
+
+/// The bytes of a file. Faults as `fault_of_read`.
 pub(crate) fn read_file<W: World>(alloc: Global, world: &W, name: &str) -> Result<Vec<u8>, Fault>
     ensures given { IfOk result (λ bytes. (W.known world.now).gives name.now bytes.items) }
     ensures refused { IfErr result
@@ -20,8 +30,38 @@ pub(crate) fn read_file<W: World>(alloc: Global, world: &W, name: &str) -> Resul
 {
     match world.read(alloc, name) {
         Ok(bytes) => Ok(bytes),
-        Err(WorldFault::Device) => Err(Fault::Input),
-        Err(WorldFault::OutOfMemory) => Err(Fault::OutOfMemory),
+        Err(fault) => Err(fault_of_read(fault)),
+    }
+}
+
+/// Opens a file to be read in pieces. Faults as `fault_of_read`.
+pub(crate) fn open_file<W: World>(
+    alloc: Global,
+    world: &W,
+    name: &str,
+) -> Result<W::Contents, Fault>
+    ensures there { IfOk result (λ _. Given (W.known world.now) name.now) }
+    ensures given { IfOk result (λ contents. (bytes : List ℕ)
+        → W.Contents.gives contents bytes → (W.known world.now).gives name.now bytes) }
+    ensures refuses { IfOk result (λ contents. (fault : WorldFault)
+        → W.Contents.refuses contents fault → (W.known world.now).refuses name.now fault) }
+    ensures refused { IfErr result
+        (RefusedAt (W.known world.now) name.now) }
+{
+    match world.open(alloc, name) {
+        Ok(contents) => Ok(contents),
+        Err(fault) => Err(fault_of_read(fault)),
+    }
+}
+
+/// Hands the bytes of a file over, piece by piece. Faults as `fault_of_read`.
+pub(crate) fn hand_over<C: Contents, T: Taker>(contents: C, taker: &mut T) -> Result<(), Fault>
+    ensures handed { OnOk result ((bytes : List ℕ) × C.gives contents bytes × T.after taker.old bytes taker.new) }
+    ensures refused { IfErr result (λ fault. (cause : WorldFault) × C.refuses contents cause × (fault ≡ read_fault cause)) }
+{
+    match contents.hand_over(taker) {
+        Ok(()) => Ok(()),
+        Err(fault) => Err(fault_of_read(fault)),
     }
 }
 

@@ -1,14 +1,14 @@
 //! `info`: what a key's state says.
 ghost use Rattle.std.specs.Prelude.{◌≡◌, ◌≢◌, IfErr, IfOk, OnOk};
 ghost use Rattle.lms_image.specs.Image.{image_of, HasImage};
-ghost use Rattle.lms_commands.specs.Known.{SameFiles, Stays};
+ghost use Rattle.lms_world.specs.Known.{SameFiles, Stays};
 ghost use Rattle.lms_commands.specs.Signing.{Describes, FailsToDescribe, FailsToOpen};
 
 use crate::description::print_info;
 use crate::fault::Fault;
 use crate::files::{lock_state, open_state};
-use crate::world::World;
 use lms_image::Image;
+use lms_world::World;
 use std::alloc::Global;
 use std::io::Write;
 

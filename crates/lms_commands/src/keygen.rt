@@ -5,16 +5,16 @@ ghost use Rattle.lms_image.specs.Image.{image_of};
 ghost use Rattle.lms_book.specs.Stops.{WritesStore};
 ghost use Rattle.lms_commands.specs.Keygen.{FailsToMakeKey, FailsToStore, IsKeyOf, IsNoKey, IsTaken, MakesKey};
 ghost use Rattle.lms_commands.specs.Descriptions.{number_line};
-ghost use Rattle.lms_commands.specs.Known.{IsPrintedLast, SameFiles, SameFilesBut, Stays};
+ghost use Rattle.lms_world.specs.Known.{IsPrintedLast, SameFiles, SameFilesBut, Stays};
 
 use crate::description::print_capacity;
 use crate::fault::Fault;
 use crate::files::{lock_state, write_file};
 use crate::options::{read_bytes, read_levels};
-use crate::world::World;
 use lms_book::{StateStore, StoreFault};
 use lms_hss::{HssKey, Levels};
 use lms_image::{Image, encode_image};
+use lms_world::World;
 use std::alloc::Global;
 use std::io::Write;
 use std::thread::Threads;

@@ -1,6 +1,6 @@
 //! What each command of the program does, from its options' texts to the bytes on its output.
 //!
-//! Files and states are reached through a [`World`]: [`DiskWorld`] is the disk, [`MemoryWorld`] stands in for it in tests.
+//! Files and states are reached through a [`World`](lms_world::World).
 #![tactic(auto)]
 
 mod batch;
@@ -15,16 +15,13 @@ mod signing;
 mod status;
 mod verdict;
 mod verifying;
-mod world;
 
 pub use crate::batch::sign_jobs;
-pub use crate::description::LevelsText;
 pub use crate::fault::{Fault, print_fault};
 pub use crate::info::describe;
 pub use crate::keygen::{key_from, make_key};
 pub use crate::options::{LevelsTextFault, read_levels};
 pub use crate::signing::sign_file;
 pub use crate::status::Status;
-pub use crate::verdict::{Verdict, judge};
+pub use crate::verdict::Verdict;
 pub use crate::verifying::verify_files;
-pub use crate::world::{DiskWorld, MemoryLock, MemoryWorld, World, WorldFault};

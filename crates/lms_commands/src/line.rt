@@ -33,6 +33,3 @@ fn line_of<D: Display + Drop>(text: D) -> Result<ArrayString<MOST_BYTES>, fmt::E
     writeln!(line, "{text}")?;
     Ok(line)
 }
-
-#[cfg(test)]
-mod tests;

@@ -4,7 +4,8 @@ ghost use Rattle.hex.specs.Hex.{decode_of};
 ghost use Rattle.lms_params.specs.declared.lms_type.LmsType.{LmsType as LmsKind};
 ghost use Rattle.lms_params.specs.declared.ots_type.OtsType.{OtsType as OtsKind};
 ghost use Rattle.lms_commands.specs.Faults.{of_text, text_of};
-ghost use Rattle.lms_commands.specs.Options.{height_text, pair_text, width_text, AreWorkers, IsLevelsText, IsWorkers};
+ghost use Rattle.lms_hss.specs.Texts.{height_text, pair_text, width_text};
+ghost use Rattle.lms_commands.specs.Options.{AreWorkers, IsLevelsText, IsWorkers};
 
 use crate::fault::Fault;
 use hex::FromHex;
@@ -120,6 +121,3 @@ fn ots_type_from(text: &str) -> Option<OtsType>
         _ => None,
     }
 }
-
-#[cfg(test)]
-mod tests;

@@ -2,7 +2,7 @@
 ghost use Rattle.std.specs.Prelude.{◌≡◌, ◌<◌, OnOk};
 ghost use Rattle.std.specs.Io.KnownBytes.{Appends};
 ghost use Rattle.lms_commands.specs.Faults.{code_of};
-ghost use Rattle.lms_commands.specs.Verdicts.{IsRightFor, line_of, verdict_status};
+ghost use Rattle.lms_commands.specs.Verdicts.{line_of, verdict_status};
 
 use crate::line::print_line;
 use crate::status::Status;
@@ -26,17 +26,6 @@ impl Verdict {
             Verdict::Valid => Status::Done,
             Verdict::Invalid => Status::Negative,
         }
-    }
-}
-
-/// The verdict on a signature of the message under the public key. The three may have any length.
-pub fn judge(public: &[u8], message: &[u8], signature: &[u8]) -> Verdict
-    ensures { IsRightFor result public.now message.now signature.now }
-{
-    if lms_hss::verify(public, message, signature) {
-        Verdict::Valid
-    } else {
-        Verdict::Invalid
     }
 }
 

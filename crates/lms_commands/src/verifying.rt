@@ -1,18 +1,21 @@
 //! `verify`: a signature judged.
-ghost use Rattle.std.specs.Prelude.{◌≡◌, ◌≢◌, IfErr, IfOk};
+ghost use Rattle.std.specs.Prelude.{◌≡◌, ◌≢◌, ℕ, List, [], IfErr, IfOk};
 ghost use Rattle.std.specs.Io.KnownBytes.{Appends};
-ghost use Rattle.lms_commands.specs.Verdicts.{line_of};
+ghost use Rattle.lms_hss.specs.Verifying.{HasTaken as HasTakenByVerifier};
+ghost use Rattle.lms_commands.specs.Judging.{HasTaken};
+ghost use Rattle.lms_commands.specs.Verdicts.{IsRightFor, line_of};
 ghost use Rattle.lms_commands.specs.Verifying.{FailsToJudge, Judges};
 
 use crate::fault::Fault;
-use crate::files::read_file;
-use crate::verdict::{Verdict, judge, print_verdict};
-use crate::world::World;
+use crate::files::{hand_over, open_file, read_file};
+use crate::verdict::{Verdict, print_verdict};
+use lms_hss::Verifier;
+use lms_world::{Taker, World};
 use std::alloc::Global;
 use std::io::Write;
 
-/// Reads a public key, a message and a signature, in this order, prints the verdict on them and
-/// answers it.
+/// Reads a public key, a message and a signature, prints the verdict on them and answers it. The message is read in pieces,
+/// none of them large.
 ///
 /// `Input` where a file can't be read, `OutOfMemory` where memory for it was refused, `Output` where
 /// the verdict can't be printed. Only at `Output` may a part of it have been printed.
@@ -32,11 +35,70 @@ pub fn verify_files<W: World, O: Write>(
     ensures silent { IfErr result (λ fault. fault ≢ Fault.Output → output.new ≡ output.old) }
 {
     let public = read_file(alloc, world, public)?;
-    let message = read_file(alloc, world, message)?;
+    let message = open_file(alloc, world, message)?;
     let signature = read_file(alloc, world, signature)?;
-    let verdict = judge(&public, &message, &signature);
+    let mut judge = Judge::begin(&public, &signature);
+    hand_over(message, &mut judge)?;
+    let verdict = judge.finish();
     match print_verdict(output, verdict) {
         Ok(()) => Ok(verdict),
         Err(_) => Err(Fault::Output),
     }
+}
+
+/// Judges a signature of a message that comes in pieces.
+#[derive(Drop)]
+struct Judge<'a> {
+    // None where no message is accepted.
+    verifier: Option<Verifier<'a>>,
+}
+
+impl<'a> Judge<'a> {
+    /// Before the first piece.
+    fn begin(public: &'a [u8], signature: &'a [u8]) -> Self
+        ensures { HasTaken result public.now signature.now [] }
+    {
+        Judge {
+            verifier: Verifier::begin(public, signature),
+        }
+    }
+
+    /// The verdict on all pieces.
+    fn finish(self) -> Verdict
+        ensures { (public signature message : List ℕ)
+            → HasTaken self.entry public signature message → IsRightFor result public message signature }
+    {
+        match self.verifier {
+            Some(verifier) => verdict_of(verifier),
+            None => Verdict::Invalid,
+        }
+    }
+}
+
+/// The verdict of a verifier.
+fn verdict_of(verifier: Verifier) -> Verdict
+    ensures { (public signature message : List ℕ)
+        → HasTakenByVerifier verifier.entry public signature message → IsRightFor result public message signature }
+{
+    if verifier.finish() {
+        Verdict::Valid
+    } else {
+        Verdict::Invalid
+    }
+}
+
+impl Taker for Judge<'_> {
+    ghost use Rattle.lms_commands.specs.Judging.{Goes, goes-nowhere, goes-on};
+
+    ghost after = { Goes };
+
+    fn take(&mut self, piece: &[u8]) {
+        if let Some(verifier) = &mut self.verifier {
+            verifier.update(piece);
+        }
+    }
+
+    ghost none = { goes-nowhere };
+
+    ghost more = { goes-on };
 }

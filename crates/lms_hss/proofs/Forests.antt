@@ -7,8 +7,10 @@ use Rattle.std.proofs.Math.Nat.{eq-or-lt_of_le, div-eq_of_lt, mul-div_cancel, di
 use Rattle.std.proofs.lemmas.Nat.{le-div}
 use Rattle.lms_spec.specs.Bytes.{below, u32str}
 use Rattle.lms_spec.specs.Tree.{Tree, public_key_of, lms_signature}
-use Rattle.lms_spec.specs.Hss.{HssKey, level as level_at, height_of, capacity_of, leaf_at, for_randomizer, derived, child, tree_at, signed_key, hss_signature}
+use Rattle.lms_spec.specs.Hss.{HssKey, level as level_at, height_of, capacity_of}
+use Rattle.lms_spec.specs.Profile.{leaf_at, for_randomizer, derived, child, tree_at, signed_key, hss_signature}
 use Rattle.lms_spec.proofs.Below.{concat-below-suc}
+use Rattle.lms_spec.proofs.Hierarchies.{signature-parts}
 use Rattle.lms_spec.proofs.Places.{height-more}
 use Rattle.lms_tree.specs.TreeKey.{tree_of}
 use Rattle.lms_params.specs.declared.lms_type.LmsType.{LmsType}
@@ -146,8 +148,8 @@ bottom-is key start len g bottom tree held from to found =
 -- what the bottom tree of an index signs is the signature by that index
 pub signature-is : (key : HssKey) (g k q : ℕ) (tree : SignedTree) (randomizer message : List ℕ) → IsSignedTree key g k tree → k ≡ length key.levels - 1
     → q ≡ leaf_at key g k → tree.head.items ++ lms_signature (tree_of tree.tree.key) q randomizer message ≡ hss_signature key g randomizer message
-unfolding hss_signature
 signature-is key g k q tree randomizer message is bottom leaf =
     ap₂ (λ head t. head ++ lms_signature t q randomizer message) is.head is.tree
     ∙ (ap (λ q. signature_head key g k ++ lms_signature (tree_at key g k) q randomizer message) leaf
-    ∙ ap (λ k. signature_head key g k ++ lms_signature (tree_at key g k) (leaf_at key g k) randomizer message) bottom)
+    ∙ (ap (λ k. signature_head key g k ++ lms_signature (tree_at key g k) (leaf_at key g k) randomizer message) bottom
+    ∙ sym (signature-parts key g randomizer message)))

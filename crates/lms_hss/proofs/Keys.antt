@@ -3,16 +3,17 @@ use Rattle.std.proofs.Common.{ℕ, ◌≡◌, ◌^◌, ◌≤◌, List, length, 
 use Rattle.std.proofs.Math.Pow.{pow_mono}
 use Rattle.std.proofs.lemmas.List.{length-map}
 use Rattle.std.proofs.lemmas.List.Elements.{All-map}
-use Rattle.lms_spec.specs.Hss.{HasKnownSets, height_of, capacity_of, hss_public_key, hss_signature, HssAccepts}
+use Rattle.lms_spec.specs.Hss.{HasKnownSets, height_of, capacity_of, HssAccepts}
+use Rattle.lms_spec.specs.Profile.{hss_public_key, hss_signature}
 use Rattle.lms_spec.proofs.Hierarchies.{hss-accepts}
 use Rattle.lms_params.proofs.KnownSets.{known_lms_set, known_ots_set}
 use Rattle.lms_hss.specs.declared.key.HssKey.{HssKey}
-use Rattle.lms_hss.specs.Levels.{level_of, levels_of, IsAdmitted}
+use Rattle.lms_hss.specs.Levels.{level_of, levels_of, most_height, IsAdmitted}
 use Rattle.lms_hss.specs.Keys.{hss_key_of}
 
--- it has at most 2^60 indices
-pub capacity-limit : (key : HssKey) → IsAdmitted key.levels → capacity_of (hss_key_of key) ≤ 2 ^ 60
-capacity-limit key admitted = pow_mono {i = height_of (levels_of key.levels)} {j = 60} admitted.not_too_tall
+-- how many indices it has at most
+pub capacity-limit : (key : HssKey) → IsAdmitted key.levels → capacity_of (hss_key_of key) ≤ 2 ^ most_height
+capacity-limit key admitted = pow_mono {i = height_of (levels_of key.levels)} {j = most_height} admitted.not_too_tall
 
 -- its signatures are accepted
 pub key-accepts : (key : HssKey) (g : ℕ) (randomizer message : List ℕ) → IsAdmitted key.levels → length key.i ≡ 16 → length randomizer ≡ 32

@@ -1,3 +1,4 @@
+pub mod Bottoms
 pub mod Forests
 pub mod Keys
 pub mod SameKeys
@@ -5,3 +6,4 @@ pub mod Ranges
 pub mod Sets
 pub mod SignedKeys
 pub mod Sent
+pub mod TopKeys

@@ -3,7 +3,8 @@ use Rattle.std.proofs.Common.{ℕ, ◌≡◌, ◌+◌, ◌-◌, ◌*◌, ◌/◌
 use Rattle.std.proofs.Math.Nat.{mul-le-mul_left, add-mul-div_right, div-lt_iff_lt-mul, le-div_iff_mul-le}
 use Rattle.std.proofs.Math.Pow.{shr_mono}
 use Rattle.std.proofs.lemmas.Nat.{shr_split}
-use Rattle.lms_spec.specs.Hss.{HssKey, level as level_at, height_of, leaf_at}
+use Rattle.lms_spec.specs.Hss.{HssKey, level as level_at, height_of}
+use Rattle.lms_spec.specs.Profile.{leaf_at}
 use Rattle.lms_params.specs.LmsType.{lms_set_of}
 use Rattle.lms_params.specs.declared.lms_type.LmsType.{LmsType}
 use Rattle.lms_params.specs.declared.lms_type.LmsType.TheVariants.{H5, H10, H15, H20, H25}

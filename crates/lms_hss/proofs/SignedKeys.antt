@@ -6,7 +6,7 @@ use Rattle.lms_spec.specs.Tree.{LmsAccepts}
 use Rattle.lms_spec.specs.Hss.{AcceptsThrough}
 use Rattle.lms_spec.proofs.HierarchyParts.{through-parts, through-length}
 use Rattle.lms_tree.specs.Parts.{HasSignaturesOf}
-use Rattle.lms_hss.specs.SignedKeys.{IsCut}
+use Rattle.lms_hss.specs.SignedKeys.{IsFirstSignedKey}
 
 -- a text that is accepted has room for a signature and a key
 pub accepted-long : (count n : ℕ) (signer message text : List ℕ)
@@ -21,7 +21,7 @@ accepted-long count n signer message text has accepted =
 
 -- the parts of a text that is accepted are accepted
 pub accepted-parts : (count : ℕ) (signer message text signature key rest : List ℕ)
-    → IsCut signer text signature key rest → AcceptsThrough (suc count) signer message text
+    → IsFirstSignedKey signer text signature key rest → AcceptsThrough (suc count) signer message text
     → LmsAccepts signer key signature × AcceptsThrough count key message rest
 accepted-parts count signer message text signature key rest cut accepted =
     let has = cut.signature_length in
@@ -42,6 +42,6 @@ accepted-parts count signer message text signature key rest cut accepted =
 
 -- a text whose parts are accepted is accepted
 pub accepts-parts : (count : ℕ) (signer message text signature key rest : List ℕ)
-    → IsCut signer text signature key rest → LmsAccepts signer key signature → AcceptsThrough count key message rest
+    → IsFirstSignedKey signer text signature key rest → LmsAccepts signer key signature → AcceptsThrough count key message rest
     → AcceptsThrough (suc count) signer message text
 accepts-parts count signer message text signature key rest cut first others = (signature, key, rest, cut.parts, first, others)

@@ -2,6 +2,10 @@
 use Rattle.std.specs.Prelude.{ℕ, ◌+◌, ◌<◌, ◌≤◌}
 use Rattle.lms_hss.specs.declared.key.HssKey.{HssKey}
 
+-- the most indices of a forest
+abbrev pub longest_lease : ℕ
+longest_lease = 1024
+
 -- a key, and a range of its indices
 pub record Covered : Type 0 where
   pub key : HssKey

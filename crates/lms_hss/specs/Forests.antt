@@ -2,10 +2,12 @@
 use Rattle.std.specs.Prelude.{ℕ, ◌≡◌, ◌+◌, ◌-◌, ◌^◌, ◌<◌, ◌≤◌, List, ◌++◌, length, map, slice_index_or}
 use Rattle.std.specs.List.{concat}
 use Rattle.lms_spec.specs.Bytes.{below, u32str}
-use Rattle.lms_spec.specs.Hss.{HssKey, tree_at, leaf_at, signed_key, child, derived, for_randomizer}
+use Rattle.lms_spec.specs.Hss.{HssKey}
+use Rattle.lms_spec.specs.Profile.{tree_at, leaf_at, signed_key, child, derived, for_randomizer}
 use Rattle.lms_spec.specs.Tree.{lms_signature, public_key_of}
 use Rattle.lms_params.specs.declared.lms_type.LmsType.{LmsType}
 use Rattle.lms_params.specs.declared.ots_type.OtsType.{OtsType}
+use Rattle.lms_tree.specs.Bands.{most_served}
 use Rattle.lms_tree.specs.TreeKey.{tree_of}
 use Rattle.lms_hss.specs.Levels.{level_of}
 use Rattle.lms_hss.specs.Keys.{hss_key_of, tree_number}
@@ -18,7 +20,7 @@ use Rattle.lms_hss.specs.declared.signed_tree.SignedTree.{SignedTree}
 pub record AreLeaves (h : ℕ) (leaves : Leaves) : Type 0 where
   pub order : leaves.first ≤ leaves.last
   pub in_tree : leaves.last < 2 ^ h
-  pub at_most : leaves.last - leaves.first < 1024
+  pub at_most : leaves.last - leaves.first < most_served
 
 -- what a signature by index g has before level k's own (6.2)
 abbrev pub signature_head : HssKey → ℕ → ℕ → List ℕ

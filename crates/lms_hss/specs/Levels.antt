@@ -1,7 +1,7 @@
 -- What a list of levels means, and which lists the signer takes.
 use Rattle.std.specs.Prelude.{ℕ, ◌≡◌, ◌-◌, ◌<◌, ◌≤◌, List, ◌++◌, length, map, take, All, replicate, Result}
 use Rattle.std.specs.Prelude.Result.{Ok, Err}
-use Rattle.lms_spec.specs.Hss.{Level, height_of}
+use Rattle.lms_spec.specs.Hss.{Level, height_of, most_levels}
 use Rattle.lms_params.specs.LmsType.{lms_set_of, IsSigned}
 use Rattle.lms_params.specs.OtsType.{ots_set_of}
 use Rattle.lms_params.specs.declared.lms_type.LmsType.{LmsType}
@@ -19,16 +19,20 @@ level_of sets = record { lms = lms_set_of sets.0; ots = ots_set_of sets.1 }
 abbrev pub levels_of : List (LmsType × OtsType) → List Level
 levels_of levels = map level_of levels
 
+-- the most that the heights of a signer's levels add up to, so that an index fits 64 bits
+abbrev pub most_height : ℕ
+most_height = 60
+
 -- eight places, of which the levels take the first
 abbrev pub padded : List (LmsType × OtsType) → List (LmsType × OtsType)
-padded levels = levels ++ replicate (8 - length levels) (H5, W1)
+padded levels = levels ++ replicate (most_levels - length levels) (H5, W1)
 
 -- the signer takes these levels
 pub record IsAdmitted (levels : List (LmsType × OtsType)) : Type 0 where
   pub some_level : 1 ≤ length levels
-  pub eight_at_most : length levels ≤ 8
+  pub eight_at_most : length levels ≤ most_levels
   pub signed : All (λ l. IsSigned l.0) levels
-  pub not_too_tall : height_of (levels_of levels) ≤ 60
+  pub not_too_tall : height_of (levels_of levels) ≤ most_height
 
 -- levels in the first places of eight
 pub record IsHeld (count : ℕ) (sets : List (LmsType × OtsType)) : Type 0 where
@@ -37,10 +41,10 @@ pub record IsHeld (count : ℕ) (sets : List (LmsType × OtsType)) : Type 0 wher
   pub admitted : IsAdmitted (take count sets)
 
 -- what is answered for a list of levels: the list, or the first fault that it has
-abbrev pub Judges : List (LmsType × OtsType) → Result (List (LmsType × OtsType)) KeyFault → Type 0
-Judges levels (Ok taken) = (taken ≡ levels) × IsAdmitted levels
-Judges levels (Err NoLevels) = length levels ≡ 0
-Judges levels (Err TooManyLevels) = 8 < length levels
-Judges levels (Err HeightNotSigned) = (1 ≤ length levels) × (length levels ≤ 8) × ¬ All (λ l. IsSigned l.0) levels
-Judges levels (Err TooTall) =
-    (1 ≤ length levels) × (length levels ≤ 8) × All (λ l. IsSigned l.0) levels × (60 < height_of (levels_of levels))
+abbrev pub JudgesLevels : List (LmsType × OtsType) → Result (List (LmsType × OtsType)) KeyFault → Type 0
+JudgesLevels levels (Ok taken) = (taken ≡ levels) × IsAdmitted levels
+JudgesLevels levels (Err NoLevels) = length levels ≡ 0
+JudgesLevels levels (Err TooManyLevels) = most_levels < length levels
+JudgesLevels levels (Err HeightNotSigned) = (1 ≤ length levels) × (length levels ≤ most_levels) × ¬ All (λ l. IsSigned l.0) levels
+JudgesLevels levels (Err TooTall) =
+    (1 ≤ length levels) × (length levels ≤ most_levels) × All (λ l. IsSigned l.0) levels × (most_height < height_of (levels_of levels))

@@ -1,7 +1,7 @@
 //! What is derived at a leaf for the tree below it: the key of that tree, and the randomizer of the signature on its public
 //! key. Both follow from the leaf alone, so an upper one-time key signs one text only, whatever message is signed below it.
 ghost use Rattle.std.specs.Prelude.{◌≡◌};
-ghost use Rattle.lms_spec.specs.Hss.{child as child_of, derived as derived_of, for_randomizer};
+ghost use Rattle.lms_spec.specs.Profile.{child as child_of, derived as derived_of, for_randomizer};
 ghost use Rattle.lms_tree.specs.TreeKey.{tree_of};
 ghost use Rattle.lms_hss.specs.Levels.{level_of};
 

@@ -1,8 +1,9 @@
 //! The trees that a range of indices needs, and signatures from them.
 ghost use Rattle.std.specs.Prelude.{◌≡◌, ◌+◌, ◌-◌, ◌≤◌, ◌↔◌, length, IsTrue, IfOk};
-ghost use Rattle.lms_spec.specs.Hss.{capacity_of, hss_signature, hss_public_key, HssAccepts};
+ghost use Rattle.lms_spec.specs.Hss.{capacity_of, HssAccepts};
+ghost use Rattle.lms_spec.specs.Profile.{hss_signature, hss_public_key};
 ghost use Rattle.lms_hss.specs.Keys.{hss_key_of};
-ghost use Rattle.lms_hss.specs.Covered.{IsCovered};
+ghost use Rattle.lms_hss.specs.Covered.{IsCovered, longest_lease};
 ghost use Rattle.lms_hss.specs.Forests.{IsSignedTree};
 
 use crate::key::HssKey;
@@ -49,7 +50,7 @@ impl Forest {
         len: u64,
     ) -> Result<Self, OutOfMemory>
         requires some { 1 ≤ len }
-        requires at_most { len ≤ 1024 }
+        requires at_most { len ≤ longest_lease }
         requires within { start + len ≤ capacity_of (hss_key_of key) }
         ensures { IfOk result (λ forest. forest ≡ record { key = key; start = start; len = len }) }
     {

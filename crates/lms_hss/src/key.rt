@@ -1,9 +1,11 @@
 //! The private key of HSS, and what its indices go through.
 ghost use Rattle.std.specs.Prelude.{ℕ, ◌≡◌, ◌↔◌, ◌+◌, ◌-◌, ◌*◌, ◌/◌, ◌%◌, ◌^◌, ◌<◌, ◌≤◌, ◌++◌, length, map, drop, min, replicate, IfOk, IsTrue};
 ghost use Rattle.lms_spec.specs.Bytes.{below, u32str};
-ghost use Rattle.lms_spec.specs.Hss.{height_of, hss_signature_length, hss_public_key, capacity_of, leaf_at, tree_at, level};
+ghost use Rattle.lms_spec.specs.Hss.{height_of, hss_signature_length, capacity_of, level, most_levels};
+ghost use Rattle.lms_spec.specs.Profile.{hss_public_key, leaf_at, tree_at};
 ghost use Rattle.lms_tree.specs.TreeKey.{tree_of};
-ghost use Rattle.lms_hss.specs.Levels.{levels_of};
+ghost use Rattle.lms_hss.specs.Levels.{levels_of, most_height};
+ghost use Rattle.lms_hss.specs.Covered.{longest_lease};
 ghost use Rattle.lms_hss.specs.Keys.{hss_key_of, tree_number as number_of};
 ghost use Rattle.lms_hss.specs.Forests.{AreLeaves};
 
@@ -44,7 +46,7 @@ impl HssKey {
     /// How many messages the key can sign: 2 to the sum of its heights, at most 2^60.
     pub fn capacity(&self) -> u64
         ensures capacity { result ≡ capacity_of (hss_key_of self.now) }
-        ensures limit { result ≤ 2 ^ 60 }
+        ensures limit { result ≤ 2 ^ most_height }
     {
         1 << self.levels.height_from(0)
     }
@@ -66,7 +68,7 @@ impl HssKey {
     pub fn places(&self, g: u64) -> [u32; MOST_LEVELS]
         requires { g < capacity_of (hss_key_of self.now) }
         ensures { result
-            ≡ map (leaf_at (hss_key_of self.now) g) (below (length self.now.levels)) ++ replicate (8 - length self.now.levels) 0 }
+            ≡ map (leaf_at (hss_key_of self.now) g) (below (length self.now.levels)) ++ replicate (most_levels - length self.now.levels) 0 }
     {
         let mut places = [0; MOST_LEVELS];
         for k in 0..self.levels.as_slice().len() {
@@ -112,7 +114,7 @@ impl HssKey {
     pub(crate) fn leaves(&self, start: u64, last: u64, k: usize, number: u64) -> Leaves
         requires there { k < length self.now.levels }
         requires order { start ≤ last }
-        requires at_most { last - start < 1024 }
+        requires at_most { last - start < longest_lease }
         requires from { number_of (hss_key_of self.now) start k ≤ number }
         requires to { number ≤ number_of (hss_key_of self.now) last k }
         ensures first { result.first ≡ number_of (hss_key_of self.now) start (k + 1) - number * 2 ^ (level (hss_key_of self.now) k).lms.h }

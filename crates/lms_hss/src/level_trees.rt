@@ -1,6 +1,7 @@
 //! The trees of one level that a range of indices goes through.
 ghost use Rattle.std.specs.Prelude.{ℕ, ◌≡◌, ◌+◌, ◌-◌, ◌<◌, ◌≤◌, length, slice_index_or, IfOk};
 ghost use Rattle.lms_spec.specs.Hss.{capacity_of};
+ghost use Rattle.lms_hss.specs.Covered.{longest_lease};
 ghost use Rattle.lms_hss.specs.Keys.{hss_key_of};
 ghost use Rattle.lms_hss.specs.Forests.{HoldsLevel};
 
@@ -28,7 +29,7 @@ impl LevelTrees {
     ) -> Result<Self, OutOfMemory>
         requires some { 1 ≤ length key.now.levels }
         requires order { start ≤ last }
-        requires at_most { last - start < 1024 }
+        requires at_most { last - start < longest_lease }
         requires within { last < capacity_of (hss_key_of key.now) }
         ensures { IfOk result (λ trees. HoldsLevel (hss_key_of key.now) 0 start last trees) }
     {
@@ -60,7 +61,7 @@ impl LevelTrees {
     ) -> Result<Self, OutOfMemory>
         requires below { k + 1 < length key.now.levels }
         requires order { start ≤ last }
-        requires at_most { last - start < 1024 }
+        requires at_most { last - start < longest_lease }
         requires within { last < capacity_of (hss_key_of key.now) }
         requires level { HoldsLevel (hss_key_of key.now) k start last self.now }
         ensures { IfOk result (λ trees. HoldsLevel (hss_key_of key.now) (k + 1) start last trees) }

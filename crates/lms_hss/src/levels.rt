@@ -1,8 +1,8 @@
 //! The levels of a key that signs.
 ghost use Rattle.std.specs.Prelude.{◌≡◌, ◌≤◌, ◌↔◌, IsTrue, All, length, drop};
 ghost use Rattle.lms_params.specs.LmsType.{IsSigned};
-ghost use Rattle.lms_spec.specs.Hss.{height_of};
-ghost use Rattle.lms_hss.specs.Levels.{levels_of, padded as padded_of, IsAdmitted, Judges};
+ghost use Rattle.lms_spec.specs.Hss.{height_of, most_levels};
+ghost use Rattle.lms_hss.specs.Levels.{levels_of, padded as padded_of, most_height, IsAdmitted, JudgesLevels};
 
 use lms_params::{LmsType, OtsType};
 use std::marker::Model;
@@ -12,10 +12,10 @@ use thiserror::Error;
 pub(crate) const MOST_LEVELS: usize = 8;
 
 /// The most that the heights of a signer's levels sum to, so that an index fits 64 bits.
-const TALLEST: u32 = 60;
+const MOST_HEIGHT: u32 = 60;
 
-/// Eight pairs of sets, to be filled with a list of levels: each is the pair that a `Levels` keeps in its unused places.
-pub const NO_SETS: [(LmsType, OtsType); MOST_LEVELS] = [(LmsType::H5, OtsType::W1); MOST_LEVELS];
+/// What a `Levels` keeps in its places where none is used.
+const NO_SETS: [(LmsType, OtsType); MOST_LEVELS] = [(LmsType::H5, OtsType::W1); MOST_LEVELS];
 
 /// Why a list of levels was refused.
 #[derive(Clone, Copy, Debug, PartialEq, Eq, Error)]
@@ -61,7 +61,7 @@ impl Levels {
     /// Takes a list of levels, from the top. The first of these faults is answered: `NoLevels`, `TooManyLevels` for more
     /// than 8, `HeightNotSigned` for a height of 20 or 25, `TooTall` for heights that sum to over 60.
     pub fn new(sets: &[(LmsType, OtsType)]) -> Result<Self, KeyFault>
-        ensures { Judges sets.now result }
+        ensures { JudgesLevels sets.now result }
     {
         if sets.is_empty() {
             return Err(KeyFault::NoLevels);
@@ -72,7 +72,7 @@ impl Levels {
         if !all_signed(sets) {
             return Err(KeyFault::HeightNotSigned);
         }
-        if height(sets) > TALLEST {
+        if height(sets) > MOST_HEIGHT {
             return Err(KeyFault::TooTall);
         }
         Ok(Levels {
@@ -93,7 +93,7 @@ impl Levels {
     pub(crate) fn height_from(&self, k: usize) -> u32
         requires { k ≤ length self.now }
         ensures height { result ≡ height_of (drop k (levels_of self.now)) }
-        ensures limit { result ≤ 60 }
+        ensures limit { result ≤ most_height }
     {
         height(&self.as_slice()[k..])
     }
@@ -101,7 +101,7 @@ impl Levels {
 
 /// Levels in the first of eight places.
 fn padded(sets: &[(LmsType, OtsType)]) -> [(LmsType, OtsType); MOST_LEVELS]
-    requires { length sets.now ≤ 8 }
+    requires { length sets.now ≤ most_levels }
     ensures { result ≡ padded_of sets.now }
 {
     let mut padded = NO_SETS;
@@ -118,7 +118,7 @@ fn all_signed(sets: &[(LmsType, OtsType)]) -> bool
 
 /// The heights of these levels, added up.
 fn height(sets: &[(LmsType, OtsType)]) -> u32
-    requires { length sets.now ≤ 8 }
+    requires { length sets.now ≤ most_levels }
     ensures { result ≡ height_of (levels_of sets.now) }
 {
     let mut height = 0;

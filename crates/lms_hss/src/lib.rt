@@ -12,9 +12,11 @@ mod levels;
 mod signed_tree;
 #[cfg(test)]
 mod tests;
+mod text;
 mod verification;
 
 pub use crate::forest::Forest;
 pub use crate::key::{HssKey, same_key};
-pub use crate::levels::{KeyFault, Levels, NO_SETS};
-pub use crate::verification::{LMS_KEY_LEN, verify};
+pub use crate::levels::{KeyFault, Levels};
+pub use crate::text::LevelsText;
+pub use crate::verification::{LMS_KEY_LEN, Verifier, verify};

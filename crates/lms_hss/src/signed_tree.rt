@@ -1,9 +1,9 @@
 //! A tree of a hierarchy, with what the levels above it sign.
 ghost use Rattle.std.specs.Prelude.{ℕ, ◌≡◌, ◌+◌, ◌≤◌, ◌++◌, length, IfOk};
-ghost use Rattle.lms_spec.specs.Parameters.{lms_signature_length};
 ghost use Rattle.lms_spec.specs.Tree.{lms_signature};
-ghost use Rattle.lms_spec.specs.Hss.{leaf_at, level};
-ghost use Rattle.lms_tree.specs.TreeKey.{tree_of};
+ghost use Rattle.lms_spec.specs.Hss.{level};
+ghost use Rattle.lms_spec.specs.Profile.{leaf_at};
+ghost use Rattle.lms_tree.specs.TreeKey.{tree_of, signature_length_under};
 ghost use Rattle.lms_hss.specs.Keys.{hss_key_of};
 ghost use Rattle.lms_hss.specs.Forests.{AreLeaves, IsChild, IsSignedTree};
 ghost use Rattle.lms_hss.specs.Levels.{level_of};
@@ -93,7 +93,7 @@ impl SignedTree {
     fn sign_key_into(&self, q: u32, c: &[u8; 32], public: &[u8; LMS_KEY_LEN], out: &mut [u8])
         requires from { self.now.tree.first ≤ q }
         requires to { q ≤ self.now.tree.last }
-        requires room { length out.old ≡ length self.now.head.items + lms_signature_length (tree_of self.now.tree.key).lms (tree_of self.now.tree.key).ots + 56 }
+        requires room { length out.old ≡ length self.now.head.items + signature_length_under self.now.tree.key + 56 }
         ensures { out.new ≡ self.now.head.items ++ lms_signature (tree_of self.now.tree.key) q c.now public.now ++ public.now }
     {
         let signed = out.len() - LMS_KEY_LEN;
@@ -105,7 +105,7 @@ impl SignedTree {
     fn sign_into(&self, q: u32, c: &[u8; 32], msg: &[u8], out: &mut [u8])
         requires from { self.now.tree.first ≤ q }
         requires to { q ≤ self.now.tree.last }
-        requires room { length out.old ≡ length self.now.head.items + lms_signature_length (tree_of self.now.tree.key).lms (tree_of self.now.tree.key).ots }
+        requires room { length out.old ≡ length self.now.head.items + signature_length_under self.now.tree.key }
         ensures { out.new ≡ self.now.head.items ++ lms_signature (tree_of self.now.tree.key) q c.now msg.now }
     {
         let start = self.head.len();

@@ -1,7 +1,11 @@
 //! Verification (RFC 8554, 6.3).
-ghost use Rattle.std.specs.Prelude.{ℕ, suc, ◌↔◌, List, IsTrue, IfSome, IfNone};
+ghost use Rattle.std.specs.Prelude.{ℕ, suc, ◌≡◌, ◌↔◌, ◌++◌, List, [], IsTrue, IfSome, IfNone};
+ghost use Rattle.lms_spec.specs.Tree.{LmsAccepts};
 ghost use Rattle.lms_spec.specs.Hss.{AcceptsThrough, HssAccepts};
-ghost use Rattle.lms_hss.specs.SignedKeys.{IsCut};
+ghost use Rattle.sha2.specs.Sha256.{sha256};
+ghost use Rattle.lms_hss.specs.SignedKeys.{IsFirstSignedKey};
+ghost use Rattle.lms_hss.specs.Bottoms.{Reaches, IsMessageHead};
+ghost use Rattle.lms_hss.specs.Verifying.{HasTaken};
 
 use crate::levels::MOST_LEVELS;
 use lms_params::split_u32;
@@ -14,30 +18,108 @@ pub const LMS_KEY_LEN: usize = 56;
 pub fn verify(public: &[u8], msg: &[u8], sig: &[u8]) -> bool
     ensures { IsTrue result ↔ HssAccepts public.now msg.now sig.now }
 {
-    let Some((levels, top_key)) = split_u32(public) else {
+    let Some(mut verifier) = Verifier::begin(public, sig) else {
         return false;
     };
-    let Some((signed_keys, signatures)) = split_u32(sig) else {
-        return false;
-    };
-    if levels == 0 || levels > MOST_LEVELS as u32 || signed_keys != levels - 1 {
-        return false;
-    }
-    verify_through(signed_keys, top_key, msg, signatures)
+    verifier.update(msg);
+    verifier.finish()
 }
 
-/// Whether these signatures, with so many signed keys in them, are accepted for a message under an LMS public key (6.3).
-fn verify_through(signed_keys: u32, key: &[u8], msg: &[u8], signatures: &[u8]) -> bool
-    ensures { IsTrue result ↔ AcceptsThrough signed_keys key.now msg.now signatures.now }
-{
-    if signed_keys == 0 {
-        return lms_tree::verify(key, msg, signatures);
+/// Verifies a signature (RFC 8554, 6.3) of a message that comes in pieces of any lengths: `begin`, `update` with each
+/// piece in its order, `finish`. For a message that another hasher takes: `begin`, `head`, `finish_by_hash`.
+#[derive(Drop)]
+pub struct Verifier<'a> {
+    bottom: lms_tree::Verifier<'a>,
+}
+
+impl<'a> Verifier<'a> {
+    /// Before the first byte of the message. The key and the signature may have any length; None is for those that have no
+    /// head, under which no message is accepted: they have not their form, or a level's signature of the key below it is not
+    /// valid. These are all verified here, since they sign keys and not the message.
+    pub fn begin(public: &'a [u8], sig: &'a [u8]) -> Option<Self>
+        ensures some { IfSome result (λ v. HasTaken v public.now sig.now []) }
+        ensures none { IfNone result ((message : List ℕ) → ¬ HssAccepts public.now message sig.now) }
+        ensures no_head { IfNone result ((head : List ℕ) → ¬ IsMessageHead public.now sig.now head) }
+    {
+        let (levels, top_key) = split_u32(public)?;
+        let (signed_keys, signatures) = split_u32(sig)?;
+        if levels == 0 || levels > MOST_LEVELS as u32 || signed_keys != levels - 1 {
+            return None;
+        }
+        let signed = Bottom::below(signed_keys, top_key, signatures)?;
+        let bottom = lms_tree::Verifier::begin(signed.key, signed.signature)?;
+        Some(Verifier { bottom })
     }
-    let Some(next) = SignedKey::parse(key, signatures) else {
-        return false;
-    };
-    lms_tree::verify(key, next.key, next.signature)
-        && verify_through(signed_keys - 1, next.key, msg, next.rest)
+
+    /// Takes the next piece of the message.
+    pub fn update(&mut self, piece: &[u8])
+        ensures { (public signature message : List ℕ)
+            → HasTaken self.old public signature message → HasTaken self.new public signature (message ++ piece.now) }
+    {
+        self.bottom.update(piece);
+    }
+
+    /// The 54 bytes that the hash of a message has before it: I, q, D_MESG and C of the bottom level (4.5).
+    pub fn head(&self) -> [u8; 54]
+        ensures { (public signature message : List ℕ) → HasTaken self.now public signature message → IsMessageHead public signature result }
+    {
+        self.bottom.head()
+    }
+
+    /// Whether the signature is accepted for a message of which another hasher made the SHA-256, over `head` and the
+    /// message (6.3). What this one has taken plays no part.
+    pub fn finish_by_hash(self, hash: &[u8; 32]) -> bool
+        ensures { (public signature taken head message : List ℕ)
+            → HasTaken self.entry public signature taken → IsMessageHead public signature head → hash.now ≡ sha256 (head ++ message)
+            → (IsTrue result ↔ HssAccepts public message signature) }
+    {
+        self.bottom.finish_by_hash(hash)
+    }
+
+    /// Whether the signature is accepted for the message (6.3).
+    pub fn finish(self) -> bool
+        ensures { (public signature message : List ℕ)
+            → HasTaken self.entry public signature message → (IsTrue result ↔ HssAccepts public message signature) }
+    {
+        self.bottom.finish()
+    }
+}
+
+/// The public key of the bottom level, whose keys above are signed, and its signature of the message (6.3).
+#[derive(Clone, Copy)]
+struct Bottom<'a> {
+    key: &'a [u8],
+    signature: &'a [u8],
+}
+
+impl<'a> Bottom<'a> {
+    /// Goes down so many signed keys, each accepted by the one above. None exactly where there are not so many: no message is
+    /// accepted then.
+    fn below(signed_keys: u32, key: &'a [u8], signatures: &'a [u8]) -> Option<Self>
+        ensures some { IfSome result (λ bottom. (message : List ℕ)
+            → (AcceptsThrough signed_keys key.now message signatures.now ↔ LmsAccepts bottom.key.now message bottom.signature.now)) }
+        ensures reached { IfSome result (λ bottom. Reaches signed_keys key.now signatures.now bottom.key.now bottom.signature.now) }
+        ensures none { IfNone result ((message : List ℕ) → ¬ AcceptsThrough signed_keys key.now message signatures.now) }
+        ensures not_reached { IfNone result ((bottom_key bottom_signature : List ℕ) → ¬ Reaches signed_keys key.now signatures.now bottom_key bottom_signature) }
+    {
+        let mut left = signed_keys;
+        let mut bottom = Bottom {
+            key,
+            signature: signatures,
+        };
+        while left > 0 {
+            let next = SignedKey::parse(bottom.key, bottom.signature)?;
+            if !lms_tree::verify(bottom.key, next.key, next.signature) {
+                return None;
+            }
+            bottom = Bottom {
+                key: next.key,
+                signature: next.rest,
+            };
+            left -= 1;
+        }
+        Some(bottom)
+    }
 }
 
 /// A public key with its signature by the level above, and what follows both (6.2).
@@ -49,11 +131,12 @@ struct SignedKey<'a> {
 }
 
 impl<'a> SignedKey<'a> {
-    /// Cuts the first signed key off, with a signature as long as the signer's are. None where the signer is no public key
-    /// of known typecodes or the text is too short: nothing of it is accepted then.
+    /// Cuts the first signed key off, with a signature as long as the signer's are. None exactly where the signer is no
+    /// public key of known typecodes or the text is too short: nothing of it is accepted then.
     fn parse(signer: &[u8], text: &'a [u8]) -> Option<Self>
-        ensures some { IfSome result (λ s. IsCut signer.now text.now s.signature.now s.key.now s.rest.now) }
+        ensures some { IfSome result (λ s. IsFirstSignedKey signer.now text.now s.signature.now s.key.now s.rest.now) }
         ensures none { IfNone result ((count : ℕ) (message : List ℕ) → ¬ AcceptsThrough (suc count) signer.now message text.now) }
+        ensures not_cut { IfNone result ((signature key rest : List ℕ) → ¬ IsFirstSignedKey signer.now text.now signature key rest) }
     {
         let length = signature_len(signer)?;
         let (signature, rest) = text.split_at_checked(length)?;

@@ -19,7 +19,7 @@ use Rattle.lms_params.specs.declared.ots_type.OtsType.{OtsType}
 use Rattle.lms_params.specs.declared.lms_type.LmsType.TheVariants.{H5, H10, H15, H20, H25}
 use Rattle.lms_params.specs.declared.ots_type.OtsType.TheVariants.{W1, W2, W4, W8}
 use Rattle.lms_params.proofs.KnownSets.{known_lms_set, known_ots_set}
-use Rattle.lms_hss.specs.Levels.{level_of, levels_of, Judges}
+use Rattle.lms_hss.specs.Levels.{level_of, levels_of, JudgesLevels}
 use Rattle.lms_hss.specs.declared.levels.KeyFault.{KeyFault}
 use Rattle.lms_hss.specs.declared.levels.KeyFault.TheVariants.{NoLevels, TooManyLevels, HeightNotSigned, TooTall}
 use Rattle.lms_image.specs.Image.{magic, head_text, level_text, is_level, height_in, number_at}
@@ -211,7 +211,7 @@ sets-more sets texts k s in_sets in_texts before e =
 
 -- what `Levels::new` refuses is a fault of the texts
 pub refused-reads : (levels : List (LmsType × OtsType)) (texts : List (List ℕ)) → map level_text levels ≡ texts → 1 ≤ length texts → length texts ≤ 8
-    → (fault : KeyFault) → Judges levels (Err fault) → ReadsLevels texts (Err (refused_as fault))
+    → (fault : KeyFault) → JudgesLevels levels (Err fault) → ReadsLevels texts (Err (refused_as fault))
 refused-reads levels texts e some most NoLevels judged = absurd (omega (arith, ap length e, length-map levels level_text))
 refused-reads levels texts e some most TooManyLevels judged = absurd (omega (arith, ap length e, length-map levels level_text))
 refused-reads levels texts e some most HeightNotSigned judged =

@@ -9,7 +9,7 @@ ghost use Rattle.lms_image.specs.Image.{image_of, fault_of, head_text, level_tex
 ghost use Rattle.lms_image.specs.Reading.{IsHeaded, IsCut, ReadsLevels, refused_as};
 
 use crate::bytes::ImageBytes;
-use lms_hss::{HssKey, KeyFault, Levels, NO_SETS};
+use lms_hss::{HssKey, KeyFault, Levels};
 use lms_params::{LmsType, OtsType, split_u32};
 use sha2::{Digest, Sha256};
 use std::error::Error;
@@ -247,13 +247,16 @@ fn refused(fault: KeyFault) -> ImageFault
     }
 }
 
-/// The sets that these bytes name, in the first of eight places. None where a typecode is unknown.
+/// The sets that these bytes name, in the first of eight places, the others filled with the top level's. None where a typecode is
+/// unknown.
 fn read_sets(texts: &[[u8; 8]]) -> Option<[(LmsType, OtsType); 8]>
-    requires { length texts.now ≤ 8 }
+    requires some { 1 ≤ length texts.now }
+    requires at_most { length texts.now ≤ 8 }
     ensures some { IfSome result (λ sets. map level_text (take (length texts.now) sets) ≡ texts.now) }
     ensures none { IfNone result (IsFalse (list_all is_level texts.now)) }
 {
-    let mut sets = NO_SETS;
+    let top = read_level(&texts[0])?;
+    let mut sets = [top; 8];
     for (k, text) in texts.iter().enumerate() {
         sets[k] = read_level(text)?;
     }

@@ -1,8 +1,8 @@
 -- The parts of a one-time signature, as they are cut from its bytes.
-use Rattle.std.proofs.Common.{ℕ, ◌≡◌, ◌+◌, ◌*◌, ◌/◌, List, ◌++◌, length, All, take, drop, sym, ◌∙◌, ap, ap₂, arith, subst, length-drop, take-append-drop}
+use Rattle.std.proofs.Common.{ℕ, ◌≡◌, ◌+◌, ◌*◌, ◌/◌, List, ◌++◌, length, All, take, drop, sym, ◌∙◌, ap, ap₂, arith, subst, refl, append_assoc, length-drop, take-append-drop}
 use Rattle.std.specs.List.{concat}
 use Rattle.std.specs.Simd.{first_chunks}
-use Rattle.std.proofs.lemmas.List.{length-take-le}
+use Rattle.std.proofs.lemmas.List.{length-take-le, take_at, drop_at}
 use Rattle.lms_spec.specs.Parameters.{OtsSet, ots_signature_length}
 use Rattle.lms_spec.specs.Bytes.{u32str}
 use Rattle.lms_spec.specs.Ots.{IsOtsSignature}
@@ -26,3 +26,12 @@ ots-parts t signature rest randomizer last values long es er el ev =
       value_lengths = subst (All Is32) (sym pieces) (chunks-are-32 t.p last (omega arith));
       parts = es ∙ ap (λ x. u32str t.code ++ x) whole;
     }
+
+-- a signature's randomizer stands after its typecode
+pub randomizer-of : (t : OtsSet) (randomizer : List ℕ) (values : List (List ℕ)) (signature : List ℕ)
+    → IsOtsSignature t randomizer values signature → take 32 (drop 4 signature) ≡ randomizer
+randomizer-of t randomizer values signature is =
+    let whole : signature ≡ u32str t.code ++ (randomizer ++ concat values) = is.parts ∙ append_assoc (u32str t.code) randomizer (concat values) in
+    ap (λ x. take 32 (drop 4 x)) whole
+    ∙ (ap (take 32) (drop_at (u32str t.code) (randomizer ++ concat values) 4 refl)
+    ∙ take_at randomizer (concat values) 32 is.randomizer_length)

@@ -60,7 +60,7 @@ impl ChainHashes {
 }
 
 /// What each hashed text of a chain begins with: I, q and i.
-fn chain_head(id: OtsId, i: u16) -> [u8; 22]
+pub(crate) fn chain_head(id: OtsId, i: u16) -> [u8; 22]
     ensures { result ≡ place id.i id.q ++ u16str i }
 {
     let mut head = [0; 22];

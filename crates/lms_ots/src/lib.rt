@@ -8,10 +8,12 @@ mod chain_hashes;
 mod hashing;
 mod one_time_key;
 mod signature;
+mod verification;
 
 pub use crate::hashing::hasher_at;
 pub use crate::one_time_key::{OtsId, chain, public_hash, secret};
-pub use crate::signature::{candidate, sign_into};
+pub use crate::signature::sign_into;
+pub use crate::verification::{Verifier, candidate};
 
 #[cfg(test)]
 mod tests;

@@ -1,16 +1,18 @@
-//! One-time signatures and their candidates (RFC 8554, 4.5 and 4.6).
-ghost use Rattle.std.specs.Prelude.{ℕ, ◌≡◌, ◌≤◌, ◌<◌, ◌++◌, List, map, length, take, slice_index, IfSome, IfNone};
-ghost use Rattle.lms_spec.specs.Bytes.{below, u32str};
+//! One-time signatures (RFC 8554, 4.5).
+ghost use Rattle.std.specs.Prelude.{ℕ, ◌≡◌, ◌≤◌, ◌++◌, List, length, take, IfSome, IfNone};
+ghost use Rattle.sha2.specs.Hashers.{Holds256};
+ghost use Rattle.lms_spec.specs.Bytes.{u16str, u32str};
+ghost use Rattle.lms_spec.specs.Hashing.{place, d_mesg};
 ghost use Rattle.lms_spec.specs.Parameters.{ots_signature_length};
-ghost use Rattle.lms_spec.specs.Ots.{last_digit as last_digit_of, public_hash as public_hash_of, end_from, ends_hash as ends_hash_of, message_hash as message_hash_of, ots_signature, IsOtsSignature, LeadsTo};
+ghost use Rattle.lms_spec.specs.Ots.{public_hash as public_hash_of, message_hash as message_hash_of, ots_signature, IsOtsSignature, LeadsTo};
 ghost use Rattle.lms_params.specs.OtsType.{ots_set_of};
 
-use crate::chain_hashes::ChainHashes;
+use crate::chain_hashes::{ChainHashes, chain_head};
 use crate::hashing::hasher_at;
-use crate::one_time_key::{D_PBLC, OtsId, chain, last_digit};
+use crate::one_time_key::OtsId;
 use byteorder::{BigEndian, ByteOrder};
 use lms_params::{OtsType, digits, split_u32};
-use sha2::Digest;
+use sha2::{Digest, Sha256};
 
 /// D_MESG: what keeps the hash of a message apart from other hashes (4.5).
 const D_MESG: u16 = 0x8181;
@@ -40,27 +42,19 @@ fn write_head(t: OtsType, c: &[u8; 32], out: &mut [u8])
     out[4..36].copy_from_slice(c);
 }
 
-/// The public hash that a signature of a message leads to (RFC 8554, 4.6). None exactly where the signature's typecode
-/// or its length is not that of `t`.
-pub fn candidate(t: OtsType, id: OtsId, sig: &[u8], msg: &[u8]) -> Option<[u8; 32]>
-    ensures some { IfSome result (λ k. LeadsTo (ots_set_of t) id.i id.q sig.now msg.now k) }
-    ensures none { IfNone result ((k : List ℕ) → ¬ LeadsTo (ots_set_of t) id.i id.q sig.now msg.now k) }
-{
-    let sig = Signature::parse(t, sig)?;
-    let digits = digits(&message_hash(id, sig.randomizer, msg), t);
-    Some(ends_hash(t, id, &digits, sig.values))
-}
-
-/// The parts of a signature (4.5): the randomizer C, and a value of each chain.
+/// The parts of a signature (4.5): its set, the randomizer C, and a value of each chain.
 #[derive(Clone, Copy)]
-struct Signature<'a> {
-    randomizer: &'a [u8; 32],
-    values: &'a [[u8; 32]],
+pub(crate) struct Signature<'a> {
+    pub(crate) t: OtsType,
+    pub(crate) randomizer: &'a [u8; 32],
+    pub(crate) values: &'a [[u8; 32]],
+    ghost count: { length values.now ≡ (ots_set_of t).p },
 }
 
 impl<'a> Signature<'a> {
     /// The parts of a signature under set `t`. None exactly where it has none.
-    fn parse(t: OtsType, sig: &'a [u8]) -> Option<Self>
+    pub(crate) fn parse(t: OtsType, sig: &'a [u8]) -> Option<Self>
+        ensures set { IfSome result (λ s. s.t ≡ t) }
         ensures some { IfSome result (λ s. IsOtsSignature (ots_set_of t) s.randomizer.now s.values.now sig.now) }
         ensures none { IfNone result ((c : List ℕ) (values : List (List ℕ)) → ¬ IsOtsSignature (ots_set_of t) c values sig.now) }
     {
@@ -73,7 +67,11 @@ impl<'a> Signature<'a> {
         }
         let (randomizer, rest) = rest.split_first_chunk::<32>()?;
         let (values, _) = rest.as_chunks::<32>();
-        Some(Signature { randomizer, values })
+        Some(Signature {
+            t,
+            randomizer,
+            values,
+        })
     }
 }
 
@@ -82,24 +80,27 @@ impl<'a> Signature<'a> {
 fn message_hash(id: OtsId, randomizer: &[u8; 32], msg: &[u8]) -> [u8; 32]
     ensures { result ≡ message_hash_of id.i id.q randomizer.now msg.now }
 {
-    let mut hasher = hasher_at(&id.i, id.q);
-    hasher.update(D_MESG.to_be_bytes());
-    hasher.update(randomizer);
+    let mut hasher = message_hasher(id, randomizer);
     hasher.update(msg);
     hasher.finalize()
 }
 
-/// The hash of the ends that the chains have, from values that stand at these digits (4.6).
-fn ends_hash(t: OtsType, id: OtsId, digits: &[u8; 265], values: &[[u8; 32]]) -> [u8; 32]
-    requires count { length values.now ≡ (ots_set_of t).p }
-    requires limit { (i : ℕ) → i < (ots_set_of t).p → slice_index digits.now i ≤ last_digit_of (ots_set_of t) }
-    ensures { result ≡ ends_hash_of id.i id.q (map (end_from (ots_set_of t) id.i id.q digits.now values.now) (below (ots_set_of t).p)) }
+/// A hasher that holds what stands before the message in the hash Q (4.5).
+pub(crate) fn message_hasher(id: OtsId, randomizer: &[u8; 32]) -> Sha256
+    ensures { Holds256 result (place id.i id.q ++ u16str d_mesg ++ randomizer.now) }
 {
-    let last = last_digit(t);
     let mut hasher = hasher_at(&id.i, id.q);
-    hasher.update(D_PBLC.to_be_bytes());
-    for i in 0..t.p() {
-        hasher.update(chain(id, i as u16, u16::from(digits[i]), last, &values[i]));
-    }
-    hasher.finalize()
+    hasher.update(D_MESG.to_be_bytes());
+    hasher.update(randomizer);
+    hasher
+}
+
+/// What stands before the message in the hash Q (4.5).
+pub(crate) fn message_head(id: OtsId, randomizer: &[u8; 32]) -> [u8; 54]
+    ensures { result ≡ place id.i id.q ++ u16str d_mesg ++ randomizer.now }
+{
+    let mut head = [0; 54];
+    head[..22].copy_from_slice(&chain_head(id, D_MESG));
+    head[22..].copy_from_slice(randomizer);
+    head
 }

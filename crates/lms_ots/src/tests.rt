@@ -1,9 +1,9 @@
-use crate::{OtsId, candidate, chain, hasher_at, public_hash, secret, sign_into};
+use crate::{OtsId, Verifier, candidate, chain, hasher_at, public_hash, secret, sign_into};
 use hex::FromHex;
 use lms_params::{LmsType, OtsType};
 use lms_slow::SlowTree;
 use lms_slow::vectors::{ONE_10_8, Vector};
-use sha2::Digest;
+use sha2::{Digest, Sha256};
 use std::alloc::{AllocError, Global};
 use std::process::Abort;
 use std::test::Fail;
@@ -114,6 +114,34 @@ fn refuses_other_sets_and_lengths(rt: HostRuntime) -> Result<(), Fail> {
         *code = 3;
     }
     assert!(rt; is_refused(OtsType::W8, &other_code));
+    Ok(())
+}
+
+/// The candidate of `abc`, which comes in pieces.
+fn by_pieces(ots: OtsType, id: OtsId, text: &[u8]) -> Option<[u8; 32]> {
+    let mut verifier = Verifier::begin(ots, id, text)?;
+    verifier.update(b"a");
+    verifier.update(b"");
+    verifier.update(b"bc");
+    Some(verifier.finish())
+}
+
+/// The candidate of `abc`, which another hasher takes.
+fn by_hash(ots: OtsType, id: OtsId, text: &[u8]) -> Option<[u8; 32]> {
+    let verifier = Verifier::begin(ots, id, text)?;
+    let mut hasher = Sha256::new();
+    hasher.update(verifier.head());
+    hasher.update(b"abc");
+    Some(verifier.finish_by_hash(&hasher.finalize()))
+}
+
+#[test]
+fn takes_a_message_in_pieces(rt: HostRuntime) -> Result<(), Fail> {
+    let text = signature(rt.alloc(), OtsType::W4, 5)?;
+    let id = OtsId { i: ID, q: 5 };
+    let public = public_hash(OtsType::W4, &SEED, id);
+    assert!(rt; by_pieces(OtsType::W4, id, &text) == Some(public));
+    assert!(rt; by_hash(OtsType::W4, id, &text) == Some(public));
     Ok(())
 }
 

@@ -1,13 +1,15 @@
 -- The signature of an index is accepted under the key's public key.
-use Rattle.std.proofs.Common.{ℕ, zero, suc, ◌≡◌, ◌+◌, ◌-◌, ◌^◌, ◌<◌, ◌≤◌, List, ◌++◌, map, length, All, Some, refl, sym, arith, subst, pow_pos, append_assoc}
+use Rattle.std.proofs.Common.{ℕ, zero, suc, ◌≡◌, ◌+◌, ◌-◌, ◌^◌, ◌<◌, ◌≤◌, List, ◌++◌, map, length, All, Some, refl, sym, ap, arith, subst, pow_pos, append_assoc}
 use Rattle.std.proofs.lemmas.List.{length-take-le}
 use Rattle.std.proofs.lemmas.Nat.{mod_below}
 use Rattle.std.specs.List.{concat, range_with_len}
 use Rattle.sha2.proofs.Facts256.{length-sha256}
 use Rattle.lms_spec.specs.Parameters.{OtsSet, LmsSet, ots_set, lms_set}
-use Rattle.lms_spec.specs.Bytes.{below}
+use Rattle.lms_spec.specs.Bytes.{below, u32str}
 use Rattle.lms_spec.specs.Tree.{public_key_of, lms_signature, LmsAccepts}
-use Rattle.lms_spec.specs.Hss.{HasKnownSets, HssKey, level, leaf_at, for_randomizer, for_child_id, derived, tree_at, signed_key, hss_public_key, hss_signature, AcceptsThrough, HssAccepts, no_level}
+use Rattle.lms_spec.specs.Hss.{most_levels, HasKnownSets, HssKey, level, AcceptsThrough, HssAccepts, no_level}
+use Rattle.lms_spec.specs.Profile.{leaf_at, for_randomizer, for_child_id, derived, tree_at, signed_key, hss_public_key, hss_signature}
+use Rattle.lms_spec.proofs.Below.{length-map-below}
 use Rattle.lms_spec.proofs.TreeSignatures.{tree-accepts}
 
 known-level : (key : HssKey) (k : ℕ) → All HasKnownSets key.levels → k < length key.levels → HasKnownSets (level key k)
@@ -68,10 +70,20 @@ accepts-from key g randomizer message bottom k (suc count) known sixteen e h lon
       accepts-from key g randomizer message bottom (k + 1) count known sixteen (omega arith) h long,
     )
 
+-- a signature by an index, part by part
+pub signature-parts : (key : HssKey) (g : ℕ) (randomizer message : List ℕ) → let bottom = length key.levels - 1 in
+    hss_signature key g randomizer message
+    ≡ u32str bottom ++ concat (map (signed_key key g) (below bottom)) ++ lms_signature (tree_at key g bottom) (leaf_at key g bottom) randomizer message
+unfolding hss_signature
+signature-parts key g randomizer message =
+    let bottom = length key.levels - 1 in
+    let last = lms_signature (tree_at key g bottom) (leaf_at key g bottom) randomizer message in
+    ap (λ n. u32str n ++ concat (map (signed_key key g) (below bottom)) ++ last) (length-map-below (signed_key key g) bottom)
+
 pub hss-accepts : (key : HssKey) (g : ℕ) (randomizer message : List ℕ)
-    → 1 ≤ length key.levels → length key.levels ≤ 8 → All HasKnownSets key.levels → length key.id ≡ 16 → length randomizer ≡ 32
+    → 1 ≤ length key.levels → length key.levels ≤ most_levels → All HasKnownSets key.levels → length key.id ≡ 16 → length randomizer ≡ 32
     → HssAccepts (hss_public_key key) message (hss_signature key g randomizer message)
-unfolding hss_public_key hss_signature
+unfolding hss_public_key
 hss-accepts key g randomizer message some most known sixteen long =
     let bottom = length key.levels - 1 in
     let last = lms_signature (tree_at key g bottom) (leaf_at key g bottom) randomizer message in
@@ -82,6 +94,6 @@ hss-accepts key g randomizer message some most known sixteen long =
       some_level = some;
       eight_at_most = most;
       key_parts = refl;
-      signature_parts = refl;
+      signature_parts = signature-parts key g randomizer message;
       accepted = accepts-from key g randomizer message bottom 0 bottom known sixteen (omega arith) (omega arith) long;
     }

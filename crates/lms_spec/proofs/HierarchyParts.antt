@@ -7,7 +7,8 @@ use Rattle.sha2.proofs.Facts256.{length-sha256}
 use Rattle.lms_spec.specs.Parameters.{OtsSet, LmsSet, ots_set, lms_set, lms_signature_length}
 use Rattle.lms_spec.specs.Bytes.{u32str}
 use Rattle.lms_spec.specs.Tree.{lms_public_key, public_key_of, lms_signature, LmsAccepts}
-use Rattle.lms_spec.specs.Hss.{Level, HssKey, leaf_at, for_randomizer, derived, tree_at, signed_key, hss_public_key, hss_signature, hss_signature_length, AcceptsThrough, no_level}
+use Rattle.lms_spec.specs.Hss.{Level, HssKey, hss_signature_length, AcceptsThrough, no_level}
+use Rattle.lms_spec.specs.Profile.{leaf_at, for_randomizer, derived, tree_at, signed_key, hss_public_key, hss_signature}
 use Rattle.lms_spec.proofs.Lengths.{length-lms, length-lms_signature, length-public_key}
 use Rattle.lms_spec.proofs.Parts.{key-parts-same}
 use Rattle.lms_spec.proofs.Hierarchies.{level-lms, level-ots, length-id, signatures_from}

@@ -6,7 +6,8 @@ use Rattle.lms_spec.specs.Parameters.{OtsSet, LmsSet, ots_set, lms_set, ots_sign
 use Rattle.lms_spec.specs.Digits.{digit, checksum, digits_of}
 use Rattle.lms_spec.specs.Ots.{chain, public_hash, ots_signature, LeadsTo}
 use Rattle.lms_spec.specs.Tree.{Tree, leaf_hash, inner_hash, node, path_of, climb, lms_public_key, public_key_of, lms_signature, LmsAccepts}
-use Rattle.lms_spec.specs.Hss.{HasKnownSets, HssKey, hss_signature_length, capacity_of, leaf_at, signed_key, hss_public_key, hss_signature, AcceptsThrough, HssAccepts}
+use Rattle.lms_spec.specs.Hss.{most_levels, HasKnownSets, HssKey, hss_signature_length, capacity_of, AcceptsThrough, HssAccepts}
+use Rattle.lms_spec.specs.Profile.{leaf_at, signed_key, hss_public_key, hss_signature}
 
 -- a number's bytes read as one number are that number
 abbrev pub NumbersReadBack : Type 0
@@ -136,7 +137,7 @@ HssSignatureLength =
 abbrev pub HssSignatureAccepted : Type 0
 HssSignatureAccepted =
     (key : HssKey) (g : ℕ) (randomizer message : List ℕ)
-    → 1 ≤ length key.levels → length key.levels ≤ 8 → All HasKnownSets key.levels → length key.id ≡ 16 → length randomizer ≡ 32
+    → 1 ≤ length key.levels → length key.levels ≤ most_levels → All HasKnownSets key.levels → length key.id ≡ 16 → length randomizer ≡ 32
     → HssAccepts (hss_public_key key) message (hss_signature key g randomizer message)
 
 -- the parts of accepted signatures stand where the sets of the key above put them

@@ -5,5 +5,6 @@ pub mod Hashing
 pub mod Ots
 pub mod Tree
 pub mod Hss
+pub mod Profile
 pub mod Laws
 pub mod Worked

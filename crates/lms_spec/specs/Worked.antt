@@ -8,7 +8,8 @@ use Rattle.lms_spec.specs.Digits.{digits_of}
 use Rattle.lms_spec.specs.Hashing.{chain_secret, chain_step}
 use Rattle.lms_spec.specs.Ots.{last_digit, ends_hash, message_hash}
 use Rattle.lms_spec.specs.Tree.{Tree, leaf_hash, inner_hash, lms_public_key}
-use Rattle.lms_spec.specs.Hss.{Level, HssKey, hss_signature_length, capacity_of, leaf_at, for_randomizer, derived, child}
+use Rattle.lms_spec.specs.Hss.{Level, HssKey, hss_signature_length, capacity_of}
+use Rattle.lms_spec.specs.Profile.{leaf_at, for_randomizer, derived, child}
 
 -- a list n times over
 abbrev pub times : ℕ → List ℕ → List ℕ
@@ -62,8 +63,8 @@ pub record WorkedTexts : Type 0 where
   pub public_key :
       lms_public_key lms_h5 ots_w8 id_bytes value_bytes ≡ 0 ∷ 0 ∷ 0 ∷ 5 ∷ 0 ∷ 0 ∷ 0 ∷ 4 ∷ id_bytes ++ value_bytes
 
-abbrev pub level_of : LmsSet → OtsSet → Level
-level_of m t = record { lms = m; ots = t }
+abbrev pub level_in_case : LmsSet → OtsSet → Level
+level_in_case m t = record { lms = m; ots = t }
 
 abbrev pub tree_in_case : Tree
 tree_in_case = record { lms = lms_h5; ots = ots_w8; id = id_bytes; seed = value_bytes }
@@ -71,10 +72,10 @@ tree_in_case = record { lms = lms_h5; ots = ots_w8; id = id_bytes; seed = value_
 -- what is derived at a leaf for the tree below it
 pub record WorkedChildren : Type 0 where
   pub seed :
-      (child tree_in_case 1 (level_of lms_h5 ots_w8)).seed
+      (child tree_in_case 1 (level_in_case lms_h5 ots_w8)).seed
       ≡ sha256 (id_bytes ++ 0 ∷ 0 ∷ 0 ∷ 1 ∷ 0xff ∷ 0xfe ∷ 0xff ∷ value_bytes)
   pub id :
-      (child tree_in_case 1 (level_of lms_h5 ots_w8)).id
+      (child tree_in_case 1 (level_in_case lms_h5 ots_w8)).id
       ≡ take 16 (sha256 (id_bytes ++ 0 ∷ 0 ∷ 0 ∷ 1 ∷ 0xff ∷ 0xff ∷ 0xff ∷ value_bytes))
   pub randomizer :
       derived tree_in_case 1 for_randomizer ≡ sha256 (id_bytes ++ 0 ∷ 0 ∷ 0 ∷ 1 ∷ 0xff ∷ 0xfd ∷ 0xff ∷ value_bytes)
@@ -88,13 +89,13 @@ abbrev pub leaves_of : List Level → ℕ → List ℕ
 leaves_of levels g = map (leaf_at (key_of levels) g) (below (length levels))
 
 abbrev pub two_levels : List Level
-two_levels = replicate 2 (level_of lms_h5 ots_w8)
+two_levels = replicate 2 (level_in_case lms_h5 ots_w8)
 
 abbrev pub three_levels : List Level
-three_levels = level_of lms_h5 ots_w8 ∷ level_of lms_h10 ots_w4 ∷ level_of lms_h5 ots_w8 ∷ []
+three_levels = level_in_case lms_h5 ots_w8 ∷ level_in_case lms_h10 ots_w4 ∷ level_in_case lms_h5 ots_w8 ∷ []
 
 abbrev pub eight_levels : List Level
-eight_levels = replicate 8 (level_of lms_h5 ots_w8)
+eight_levels = replicate 8 (level_in_case lms_h5 ots_w8)
 
 -- leaves of indices, and capacities
 pub record WorkedPlaces : Type 0 where
@@ -105,7 +106,7 @@ pub record WorkedPlaces : Type 0 where
   pub below_the_top : leaves_of eight_levels 34359738367 ≡ 0 ∷ replicate 7 31
   pub at_the_top : leaves_of eight_levels 34359738368 ≡ 1 ∷ replicate 7 0
   pub two_capacity : capacity_of (key_of two_levels) ≡ 1024
-  pub four_capacity : capacity_of (key_of (replicate 4 (level_of lms_h15 ots_w8))) ≡ 1152921504606846976
+  pub four_capacity : capacity_of (key_of (replicate 4 (level_in_case lms_h15 ots_w8))) ≡ 1152921504606846976
   pub eight_capacity : capacity_of (key_of eight_levels) ≡ 1099511627776
 
 -- the lengths of signatures
@@ -114,9 +115,9 @@ pub record WorkedLengths : Type 0 where
   pub h5_w8 : lms_signature_length lms_h5 ots_w8 ≡ 1292
   pub h10_w4 : lms_signature_length lms_h10 ots_w4 ≡ 2508
   pub h25_w1 : lms_signature_length lms_h25 ots_w1 ≡ 9324
-  pub hss_one : hss_signature_length (level_of lms_h5 ots_w8 ∷ []) ≡ 1296
+  pub hss_one : hss_signature_length (level_in_case lms_h5 ots_w8 ∷ []) ≡ 1296
   pub hss_two : hss_signature_length two_levels ≡ 2644
   pub hss_three : hss_signature_length three_levels ≡ 5208
-  pub hss_four : hss_signature_length (replicate 4 (level_of lms_h15 ots_w8)) ≡ 6620
-  pub hss_all_widths : hss_signature_length (map (level_of lms_h5) ots_sets) ≡ 16956
+  pub hss_four : hss_signature_length (replicate 4 (level_in_case lms_h15 ots_w8)) ≡ 6620
+  pub hss_all_widths : hss_signature_length (map (level_in_case lms_h5) ots_sets) ≡ 16956
   pub hss_eight : hss_signature_length eight_levels ≡ 10732

@@ -1,1 +1,1 @@
-pub mod LastWrites
+pub mod Keeping

@@ -1,5 +1,5 @@
 -- A store in a file of the disk: what it wrote since it was made, and what a stop leaves by that.
-use Rattle.std.specs.Prelude.{◌≡◌, ◌⊎◌, ℕ, ◌<◌, ◌≤◌, List, [], ◌∷◌, ◌++◌, codes, length, Bool, true, false, Result, Ok, Err, Option, Some, None}
+use Rattle.std.specs.Prelude.{◌≡◌, ◌⊎◌, ℕ, ◌<◌, ◌≤◌, List, [], ◌∷◌, ◌++◌, codes, length, reverse, take, Contains, if◌then◌else◌, Bool, true, false, Result, Ok, Err, Option, Some, None}
 use Rattle.std.specs.Global.{Vec}
 use Rattle.std.specs.Path.{dot, path_parent}
 use Rattle.lms_book.specs.declared.store.ReadFault.{ReadFault}
@@ -48,41 +48,50 @@ fresh = record { writes = []; failures = 0 }
 abbrev pub written : FileState → List ℕ → Bool → FileState
 written store text stored = record store { writes = record { text = text; stored = stored } ∷ store.writes }
 
--- these writes, the newest of them stored for certain
-abbrev pub confirm_newest : List FileWrite → List FileWrite
-confirm_newest [] = []
-confirm_newest (newest ∷ older) = record newest { stored = true } ∷ older
-
--- the newest write is stored for certain
-abbrev pub confirmed : FileState → FileState
-confirmed store = record store { writes = confirm_newest store.writes }
-
 -- a failure is counted
 abbrev pub failed : FileState → FileState
 failed store = record store { failures = raised store.failures }
-
--- for how many writes a store takes memory when it is made
-abbrev pub room : ℕ
-room = 8
 
 -- the longest text that a store takes, in bytes
 abbrev pub most_bytes : ℕ
 most_bytes = 256
 
--- there is memory for a write of this text already, and the text is short enough
-pub record HasRoom (store : FileState) (text : List ℕ) : Type 0 where
-  pub room_left : length store.writes < room
-  pub short : length text ≤ most_bytes
+-- how many texts a store keeps at most of those that it tried since the last certain write
+abbrev pub most_tried : ℕ
+most_tried = 3
+
+-- the text that was stored for certain last
+abbrev pub last_certain : List FileWrite → Option (List ℕ)
+last_certain [] = None
+last_certain (newest ∷ older) = if newest.stored then Some newest.text else last_certain older
+
+-- the texts that were tried since then, the newest first
+abbrev pub tried_since : List FileWrite → List (List ℕ)
+tried_since [] = []
+tried_since (newest ∷ older) = if newest.stored then [] else newest.text ∷ tried_since older
+
+-- the certain text, and behind it the newest tried ones, the oldest of them first; nothing where no text is certain
+abbrev pub kept_of : Option (List ℕ) → List (List ℕ) → List (List ℕ)
+kept_of None tried = []
+kept_of (Some certain) tried = certain ∷ reverse (take most_tried tried)
+
+-- the texts that a store keeps after these writes
+abbrev pub kept_after : List FileWrite → List (List ℕ)
+kept_after writes = kept_of (last_certain writes) (tried_since writes)
+
+-- a store takes this text for its own after these writes: it keeps none, so that any text may be there, or it keeps this one
+abbrev pub Knows : List FileWrite → List ℕ → Type 0
+Knows writes text = (kept_after writes ≡ []) ⊎ Contains (kept_after writes) text
 
 -- what a write of this text answers and leaves
 abbrev pub Replaces : {T : Type 0} → FileState → List ℕ → Result T StoreFault → FileState → Type 0
 Replaces old text (Ok done) new = (length text ≤ most_bytes) × (new ≡ written old text true)
 Replaces old text (Err fault) new =
-    ((length text ≤ most_bytes) × (new ≡ failed (written old text false))) ⊎ ((¬ HasRoom old text) × (new ≡ failed old))
+    ((length text ≤ most_bytes) × (new ≡ failed (written old text false))) ⊎ ((most_bytes < length text) × (new ≡ failed old))
 
 -- what a read answers and leaves
 abbrev pub Reads : FileState → Result (Vec ℕ) ReadFault → FileState → Type 0
-Reads old (Ok text) new = Leaves old.writes text.items × (new ≡ old)
+Reads old (Ok text) new = Knows old.writes text.items × (new ≡ old)
 Reads old (Err Device) new = new ≡ failed old
 Reads old (Err OutOfMemory) new = new ≡ old
 

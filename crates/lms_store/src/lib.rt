@@ -3,9 +3,6 @@
 //! Take the lock before the store, and hold it as long as the store is used: two stores in one file give one index twice,
 //! and so does an older copy of the file that is put back, or a second name of it by a hard link. Nothing here can see either.
 //!
-//! A store records each write until it is dropped, so one that is kept open for many writes grows. Close the book and open the
-//! store anew to begin a new record.
-//!
 //! No contract knows a disk. What is proved speaks of the bytes that were written through a store, and rests on two premises:
 //! a rename replaces the file whole, so that a crash within it leaves the old file or the new one; and once `sync_all`
 //! answered `Ok`, a crash loses neither the bytes of that file nor the names in that folder.
@@ -17,6 +14,7 @@ mod paths;
 mod record;
 #[cfg(test)]
 mod tests;
+mod writes;
 
 pub use crate::file_store::FileStore;
 pub use crate::locking::{TryLock, lock};

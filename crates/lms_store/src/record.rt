@@ -1,77 +1,112 @@
-//! What a store of files wrote since it was made.
-ghost use Rattle.std.specs.Prelude.{◌≡◌, ◌≤◌, ◌<◌, ◌↔◌, IfNone, IfSome, IsTrue, false, length, true};
-ghost use Rattle.lms_store.specs.FileStores.{Leaves, most_bytes};
+//! What a store of files has to know of its writes, to judge a read.
+ghost use Rattle.std.specs.Prelude.{◌≡◌, ◌≤◌, ◌<◌, ◌↔◌, List, [], ◌∷◌, IfNone, IfSome, IsTrue, false, length, true};
+ghost use Rattle.lms_store.specs.FileStores.{FileWrite, Knows, most_bytes};
 
+use crate::writes::Writes;
 use arrayvec::ArrayVec;
-use std::collections::VecDeque;
 use std::marker::Model;
 
 /// The longest text that a store takes, in bytes.
 const MOST_BYTES: usize = 256;
 
-/// A write: its text, of at most 256 bytes, and whether it was stored for certain.
+/// How many texts a store keeps at most: the one that was stored for certain last, and three that were tried since.
+const MOST_TEXTS: usize = 4;
+
+/// Where the oldest tried text stands, behind the certain one.
+const OLDEST_TRIED: usize = 1;
+
+/// A text of at most 256 bytes. Contracts see its bytes.
+#[derive(Default, Drop)]
+pub(crate) struct Text {
+    bytes: ArrayVec<u8, MOST_BYTES>,
+}
+
+impl Model for Text {
+    ghost use Rattle.std.specs.Prelude.{List, ℕ};
+
+    ghost Value = { List ℕ };
+
+    ghost view = { λ text. text.bytes.items };
+}
+
+impl Text {
+    /// A text of these bytes. `None` where there are over 256.
+    pub(crate) fn new(bytes: &[u8]) -> Option<Self>
+        ensures made { IfSome result (λ text. text ≡ bytes.now) }
+        ensures short { IfSome result (λ _. length bytes.now ≤ most_bytes) }
+        ensures long { IfNone result (most_bytes < length bytes.now) }
+    {
+        let bytes = ArrayVec::try_from(bytes).ok()?;
+        Some(Text { bytes })
+    }
+
+    /// The bytes.
+    fn as_slice(&self) -> &[u8]
+        ensures { result.now ≡ self.now }
+    {
+        self.bytes.as_slice()
+    }
+}
+
+/// The writes of a store, of which it keeps in place, without taking memory, the text that was stored for certain last and
+/// those tried since. Contracts see all writes, the newest first.
 #[derive(Drop)]
-pub(crate) struct Attempt {
-    text: ArrayVec<u8, MOST_BYTES>,
-    stored: bool,
+pub(crate) struct Record {
+    writes: Writes,
+    // The certain one first, then the tried ones, the oldest first. None before a first certain one, when any text may be left.
+    kept: ArrayVec<Text, MOST_TEXTS>,
 }
 
-impl Model for Attempt {
-    ghost use Rattle.lms_store.specs.FileStores.{FileWrite};
+impl Model for Record {
+    ghost use Rattle.std.specs.Prelude.{◌≡◌, List};
+    ghost use Rattle.lms_store.specs.FileStores.{FileWrite, kept_after};
 
-    ghost Value = { FileWrite };
+    ghost Value = { List FileWrite };
 
-    ghost view = { λ attempt. record { text = attempt.text.items; stored = attempt.stored } };
+    ghost view = { λ entry. entry.writes.made };
+
+    ghost invariant = { λ entry. entry.kept.items ≡ kept_after entry.writes.made };
 }
 
-impl Attempt {
-    /// A write of these bytes that is not stored for certain. `None` where there are over 256.
-    pub(crate) fn new(text: &[u8]) -> Option<Self>
-        ensures made { IfSome result (λ attempt. attempt ≡ record { text = text.now; stored = false }) }
-        ensures short { IfSome result (λ _. length text.now ≤ most_bytes) }
-        ensures long { IfNone result (most_bytes < length text.now) }
+impl Record {
+    /// No writes.
+    pub(crate) fn new() -> Self
+        ensures { result ≡ [] }
     {
-        let text = ArrayVec::try_from(text).ok()?;
-        Some(Attempt {
-            text,
-            stored: false,
-        })
-    }
-
-    /// From now on it is stored for certain.
-    pub(crate) fn confirm(&mut self)
-        ensures { self.new ≡ record self.old { stored = true } }
-    {
-        self.stored = true;
-    }
-
-    /// Its text.
-    fn text(&self) -> &[u8]
-        ensures { result.now ≡ self.now.text }
-    {
-        self.text.as_slice()
-    }
-
-    /// Whether it was stored for certain.
-    fn is_stored(&self) -> bool
-        ensures { result ≡ self.now.stored }
-    {
-        self.stored
-    }
-}
-
-/// Whether a crash after these writes, the newest first, could leave these bytes. The first write that has them or is
-/// stored for certain decides.
-pub(crate) fn leaves(writes: &VecDeque<Attempt>, text: &[u8]) -> bool
-    ensures { IsTrue result ↔ Leaves writes.now.items text.now }
-{
-    for write in writes {
-        if write.text() == text {
-            return true;
-        }
-        if write.is_stored() {
-            return false;
+        Record {
+            writes: Writes::new(),
+            kept: ArrayVec::new(),
         }
     }
-    true
+
+    /// Adds a write whose text was stored for certain, so that no other one can be left.
+    pub(crate) fn stored(&mut self, text: Text)
+        ensures { self.new ≡ record { text = text; stored = true } ∷ self.old }
+    {
+        self.writes.add(text.as_slice(), true);
+        self.kept.clear();
+        self.kept.push(text);
+    }
+
+    /// Adds a write whose text was tried. Where four texts are kept, the oldest tried one is forgotten.
+    pub(crate) fn failed(&mut self, text: Text)
+        ensures { self.new ≡ record { text = text; stored = false } ∷ self.old }
+    {
+        self.writes.add(text.as_slice(), false);
+        if self.kept.is_empty() {
+            return;
+        }
+        if self.kept.is_full() {
+            let _ = self.kept.remove(OLDEST_TRIED);
+        }
+        self.kept.push(text);
+    }
+
+    /// Whether a text is one of those kept, each of which a crash could leave. Where none is kept, any text may be there. One that
+    /// was forgotten is not known, though a crash could leave it, too.
+    pub(crate) fn knows(&self, text: &[u8]) -> bool
+        ensures { IsTrue result ↔ Knows self.now text.now }
+    {
+        self.kept.is_empty() || self.kept.iter().any(|kept| kept.as_slice() == text)
+    }
 }

@@ -1,13 +1,14 @@
 //! A signer and an exact verifier of HSS/LMS signatures (RFC 8554).
 #![tactic(auto)]
 
-mod command;
-mod run;
 mod streams;
+#[cfg(test)]
+mod tests;
 
-use crate::run::{report, run};
 use crate::streams::hold_closed_streams;
-use lms_commands::{DiskWorld, Fault};
+use lms_commands::Fault;
+use lms_program::run::{report, run};
+use lms_world::DiskWorld;
 use std::env;
 use std::io::ErrorKind;
 use std::process::ExitCode;

@@ -1,5 +1,5 @@
 -- What the parts of a key and of a signature have to do with acceptance.
-use Rattle.std.proofs.Common.{ℕ, ◌≡◌, ◌+◌, ◌^◌, ◌<◌, List, ◌++◌, sym, ◌∙◌, ap, subst}
+use Rattle.std.proofs.Common.{ℕ, ◌≡◌, ◌+◌, ◌^◌, ◌<◌, ◌↔◌, Bool, IsTrue, List, ◌++◌, sym, ◌∙◌, ap, subst}
 use Rattle.std.specs.List.{concat}
 use Rattle.lms_spec.specs.Parameters.{OtsSet, LmsSet, ots_signature_length}
 use Rattle.lms_spec.specs.Bytes.{u32str}
@@ -91,3 +91,14 @@ accepts-parts m t id root public_key q ots_part path message signature candidate
   leads_to = leads;
   climbs_to_root = climbs;
 }
+
+-- a test of whether a leaf's climb ends at the root says whether the signature is accepted
+pub accepts-when-root : (m : LmsSet) (t : OtsSet) (id root public_key : List ℕ) (q : ℕ) (ots_part : List ℕ) (path : List (List ℕ)) (message signature candidate : List ℕ) (leaf : ℕ) (result : Bool)
+    → IsLmsPublicKey m t id root public_key → IsLmsSignature m t q ots_part path signature → leaf ≡ 2 ^ m.h + q
+    → LeadsTo t id q ots_part message candidate → (IsTrue result ↔ climb id leaf (leaf_hash id leaf candidate) path ≡ root)
+    → (IsTrue result ↔ LmsAccepts public_key message signature)
+accepts-when-root m t id root public_key q ots_part path message signature candidate leaf result key is leaf_is leads test =
+    let ends : ℕ → Type 0 = λ r. climb id r (leaf_hash id r candidate) path ≡ root in (
+      λ e. accepts-parts m t id root public_key q ots_part path message signature candidate key is leads (subst ends leaf_is (test.0 e)),
+      λ a. test.1 (subst ends (sym leaf_is) (climb-of-accepted m t id root public_key q ots_part path message signature candidate key is leads a)),
+    )

@@ -15,9 +15,17 @@ pub record ServedLeaves : Type 0 where
 abbrev pub root_rows : ℕ → Rows
 root_rows depth = record { first = 1; width = 1; depth = depth }
 
+-- the most leaves that are served, so that two bottom subtrees at most hold them
+abbrev pub most_served : ℕ
+most_served = 1024
+
+-- the greatest height of a bottom subtree
+abbrev pub tallest_subtree : ℕ
+tallest_subtree = 10
+
 -- the height of the bottom subtrees of a tree of height h
 abbrev pub bottom_height : ℕ → ℕ
-bottom_height h = min h 10
+bottom_height h = min h tallest_subtree
 
 -- the number of bottom subtrees that hold the leaves from `first` to `last`
 abbrev pub subtrees : ℕ → ℕ → ℕ → ℕ
@@ -36,11 +44,15 @@ lower_rows h first last = record {
 abbrev pub kept_nodes : ℕ → ℕ → ℕ → ℕ
 kept_nodes h first last = 2 ^ (h - bottom_height h + 1) - 1 + subtrees h first last * (2 ^ (bottom_height h + 1) - 1)
 
+-- the most nodes of both, which a tree of height 25 has where two of its subtrees hold the leaves
+abbrev pub most_kept : ℕ
+most_kept = 69629
+
 -- what serves the leaves from `first` to `last`
 pub record HoldsBands (first last : ℕ) (upper lower : RowsOf) : Type 0 where
   pub order : first ≤ last
   pub in_tree : last < 2 ^ (tree_of upper.key).lms.h
-  pub at_most : last - first < 1024
+  pub at_most : last - first < most_served
   pub upper_rows : upper.rows ≡ root_rows ((tree_of upper.key).lms.h - bottom_height (tree_of upper.key).lms.h)
   pub lower_key : lower.key ≡ upper.key
   pub lower_rows_are : lower.rows ≡ lower_rows (tree_of upper.key).lms.h first last

@@ -3,6 +3,7 @@ use Rattle.std.specs.Prelude.{ℕ, ◌≡◌, ◌^◌, ◌<◌, List, ◌++◌, 
 use Rattle.std.specs.List.{concat}
 use Rattle.lms_spec.specs.Parameters.{OtsSet, LmsSet, ots_set, lms_set, ots_signature_length, lms_signature_length}
 use Rattle.lms_spec.specs.Bytes.{u32str}
+use Rattle.lms_spec.specs.Ots.{IsOtsSignature}
 use Rattle.lms_spec.specs.Tree.{lms_public_key}
 
 -- the parts of an LMS public key of known sets (5.3)
@@ -29,3 +30,18 @@ pub record IsLmsSignature (m : LmsSet) (t : OtsSet) (q : ℕ) (ots_part : List �
   pub path_count : length path ≡ m.h
   pub path_lengths : All (λ v. length v ≡ 32) path
   pub parts : signature ≡ u32str q ++ ots_part ++ u32str m.code ++ concat path
+
+-- a public key of known sets, and a signature of its typecodes and lengths, the one-time part's among them (5.3, 5.4 and 4.5)
+pub record HasParts (public_key signature : List ℕ) : Type 0 where
+  pub lms : LmsSet
+  pub ots : OtsSet
+  pub id : List ℕ
+  pub root : List ℕ
+  pub key_parts : IsLmsPublicKey lms ots id root public_key
+  pub q : ℕ
+  pub ots_part : List ℕ
+  pub path : List (List ℕ)
+  pub signature_parts : IsLmsSignature lms ots q ots_part path signature
+  pub randomizer : List ℕ
+  pub values : List (List ℕ)
+  pub one_time_parts : IsOtsSignature ots randomizer values ots_part

@@ -1,5 +1,7 @@
 -- What a `TreeKey` means.
-use Rattle.lms_spec.specs.Tree.{Tree}
+use Rattle.std.specs.Prelude.{ℕ, List}
+use Rattle.lms_spec.specs.Parameters.{lms_signature_length}
+use Rattle.lms_spec.specs.Tree.{Tree, public_key_of, lms_signature}
 use Rattle.lms_params.specs.LmsType.{lms_set_of}
 use Rattle.lms_params.specs.OtsType.{ots_set_of}
 use Rattle.lms_tree.specs.declared.tree_key.TreeKey.{TreeKey}
@@ -7,3 +9,15 @@ use Rattle.lms_tree.specs.declared.tree_key.TreeKey.{TreeKey}
 -- the tree of a key
 abbrev pub tree_of : TreeKey → Tree
 tree_of key = record { lms = lms_set_of key.lms; ots = ots_set_of key.ots; id = key.i; seed = key.seed }
+
+-- the public key (5.3)
+abbrev pub public_text : TreeKey → List ℕ
+public_text key = public_key_of (tree_of key)
+
+-- the signature of a message by leaf q (5.4.1)
+abbrev pub signature_text : TreeKey → ℕ → List ℕ → List ℕ → List ℕ
+signature_text key q randomizer message = lms_signature (tree_of key) q randomizer message
+
+-- the bytes of a signature (5.4)
+abbrev pub signature_length_under : TreeKey → ℕ
+signature_length_under key = lms_signature_length (lms_set_of key.lms) (ots_set_of key.ots)

@@ -2,7 +2,7 @@
 ghost use Rattle.std.specs.Prelude.{◌≡◌, ◌+◌, ◌-◌, ◌^◌, ◌<◌, ◌≤◌, IfOk};
 ghost use Rattle.lms_tree.specs.TreeKey.{tree_of};
 ghost use Rattle.lms_params.specs.LmsType.{lms_set_of};
-ghost use Rattle.lms_tree.specs.Bands.{bottom_height as bottom_height_of, kept_nodes, lower_rows as lower_rows_of};
+ghost use Rattle.lms_tree.specs.Bands.{bottom_height as bottom_height_of, kept_nodes, lower_rows as lower_rows_of, most_kept, most_served};
 
 use crate::band::{Band, Rows};
 use crate::node_source::NodeSource;
@@ -11,6 +11,9 @@ use lms_params::{LmsType, OutOfMemory};
 use std::alloc::Global;
 use std::marker::Model;
 use std::thread::Threads;
+
+/// The greatest height of a bottom subtree.
+const TALLEST_SUBTREE: u32 = 10;
 
 /// A tree that serves a range of leaves. Its bottom subtrees are those of height 10, or of the tree's height where that is less:
 /// their roots and all nodes above them are held, and the one or two bottom subtrees that hold the leaves served are held whole.
@@ -47,7 +50,7 @@ impl BandTree {
     ) -> Result<Self, OutOfMemory>
         requires order { first ≤ last }
         requires in_tree { last < 2 ^ (tree_of key).lms.h }
-        requires at_most { last - first < 1024 }
+        requires at_most { last - first < most_served }
         ensures { IfOk result (λ tree. tree ≡ record { key = key; first = first; last = last }) }
     {
         let lower_rows = lower_rows(key.lms, first, last);
@@ -68,7 +71,7 @@ impl BandTree {
     /// bottom subtree that holds a leaf served, whose root so counts twice.
     pub fn kept(&self) -> usize
         ensures count { result ≡ kept_nodes (tree_of self.now.key).lms.h self.now.first self.now.last }
-        ensures limit { result ≤ 69629 }
+        ensures limit { result ≤ most_kept }
     {
         self.upper.len() + self.lower.len()
     }
@@ -108,7 +111,7 @@ impl NodeSource for BandTree {
 fn bottom_height(lms: LmsType) -> u32
     ensures { result ≡ bottom_height_of (lms_set_of lms).h }
 {
-    lms.height().min(10)
+    lms.height().min(TALLEST_SUBTREE)
 }
 
 /// The rows of the bottom subtrees that hold a range of leaves.

@@ -19,5 +19,5 @@ pub use crate::band_tree::BandTree;
 pub use crate::node_source::NodeSource;
 pub use crate::signing::{public_bytes, sign_into};
 pub use crate::tree_key::TreeKey;
-pub use crate::verification::{signature_len, verify};
+pub use crate::verification::{Verifier, signature_len, verify};
 pub use crate::whole_tree::WholeTree;

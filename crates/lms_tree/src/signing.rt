@@ -1,13 +1,13 @@
 //! Public keys and signatures from a source of nodes (RFC 8554, 5.3 and 5.4.1).
 ghost use Rattle.std.specs.Prelude.{◌≡◌, ◌+◌, ◌*◌, ◌^◌, ◌≤◌, ◌<◌, ◌++◌, length};
 ghost use Rattle.std.specs.List.{concat};
-ghost use Rattle.lms_spec.specs.Parameters.{lms_signature_length, ots_signature_length};
+ghost use Rattle.lms_spec.specs.Parameters.{ots_signature_length};
 ghost use Rattle.lms_spec.specs.Bytes.{u32str};
 ghost use Rattle.lms_spec.specs.Ots.{ots_signature};
-ghost use Rattle.lms_spec.specs.Tree.{path_of, sibling as sibling_of, lms_public_key, public_key_of, lms_signature, LmsAccepts};
+ghost use Rattle.lms_spec.specs.Tree.{path_of, sibling as sibling_of, lms_public_key, LmsAccepts};
 ghost use Rattle.lms_params.specs.LmsType.{lms_set_of};
 ghost use Rattle.lms_params.specs.OtsType.{ots_set_of};
-ghost use Rattle.lms_tree.specs.TreeKey.{tree_of};
+ghost use Rattle.lms_tree.specs.TreeKey.{tree_of, public_text, signature_text, signature_length_under};
 
 use crate::node_source::NodeSource;
 use crate::nodes::leaf_count;
@@ -18,7 +18,7 @@ use lms_params::{LmsType, OtsType};
 
 /// The public key of a tree, 56 bytes (RFC 8554, 5.3).
 pub fn public_bytes<N: NodeSource>(source: &N) -> [u8; 56]
-    ensures { result ≡ public_key_of (tree_of (N.tree_key source.now)) }
+    ensures { result ≡ public_text (N.tree_key source.now) }
 {
     let key = source.key();
     public_key_bytes(key.lms, key.ots, &key.i, &source.node(1))
@@ -29,10 +29,9 @@ pub fn public_bytes<N: NodeSource>(source: &N) -> [u8; 56]
 pub fn sign_into<N: NodeSource>(source: &N, q: u32, c: &[u8; 32], msg: &[u8], out: &mut [u8])
     requires first { N.first_leaf source.now ≤ q }
     requires last { q ≤ N.last_leaf source.now }
-    requires room { length out.old
-        ≡ lms_signature_length (tree_of (N.tree_key source.now)).lms (tree_of (N.tree_key source.now)).ots }
-    ensures signature { out.new ≡ lms_signature (tree_of (N.tree_key source.now)) q c.now msg.now }
-    ensures accepted { LmsAccepts (public_key_of (tree_of (N.tree_key source.now))) msg.now out.new }
+    requires room { length out.old ≡ signature_length_under (N.tree_key source.now) }
+    ensures signature { out.new ≡ signature_text (N.tree_key source.now) q c.now msg.now }
+    ensures accepted { LmsAccepts (public_text (N.tree_key source.now)) msg.now out.new }
 {
     let key = source.key();
     let path_start = 8 + key.ots.sig_len();

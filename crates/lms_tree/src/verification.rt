@@ -1,31 +1,105 @@
 //! Verification (RFC 8554, 5.4.2).
-ghost use Rattle.std.specs.Prelude.{ℕ, ◌≡◌, ◌^◌, ◌<◌, ◌↔◌, List, IsTrue, IfSome, IfNone};
+ghost use Rattle.std.specs.Prelude.{ℕ, ◌≡◌, ◌^◌, ◌<◌, ◌↔◌, ◌++◌, List, [], IsTrue, IfSome, IfNone};
 ghost use Rattle.lms_spec.specs.Parameters.{OtsSet, LmsSet};
-ghost use Rattle.lms_spec.specs.Tree.{climb as climb_of, LmsAccepts};
+ghost use Rattle.sha2.specs.Sha256.{sha256};
+ghost use Rattle.lms_spec.specs.Tree.{climb as climb_of, leaf_hash as leaf_hash_of, LmsAccepts};
+ghost use Rattle.lms_tree.specs.Heads.{lms_head};
 ghost use Rattle.lms_params.specs.LmsType.{lms_set_of};
 ghost use Rattle.lms_params.specs.OtsType.{ots_set_of};
-ghost use Rattle.lms_tree.specs.Parts.{IsLmsPublicKey, IsLmsSignature, HasSignaturesOf};
+ghost use Rattle.lms_tree.specs.Parts.{IsLmsPublicKey, IsLmsSignature, HasSignaturesOf, HasParts};
+ghost use Rattle.lms_tree.specs.Verifying.{HasTaken};
 
 use crate::nodes::{inner_hash, leaf_count, leaf_hash};
-use lms_ots::{OtsId, candidate};
+use lms_ots::OtsId;
 use lms_params::{LmsType, OtsType, lms_sig_len, split_u32};
+
+#[cfg(test)]
+mod tests;
 
 /// Whether a signature is accepted for a message under a public key (RFC 8554, 5.4.2). The three may have any length.
 pub fn verify(public: &[u8], msg: &[u8], sig: &[u8]) -> bool
     ensures { IsTrue result ↔ LmsAccepts public.now msg.now sig.now }
 {
-    let Some(key) = PublicKey::parse(public) else {
+    let Some(mut verifier) = Verifier::begin(public, sig) else {
         return false;
     };
-    let Some(sig) = Signature::parse(key.lms, key.ots, sig) else {
-        return false;
-    };
-    let id = OtsId { i: key.i, q: sig.q };
-    let Some(ots_public) = candidate(key.ots, id, sig.ots_part, msg) else {
-        return false;
-    };
-    let leaf = leaf_count(key.lms) + sig.q;
-    climb(&key.i, leaf, leaf_hash(&key.i, leaf, &ots_public), sig.path) == key.root
+    verifier.update(msg);
+    verifier.finish()
+}
+
+/// Verifies a signature (RFC 8554, 5.4.2) of a message that comes in pieces of any lengths: `begin`, `update` with each
+/// piece in its order, `finish`. For a message that another hasher takes: `begin`, `head`, `finish_by_hash`.
+#[derive(Drop)]
+pub struct Verifier<'a> {
+    key: PublicKey,
+    leaf: u32,
+    ots: lms_ots::Verifier<'a>,
+    path: &'a [[u8; 32]],
+}
+
+impl<'a> Verifier<'a> {
+    /// Before the first byte of the message. The key and the signature may have any length; None is exactly for those that
+    /// are no public key of known typecodes (56 bytes) or no signature of its typecodes and its length (`signature_len`): no
+    /// message is accepted then.
+    pub fn begin(public: &[u8], sig: &'a [u8]) -> Option<Self>
+        ensures some { IfSome result (λ v. HasTaken v public.now sig.now []) }
+        ensures none { IfNone result ((message : List ℕ) → ¬ LmsAccepts public.now message sig.now) }
+        ensures no_parts { IfNone result (¬ HasParts public.now sig.now) }
+    {
+        let key = PublicKey::parse(public)?;
+        let sig = Signature::parse(key.lms, key.ots, sig)?;
+        let i = key.i;
+        let id = OtsId { i, q: sig.q };
+        let ots = lms_ots::Verifier::begin(key.ots, id, sig.ots_part)?;
+        Some(Verifier {
+            key,
+            leaf: leaf_count(key.lms) + sig.q,
+            ots,
+            path: sig.path,
+        })
+    }
+
+    /// Takes the next piece of the message.
+    pub fn update(&mut self, piece: &[u8])
+        ensures { (public signature message : List ℕ)
+            → HasTaken self.old public signature message → HasTaken self.new public signature (message ++ piece.now) }
+    {
+        self.ots.update(piece);
+    }
+
+    /// Whether the signature is accepted for the message (5.4.2).
+    pub fn finish(self) -> bool
+        ensures { (public signature message : List ℕ)
+            → HasTaken self.entry public signature message → (IsTrue result ↔ LmsAccepts public message signature) }
+    {
+        let ots_public = self.ots.finish();
+        is_root(&self.key, self.leaf, &ots_public, self.path)
+    }
+
+    /// The 54 bytes that the hash of a message has before it: I, q, D_MESG and C (4.5).
+    pub fn head(&self) -> [u8; 54]
+        ensures { (public signature message : List ℕ) → HasTaken self.now public signature message → result ≡ lms_head public signature }
+    {
+        self.ots.head()
+    }
+
+    /// Whether the signature is accepted for a message of which another hasher made the SHA-256, over `head` and the
+    /// message (5.4.2). What this one has taken plays no part.
+    pub fn finish_by_hash(self, hash: &[u8; 32]) -> bool
+        ensures { (public signature taken message : List ℕ)
+            → HasTaken self.entry public signature taken → hash.now ≡ sha256 (lms_head public signature ++ message)
+            → (IsTrue result ↔ LmsAccepts public message signature) }
+    {
+        let ots_public = self.ots.finish_by_hash(hash);
+        is_root(&self.key, self.leaf, &ots_public, self.path)
+    }
+}
+
+/// Whether the climb from a leaf, over its one-time public hash, ends at the key's root (5.4.2).
+fn is_root(key: &PublicKey, leaf: u32, ots_public: &[u8; 32], path: &[[u8; 32]]) -> bool
+    ensures { IsTrue result ↔ climb_of key.now.i leaf (leaf_hash_of key.now.i leaf ots_public.now) path.now ≡ key.now.root }
+{
+    climb(&key.i, leaf, leaf_hash(&key.i, leaf, ots_public), path) == key.root
 }
 
 /// The bytes of each signature under a public key (RFC 8554, 5.4). None exactly where it is no public key with known

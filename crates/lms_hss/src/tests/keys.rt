@@ -1,7 +1,8 @@
 use crate::tests::{LEVEL, THREE_LEVELS, key_of, slow_key};
-use crate::{HssKey, KeyFault, Levels, same_key};
+use crate::{HssKey, KeyFault, Levels, LevelsText, same_key};
 use lms_params::{LmsType, OtsType};
 use lms_slow::slow_public;
+use std::alloc::Global;
 use std::test::Fail;
 
 const TALL: (LmsType, OtsType) = (LmsType::H15, OtsType::W8);
@@ -29,6 +30,17 @@ fn refuses_levels_by_the_first_fault(rt: HostRuntime) {
     for (levels, fault) in REFUSED {
         assert_eq!(rt; Levels::new(levels).err(), Some(fault));
     }
+}
+
+/// The text of these levels.
+fn text_of(alloc: Global, levels: &[(LmsType, OtsType)]) -> Result<String, Fail> {
+    Ok(format!(in alloc; "{}", LevelsText(levels))?)
+}
+
+#[test]
+fn prints_levels(rt: HostRuntime) -> Result<(), Fail> {
+    assert!(rt; text_of(rt.alloc(), &THREE_LEVELS)?.as_str() == "5/8,5/4,5/2");
+    Ok(())
 }
 
 /// Levels, the capacity of a key and the bytes of its signatures.

@@ -90,6 +90,66 @@ fn a_write_stops_where_a_step_fails(rt: HostRuntime) -> Result<(), Fail> {
     Ok(())
 }
 
+const TRIED: &str = "file_store_tried/state";
+
+/// Whether a store fails to take these texts, one after another, each where the operation after `k` others fails.
+fn fails_to_take(
+    store: &mut impl StateStore,
+    journal: &Journal,
+    texts: &[&[u8]],
+    k: usize,
+) -> Result<bool, Fail> {
+    let mut all = true;
+    for text in texts {
+        journal.fail(k, ErrorKind::Other)?;
+        all = all && refuses(store, text);
+    }
+    journal.fail(usize::MAX, ErrorKind::Other)?;
+    Ok(all)
+}
+
+/// Whether a store knows a text in its file that it failed to store for certain, also where two others came after it, and
+/// not where a third did; and whether it knows its last certain text then. The text is as long as `new`, so that it is placed
+/// by as many operations.
+fn knows_three(
+    rt: &HostRuntime,
+    store: &mut impl StateStore,
+    journal: &Journal,
+) -> Result<bool, Fail> {
+    let began = takes(store, b"old") && fails_to_take(store, journal, &[b"put"], PLACED)?;
+    let two = fails_to_take(store, journal, &[b"a", b"b"], 0)? && reads(rt, store, b"put");
+    let third = fails_to_take(store, journal, &[b"c"], 0)?;
+    let forgotten = third && reads_none(rt, store, ReadFault::Device);
+    fs::write(rt, TRIED, b"old".as_slice())?;
+    Ok(began && two && forgotten && reads(rt, store, b"old"))
+}
+
+/// Whether a store that has stored nothing for certain reads what was in its file before, also after a failed write.
+fn knows_any_at_first(
+    rt: &HostRuntime,
+    store: &mut impl StateStore,
+    journal: &Journal,
+) -> Result<bool, Fail> {
+    fs::write(rt, TRIED, b"older".as_slice())?;
+    Ok(fails_to_take(store, journal, &[b"a"], 0)? && reads(rt, store, b"older"))
+}
+
+/// What a store knows after failed writes, and that a certain one begins anew.
+#[test]
+fn a_store_knows_what_it_tried(rt: HostRuntime) -> Result<(), Fail> {
+    empty_folder(&rt, "file_store_tried")?;
+    let journal = Journal::new(rt.alloc())?;
+    let files = RecordingFiles::new(rt.alloc(), &rt, &journal)?;
+    let mut store = FileStore::new(rt.alloc(), &files, TRIED)?;
+    assert!(rt; knows_any_at_first(&rt, &mut store, &journal)?);
+    assert!(rt; knows_three(&rt, &mut store, &journal)?);
+    assert!(rt; takes(&mut store, b"new") && reads(&rt, &mut store, b"new"));
+    fs::write(&rt, TRIED, b"old".as_slice())?;
+    assert!(rt; reads_none(&rt, &mut store, ReadFault::Device));
+    fs::remove_dir_all(&rt, "file_store_tried")?;
+    Ok(())
+}
+
 const WAY: &str = "file_store_way/state";
 
 const OTHER: &str = "file_store_way/other";

@@ -1,7 +1,8 @@
 //! Batches where a request for memory is refused.
 use super::gates::Notes;
 use super::{Scenario, carry_out, counts, jobs_of, settled};
-use crate::fixtures::{CHEAP, store_at};
+use crate::fixtures::{CHEAP, key_of, store_at};
+use crate::tests::slow;
 use crate::{Batch, BatchFault, Job, SigningService};
 use lms_book::{BookFault, Entry, MemoryStore};
 use lms_hss::{Forest, HssKey};
@@ -48,6 +49,20 @@ fn signatures_of(
         signatures.push(signature_of(&forest, g, job)?)?;
     }
     Ok(signatures)
+}
+
+/// What batches are held against below is what the slow signer makes.
+#[test]
+fn four_signatures_are_the_slow_ones(rt: HostRuntime) -> Result<(), Fail> {
+    let jobs = jobs_of(rt.alloc(), 4)?;
+    let signatures = signatures_of(&rt, key_of(&CHEAP, 0x11)?, &jobs)?;
+    let mut count = 0_u64;
+    for ((job, signature), g) in jobs.iter().zip(&signatures).zip(30..34) {
+        assert!(rt; *signature == slow(rt.alloc(), &CHEAP, g, job)?);
+        count = count.saturating_add(1);
+    }
+    assert_eq!(rt; count, 4);
+    Ok(())
 }
 
 /// Whether each slot is empty or has its own signature, and one at least is empty.

@@ -3,7 +3,7 @@ use Rattle.std.specs.Prelude.{IfErr}
 use Rattle.std.specs.Io.KnownBytes.{Appends}
 use Rattle.std.proofs.lemmas.Result.{IfErr-weaker}
 use Rattle.lms_commands.specs.Descriptions.{number_line}
-use Rattle.lms_commands.specs.Known.{IsPrintedLast}
+use Rattle.lms_world.specs.Known.{IsPrintedLast}
 use Rattle.lms_commands.specs.declared.fault.Fault.TheVariants.{OutOfMemory, Output}
 use Rattle.lms_commands.proofs.Failing.{both_ok, not_published}
 use Rattle.lms_commands.proofs.keygen.make_key.Goals as goal

@@ -1,5 +1,5 @@
 use Rattle.std.proofs.Common.{◌≡◌, map}
-use Rattle.lms_commands.specs.Options.{pair_text}
+use Rattle.lms_hss.specs.Texts.{pair_text}
 use Rattle.lms_commands.proofs.options.read_levels.Given as goal
 
 abbrev pub invariant-loop-piece : goal.invariant-loop-piece

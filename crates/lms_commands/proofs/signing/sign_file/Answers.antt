@@ -13,13 +13,15 @@ returns-clause-signed g c =
     let given = c.in_ok-message.ensures.given in
     both_ok c.deliver.result _ _ _
     (λ written printed. record {
-      randomizer = randomizer;
-      text = text;
-      signature = signed.signature.items;
-      index = signed.index;
-      randomizer_read = c.in_ok-randomizer.ensures.read;
-      text_given = given;
-      signed = signed_still old mid new c.args.state.now randomizer text signed.signature.items signed.index c.in_ok-signed.ensures.signed (c.deliver.ensures.states c.args.state.now);
+      made = record {
+        randomizer = randomizer;
+        text = text;
+        signature = signed.signature.items;
+        index = signed.index;
+        randomizer_read = c.in_ok-randomizer.ensures.read;
+        text_given = given;
+        signed = signed_still old mid new c.args.state.now randomizer text signed.signature.items signed.index c.in_ok-signed.ensures.signed (c.deliver.ensures.states c.args.state.now);
+      };
       signature_given = written;
       printed = printed;
     })

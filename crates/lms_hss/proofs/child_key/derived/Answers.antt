@@ -1,5 +1,5 @@
 use Rattle.lms_spec.specs.Hashing.{chain_secret}
-use Rattle.lms_spec.specs.Hss.{derived}
+use Rattle.lms_spec.specs.Profile.{derived}
 use Rattle.lms_hss.proofs.child_key.derived.Goals as goal
 
 pub returns : goal.returns

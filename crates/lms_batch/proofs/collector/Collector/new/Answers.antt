@@ -2,7 +2,7 @@ use Rattle.std.proofs.Common.{arith, rules, ◌≡◌, None, length, replicate, 
 use Rattle.std.proofs.lemmas.List.{length-map}
 use Rattle.lms_batch.specs.Jobs.{text_of, texts_of}
 use Rattle.lms_batch.specs.Batches.{contents}
-use Rattle.lms_spec.specs.Hss.{hss_public_key}
+use Rattle.lms_spec.specs.Profile.{hss_public_key}
 use Rattle.lms_hss.specs.Keys.{hss_key_of}
 use Rattle.lms_batch.proofs.Slots.{AreAccepted-none, length-batch_of, HoldsOnly-none, map-replicate}
 use Rattle.lms_batch.proofs.collector.Collector.new.Goals as goal

@@ -3,7 +3,7 @@ use Rattle.std.specs.Option.{option_map}
 use Rattle.std.specs.List.{slice_get}
 use Rattle.std.proofs.lemmas.List.{map-set}
 use Rattle.std.proofs.lemmas.Option.{slice_get_read}
-use Rattle.lms_spec.specs.Hss.{hss_public_key}
+use Rattle.lms_spec.specs.Profile.{hss_public_key}
 use Rattle.lms_hss.specs.Keys.{hss_key_of}
 use Rattle.lms_batch.specs.Jobs.{texts_of, signature_of}
 use Rattle.lms_batch.specs.Takes.{Belongs}

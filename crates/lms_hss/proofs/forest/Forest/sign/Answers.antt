@@ -1,7 +1,8 @@
 use Rattle.std.proofs.Common.{◌≡◌, ◌-◌, length, sym, ◌∙◌, ap, arith, subst}
 use Rattle.std.proofs.lemmas.List.{length-map}
 use Rattle.std.proofs.lemmas.Result.{IfOk-weaker}
-use Rattle.lms_spec.specs.Hss.{leaf_at, hss_public_key, HssAccepts}
+use Rattle.lms_spec.specs.Hss.{HssAccepts}
+use Rattle.lms_spec.specs.Profile.{leaf_at, hss_public_key}
 use Rattle.lms_hss.specs.declared.key.HssKey.{HssKey}
 use Rattle.lms_hss.specs.Levels.{level_of, IsAdmitted}
 use Rattle.lms_hss.specs.Keys.{hss_key_of}

@@ -1,6 +1,7 @@
 use Rattle.std.proofs.Common.{◌≡◌, ◌+◌, ◌-◌, ◌*◌, ◌^◌, ◌<◌, ◌≤◌, length, get_or, sym, ◌∙◌, ap, arith, min, pow_pos, pow_mono}
 use Rattle.std.proofs.lemmas.List.{length-map}
-use Rattle.lms_spec.specs.Hss.{Level, level, no_level, leaf_at}
+use Rattle.lms_spec.specs.Hss.{Level, level, no_level}
+use Rattle.lms_spec.specs.Profile.{leaf_at}
 use Rattle.lms_params.specs.declared.lms_type.LmsType.TheVariants.{H5}
 use Rattle.lms_params.specs.declared.ots_type.OtsType.TheVariants.{W1}
 use Rattle.lms_hss.specs.Levels.{level_of, levels_of}

@@ -1,5 +1,5 @@
 use Rattle.std.proofs.Common.{slice_set, ◌∙◌, ap₂, arith, length, ap}
-use Rattle.lms_spec.specs.Hss.{leaf_at}
+use Rattle.lms_spec.specs.Profile.{leaf_at}
 use Rattle.lms_params.proofs.Filling.{set-filled}
 use Rattle.lms_hss.specs.Keys.{hss_key_of}
 use Rattle.lms_hss.proofs.key.HssKey.places.Goals as goal

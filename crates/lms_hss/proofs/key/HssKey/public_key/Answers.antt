@@ -2,7 +2,7 @@ use Rattle.std.proofs.Common.{◌++◌, length, sym, ◌∙◌, ap, ap₂}
 use Rattle.std.proofs.lemmas.List.{length-map}
 use Rattle.lms_spec.specs.Bytes.{u32str}
 use Rattle.lms_spec.specs.Tree.{public_key_of}
-use Rattle.lms_spec.specs.Hss.{hss_public_key}
+use Rattle.lms_spec.specs.Profile.{hss_public_key}
 use Rattle.lms_tree.specs.Bands.{ServedLeaves}
 use Rattle.lms_tree.specs.TreeKey.{tree_of}
 use Rattle.lms_hss.specs.Levels.{level_of}

@@ -1,6 +1,7 @@
 use Rattle.std.proofs.Common.{ℕ, ◌≡◌, ◌+◌, ◌-◌, ◌/◌, ◌%◌, ◌^◌, ◌<◌, ◌≤◌, List, [], ◌∷◌, length, get_or, length-append, sym, ◌∙◌, ap, arith, subst}
 use Rattle.std.proofs.lemmas.List.{length-map}
-use Rattle.lms_spec.specs.Hss.{Level, level as level_at, leaf_at, no_level}
+use Rattle.lms_spec.specs.Hss.{Level, level as level_at, no_level}
+use Rattle.lms_spec.specs.Profile.{leaf_at}
 use Rattle.lms_params.specs.declared.lms_type.LmsType.TheVariants.{H5}
 use Rattle.lms_params.specs.declared.ots_type.OtsType.TheVariants.{W1}
 use Rattle.lms_params.specs.declared.lms_type.LmsType.{LmsType}

@@ -1,6 +1,7 @@
 use Rattle.std.proofs.Common.{◌≡◌, ◌++◌, ◌∙◌, sym, ap, ap₂, arith, subst, length, length-drop, append_assoc, take-append-drop}
 use Rattle.std.proofs.lemmas.List.{length-take-le}
 use Rattle.lms_tree.specs.Parts.{HasSignaturesOf}
+use Rattle.lms_hss.proofs.Bottoms.{cut-long}
 use Rattle.lms_hss.proofs.SignedKeys.{accepted-long}
 use Rattle.lms_hss.proofs.verification.SignedKey.parse.Goals as goal
 
@@ -42,3 +43,26 @@ returns-clause-some c =
       key_length = ap length second.1 ∙ length-take-le 56 rest (omega (arith, second.0));
       parts = sym whole ∙ (ap (λ rest. signature ++ rest) (sym others) ∙ sym (append_assoc signature _ _));
     }
+
+pub returns-in_err-signature-clause-not_cut : goal.returns-in_err-signature-clause-not_cut
+returns-in_err-signature-clause-not_cut c =
+    rw c.from_residual-in_err-signature.ensures
+    (λ signature key rest cut.
+    absurd (omega (
+      arith,
+      c.in_err-signature.ensures.cases,
+      cut-long c.in_ok-length.length c.args.signer.now c.args.text.now signature key rest c.in_ok-length.ensures.some cut,
+    )))
+
+pub returns-in_err-key-clause-not_cut : goal.returns-in_err-key-clause-not_cut
+returns-in_err-key-clause-not_cut c =
+    let front = c.in_ok-signature.ensures.cases in
+    rw c.from_residual-in_err-key.ensures
+    (λ signature key rest cut.
+    absurd (omega (
+      arith,
+      c.in_err-key.ensures.cases,
+      ap length front.2,
+      length-drop c.in_ok-length.length c.args.text.now,
+      cut-long c.in_ok-length.length c.args.signer.now c.args.text.now signature key rest c.in_ok-length.ensures.some cut,
+    )))

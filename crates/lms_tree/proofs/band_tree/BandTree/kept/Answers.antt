@@ -3,11 +3,11 @@ use Rattle.lms_params.specs.LmsType.{lms_set_of}
 use Rattle.lms_params.specs.declared.lms_type.LmsType.{LmsType}
 use Rattle.lms_params.specs.declared.lms_type.LmsType.TheVariants.{H5, H10, H15, H20, H25}
 use Rattle.lms_tree.specs.Held.{nodes_in}
-use Rattle.lms_tree.specs.Bands.{kept_nodes}
+use Rattle.lms_tree.specs.Bands.{kept_nodes, most_kept, most_served}
 use Rattle.lms_tree.proofs.band_tree.BandTree.kept.Goals as goal
 
-kept-limit : (t : LmsType) (first last : ℕ) → first ≤ last → last < 2 ^ (lms_set_of t).h → last - first < 1024
-    → kept_nodes (lms_set_of t).h first last ≤ 69629
+kept-limit : (t : LmsType) (first last : ℕ) → first ≤ last → last < 2 ^ (lms_set_of t).h → last - first < most_served
+    → kept_nodes (lms_set_of t).h first last ≤ most_kept
 kept-limit H5 first last order in_tree narrow = omega arith
 kept-limit H10 first last order in_tree narrow = omega arith
 kept-limit H15 first last order in_tree narrow = omega arith

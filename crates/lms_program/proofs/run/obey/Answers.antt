@@ -1,0 +1,15 @@
+use Rattle.std.proofs.Common.{inl, inr}
+use Rattle.clap.proofs.TakesLemmas.{passed_up}
+use Rattle.lms_commands.proofs.Failing.{stays_same}
+use Rattle.lms_program.proofs.run.obey.Goals as goal
+
+pub returns-in_err-key-in-Keygen-clause-failed : goal.returns-in_err-key-in-Keygen-clause-failed
+returns-in_err-key-in-Keygen-clause-failed g c =
+    let refused = rw (c.deref.ensures, c.deref-in-Keygen.ensures, c.deref-in-Keygen-2.ensures) at c.in_err-key-in-Keygen.ensures.refused in
+    rw c.in-Keygen.is (passed_up _ _ _ c.from_residual.ensures.1 (inl (refused, stays_same _ _)))
+
+pub returns-in_err-make_key-in-Keygen-clause-failed : goal.returns-in_err-make_key-in-Keygen-clause-failed
+returns-in_err-make_key-in-Keygen-clause-failed g c =
+    let key = rw (c.deref.ensures, c.deref-in-Keygen.ensures, c.deref-in-Keygen-2.ensures) at c.in_ok-key-in-Keygen.ensures.key in
+    let failed = rw (c.deref-in-Keygen-3.ensures, c.deref-in-Keygen-4.ensures) at c.in_err-make_key-in-Keygen.ensures.failed in
+    rw c.in-Keygen.is (passed_up _ _ _ c.from_residual-in_err-make_key-in-Keygen.ensures.1 (inr (c.in_ok-key-in-Keygen.key, key, failed)))

@@ -1,0 +1,78 @@
+-- What the command is that clap's definition makes of the words, and which faults it may have.
+use Rattle.std.specs.Prelude.{◌≡◌, ◌≢◌, true, List, [], ◌∷◌, Option, Some, None, IsSome, map, string_bytes}
+use Rattle.std.specs.List.{AllByRecursion}
+use Rattle.clap.specs.Words.{Kinds, IsAmong, Row, Text, first_of, first_value, subcommand_of, fault_of, takes}
+use Rattle.clap.specs.declared.error.kind.ErrorKind.{ErrorKind}
+use Rattle.clap.specs.declared.error.kind.ErrorKind.TheVariants as kind
+use Rattle.clap.specs.declared.parser.matches.Found.{Found}
+use Rattle.lms_program.specs.Application.{Subcommand, batch, info, keygen, lms_app, sign, verify}
+use Rattle.lms_program.specs.declared.command.types.Command.{Command}
+use Rattle.lms_program.specs.declared.command.types.Command.TheVariants.{Batch, Info, Keygen, Sign, Verify}
+use Rattle.lms_program.specs.declared.command.types.CommandFault.{CommandFault}
+use Rattle.lms_program.specs.declared.command.types.CommandFault.TheVariants.{Help, Usage, OutOfMemory}
+
+-- a subcommand's options have these texts in these rows, in turn
+abbrev pub HasTexts : Subcommand → List Row → List Text → Type 0
+HasTexts s rows texts = map (λ option. first_of option rows) s.options ≡ map (λ text. Some text) texts
+
+-- clap's definition reads the words as this subcommand, with these texts of its options in turn
+abbrev pub AsksFor : Subcommand → List Text → List Text → Type 0
+AsksFor s texts words = (rows : List Row) × (subcommand_of lms_app words ≡ Some (s.name, rows)) × HasTexts s rows texts
+
+-- a command's subcommand
+abbrev pub subcommand_for : Command → Subcommand
+subcommand_for (Keygen levels seed id state public) = keygen
+subcommand_for (Info state) = info
+subcommand_for (Sign state random message out) = sign
+subcommand_for (Batch state workers) = batch
+subcommand_for (Verify public message signature) = verify
+
+-- the texts of its options, in turn
+abbrev pub texts_of : Command → List Text
+texts_of (Keygen levels seed id state public) =
+    string_bytes levels ∷ string_bytes seed ∷ string_bytes id ∷ string_bytes state ∷ string_bytes public ∷ []
+texts_of (Info state) = string_bytes state ∷ []
+texts_of (Sign state random message out) = string_bytes state ∷ string_bytes random ∷ string_bytes message ∷ string_bytes out ∷ []
+texts_of (Batch state workers) = string_bytes state ∷ string_bytes workers ∷ []
+texts_of (Verify public message signature) = string_bytes public ∷ string_bytes message ∷ string_bytes signature ∷ []
+
+-- clap's definition reads the words as this command
+abbrev pub Reads : List Text → Command → Type 0
+Reads words command = AsksFor (subcommand_for command) (texts_of command) words
+
+-- clap's definition takes the words, and reads them as this command
+abbrev pub IsRead : List Text → Command → Type 0
+IsRead words command = Reads words command × (fault_of lms_app words ≡ [])
+
+-- the command is the subcommand of this name with these options
+abbrev pub IsMadeOf : Text → List Row → Command → Type 0
+IsMadeOf name rows command = ((subcommand_for command).name ≡ name) × HasTexts (subcommand_for command) rows (texts_of command)
+
+-- each option of the subcommand has a value
+abbrev pub HasOptions : Option Subcommand → Found → Type 0
+HasOptions None found = ⊥
+HasOptions (Some s) found = AllByRecursion (λ option. IsSome (first_value found option)) s.options
+
+-- one of the kinds asks for something else than help
+abbrev pub HasMistake : Kinds → Type 0
+HasMistake kinds = (k : ErrorKind) × IsAmong k kinds × (k ≢ kind.DisplayHelp)
+
+-- what an error of this kind may become; memory may run out at any
+abbrev pub FaultOf : ErrorKind → CommandFault → Type 0
+FaultOf k (Help text) = k ≡ kind.DisplayHelp
+FaultOf k (Usage text) = (k ≢ kind.DisplayHelp) × (k ≢ kind.OutOfMemory)
+FaultOf k OutOfMemory = Unit {0}
+
+-- clap's definition doesn't take the words, and has help to show there
+abbrev pub AsksForHelp : List Text → Type 0
+AsksForHelp words = (takes lms_app words ≢ true) × IsAmong kind.DisplayHelp (fault_of lms_app words)
+
+-- clap's definition doesn't take the words, and has a mistake to report there
+abbrev pub IsMistaken : List Text → Type 0
+IsMistaken words = (takes lms_app words ≢ true) × HasMistake (fault_of lms_app words)
+
+-- the fault is one that clap's definition has at the words; memory may run out at any
+abbrev pub FaultAt : List Text → CommandFault → Type 0
+FaultAt words (Help text) = AsksForHelp words
+FaultAt words (Usage text) = IsMistaken words
+FaultAt words OutOfMemory = Unit {0}

@@ -1,0 +1,165 @@
+//! The whole program, over its arguments, its files and its streams.
+ghost use Rattle.std.specs.Prelude.{◌≡◌, ◌⊎◌, ◌<◌, ◌≤◌, ℕ, List, IfErr, IfOk, MatchResult, OnOk, map};
+ghost use Rattle.std.specs.Io.KnownBytes.{Appends};
+ghost use Rattle.lms_commands.specs.Batches.{IsSilent};
+ghost use Rattle.lms_commands.specs.Faults.{code_of, status_of};
+ghost use Rattle.lms_world.specs.Known.{SameFile};
+ghost use Rattle.lms_program.specs.Runs.{AsksToRead, AsksToTouch, Ends, Fails, FailsToObey, NoneWrites, Obeys, ReadsInput, Touches, Writes, moment};
+ghost use Rattle.lms_commands.specs.declared.status.Status.{Status};
+
+use crate::command::{Command, CommandFault, command};
+use lms_commands::{
+    Fault, Status, describe, key_from, make_key, print_fault, sign_file, sign_jobs, verify_files,
+};
+use lms_world::World;
+use std::alloc::Global;
+use std::convert::AsStr;
+use std::io;
+use std::io::{Read, Write};
+use std::sync::Wait;
+use std::thread::Threads;
+
+/// The whole program, over its command-line arguments (`words`, the program's name first), its files and its three streams.
+/// Answers how it ends; the exit status is the code of that.
+///
+/// A fault is one line on `errors`, `error: ` and its text. Help is printed to `output` and a mistake in the arguments to
+/// `errors`, both in clap's wording. Nothing but `keygen`, `info`, `sign` and `batch` may change files or states, and of the
+/// files only the one that `--public` or `--out` names. `input` is read by `batch` alone.
+pub fn run<S: AsStr, W: World, I: Read, O: Write, E: Write>(
+    rt: &(impl Threads + Wait + Sync),
+    alloc: Global,
+    words: &[S],
+    world: &mut W,
+    input: &mut I,
+    output: &mut O,
+    errors: &mut E,
+) -> Status
+    ensures ends { Ends (moment (W.known world.old) (I.remaining input.old) (O.contents output.old))
+        (moment (W.known world.new) (I.remaining input.new) (O.contents output.new)) (map S.text words.now) result }
+    ensures quiet { code_of result < 2 → (errors.new ≡ errors.old) ⊎ ((result ≡ Status.Negative) × AsksToRead (map S.text words.now)) }
+    ensures silent { 2 ≤ code_of result → code_of result < 6 → output.new ≡ output.old }
+    ensures files { (world.new ≡ world.old) ⊎ AsksToTouch (map S.text words.now) }
+    ensures others { (name : List ℕ) → NoneWrites (map S.text words.now) name
+        → SameFile (W.known world.old) (W.known world.new) name }
+    ensures unread { (input.new ≡ input.old) ⊎ AsksToRead (map S.text words.now) }
+{
+    match answer(rt, alloc, words, world, input, output, errors) {
+        Ok(status) => status,
+        Err(fault) => report(fault, errors),
+    }
+}
+
+/// Prints a fault's line and answers how the program ends.
+pub fn report<E: Write>(fault: Fault, errors: &mut E) -> Status
+    ensures { result ≡ status_of fault }
+{
+    // Where even the line can't be printed, the exit status is all that is left to say.
+    let _ = print_fault(errors, fault);
+    fault.status()
+}
+
+/// Does what the arguments ask, and prints all but a fault.
+fn answer<S: AsStr, W: World, I: Read, O: Write, E: Write>(
+    rt: &(impl Threads + Wait + Sync),
+    alloc: Global,
+    words: &[S],
+    world: &mut W,
+    input: &mut I,
+    output: &mut O,
+    errors: &mut E,
+) -> Result<Status, Fault>
+    ensures ends { IfOk result
+        (Ends (moment (W.known world.old) (I.remaining input.old) (O.contents output.old))
+        (moment (W.known world.new) (I.remaining input.new) (O.contents output.new)) (map S.text words.now)) }
+    ensures fails { IfErr result
+        (Fails (moment (W.known world.old) (I.remaining input.old) (O.contents output.old))
+        (moment (W.known world.new) (I.remaining input.new) (O.contents output.new)) (map S.text words.now)) }
+    ensures quiet { IfOk result (λ status. code_of status < 2 → errors.new ≡ errors.old) }
+    ensures silent { MatchResult result (λ status. 2 ≤ code_of status → output.new ≡ output.old)
+        (λ fault. IsSilent fault → output.new ≡ output.old) }
+    ensures files { (world.new ≡ world.old) ⊎ AsksToTouch (map S.text words.now) }
+    ensures others { (name : List ℕ) → NoneWrites (map S.text words.now) name
+        → SameFile (W.known world.old) (W.known world.new) name }
+    ensures unread { (input.new ≡ input.old) ⊎ AsksToRead (map S.text words.now) }
+{
+    match command(alloc, words) {
+        Ok(command) => obey(rt, alloc, command, world, input, output),
+        Err(CommandFault::Help { text }) => match print_text(output, &text) {
+            Ok(()) => Ok(Status::Done),
+            Err(_) => Err(Fault::Output),
+        },
+        Err(CommandFault::Usage { text }) => {
+            let _ = print_text(errors, &text);
+            Ok(Status::Usage)
+        }
+        Err(CommandFault::OutOfMemory) => Err(Fault::OutOfMemory),
+    }
+}
+
+/// Does what the command asks, and prints all but a fault.
+fn obey<W: World, I: Read, O: Write>(
+    rt: &(impl Threads + Wait + Sync),
+    alloc: Global,
+    command: Command,
+    world: &mut W,
+    input: &mut I,
+    output: &mut O,
+) -> Result<Status, Fault>
+    ensures done { IfOk result
+        (Obeys (moment (W.known world.old) (I.remaining input.old) (O.contents output.old))
+        (moment (W.known world.new) (I.remaining input.new) (O.contents output.new)) command) }
+    ensures failed { IfErr result
+        (FailsToObey (moment (W.known world.old) (I.remaining input.old) (O.contents output.old))
+        (moment (W.known world.new) (I.remaining input.new) (O.contents output.new)) command) }
+    ensures silent { IfErr result (λ fault. IsSilent fault → output.new ≡ output.old) }
+    ensures files { (world.new ≡ world.old) ⊎ Touches command }
+    ensures others { (name : List ℕ) → ¬ Writes command name
+        → SameFile (W.known world.old) (W.known world.new) name }
+    ensures unread { (input.new ≡ input.old) ⊎ ReadsInput command }
+{
+    match command {
+        Command::Keygen {
+            levels,
+            seed,
+            id,
+            state,
+            public,
+        } => {
+            let key = key_from(alloc, &levels, &seed, &id)?;
+            make_key(rt, alloc, world, key, &state, &public, output)?;
+            Ok(Status::Done)
+        }
+        Command::Info { state } => {
+            describe(alloc, world, &state, output)?;
+            Ok(Status::Done)
+        }
+        Command::Sign {
+            state,
+            random,
+            message,
+            out,
+        } => {
+            sign_file(rt, alloc, world, &state, &random, &message, &out, output)?;
+            Ok(Status::Done)
+        }
+        Command::Batch { state, workers } => {
+            sign_jobs(rt, alloc, world, &state, &workers, input, output)?;
+            Ok(Status::Done)
+        }
+        Command::Verify {
+            public,
+            message,
+            signature,
+        } => {
+            let verdict = verify_files(alloc, world, &public, &message, &signature, output)?;
+            Ok(verdict.status())
+        }
+    }
+}
+
+fn print_text<W: Write>(writer: &mut W, text: &str) -> io::Result<()>
+    ensures { OnOk result (Appends (W.contents writer.old) (W.contents writer.new) text.now) }
+{
+    writer.write_all(text.as_bytes())?;
+    writer.flush()
+}

@@ -1,0 +1,279 @@
+//! `batch` over streams, states and memory that fail.
+use super::batch::{batch, end_of_batch, end_of_batch_to, lines, push_line};
+use super::state::{CHEAP, ONE, TWO, image_of, is_at, keyed, store_at, store_of};
+use super::{Closed, Ended, Stuck};
+use lms_book::{Left, MemoryStore};
+use lms_commands::Status;
+use lms_program::run::run;
+use lms_world::{MemoryWorld, World};
+use std::alloc::Global;
+use std::io;
+use std::io::{ErrorKind, Read, Write};
+use std::sync::Wait;
+use std::test::Fail;
+use std::thread::Threads;
+
+/// A reader that gives a byte at each of so many reads, and then fails.
+#[derive(Drop)]
+struct Cut {
+    reads: usize,
+}
+
+impl Read for Cut {
+    fn read(&mut self, buf: &mut [u8]) -> io::Result<usize> {
+        if self.reads == 0 || buf.is_empty() {
+            return Err(io::Error::from(ErrorKind::BrokenPipe));
+        }
+        self.reads -= 1;
+        buf[0] = b'0';
+        Ok(1)
+    }
+}
+
+/// A writer that has room for so many bytes, and then fails, or takes nothing.
+#[derive(Drop)]
+struct Full {
+    taken: Vec<u8>,
+    room: usize,
+    fails: bool,
+}
+
+impl Write for Full {
+    fn write(&mut self, buf: &[u8]) -> io::Result<usize> {
+        let count = buf.len().min(self.room);
+        if count == 0 && self.fails {
+            return Err(io::Error::from(ErrorKind::BrokenPipe));
+        }
+        self.taken.extend_from_slice(&buf[..count])?;
+        self.room -= count;
+        Ok(count)
+    }
+
+    fn flush(&mut self) -> io::Result<()> {
+        Ok(())
+    }
+}
+
+/// Whether a batch by these streams ends with this status and these errors, at this index.
+fn ends_at<I: Read, O: Write>(
+    rt: &(impl Threads + Wait + AllocGlobal + Sync),
+    world: &mut MemoryWorld,
+    input: &mut I,
+    output: &mut O,
+    errors: &str,
+    counter: u64,
+) -> Result<bool, Fail> {
+    let mut said = Vec::new(rt.alloc());
+    let words = batch("2");
+    let status = run(rt, rt.alloc(), &words, world, input, output, &mut said);
+    let is_said = status == Status::Stream && said.as_slice() == errors.as_bytes();
+    Ok(is_said && is_at(world, &ONE, counter)?)
+}
+
+/// No index is used where the lines can't be read.
+#[test]
+fn cannot_read_job_lines(rt: HostRuntime) -> Result<(), Fail> {
+    let line = "error: cannot read input\n";
+    for reads in 0..3 {
+        let mut world = keyed(rt.alloc(), &ONE, 5)?;
+        let mut cut = Cut { reads };
+        assert!(rt; ends_at(&rt, &mut world, &mut cut, &mut Closed, line, 5)?);
+    }
+    Ok(())
+}
+
+/// Whether a writer with room for so many bytes gets a beginning of these answers, and the batch after it the next indices.
+fn gets_a_beginning(
+    rt: &(impl Threads + Wait + AllocGlobal + Sync),
+    answers: &[u8],
+    room: usize,
+    fails: bool,
+) -> Result<bool, Fail> {
+    let mut world = keyed(rt.alloc(), &ONE, 5)?;
+    let text = lines(rt.alloc(), 2)?;
+    let mut rest: &[u8] = &text;
+    let mut full = Full {
+        taken: Vec::new(rt.alloc()),
+        room,
+        fails,
+    };
+    let line = "error: cannot write output\n";
+    let is_said = ends_at(rt, &mut world, &mut rest, &mut full, line, 7)?;
+    let next = end_of_batch(rt, &mut world, "1", &text)?;
+    Ok(
+        is_said
+            && full.taken.len() == room
+            && answers.starts_with(&full.taken)
+            && next.output.starts_with("7 "),
+    )
+}
+
+/// All indices are used where the answers can't be written, or not passed on.
+#[test]
+fn cannot_write_answers(rt: HostRuntime) -> Result<(), Fail> {
+    let text = lines(rt.alloc(), 2)?;
+    let mut world = keyed(rt.alloc(), &ONE, 5)?;
+    let end = end_of_batch(&rt, &mut world, "2", &text)?;
+    for room in [0, 1, 2, 2594, 2595, 2596, 5189] {
+        let answers = end.output.as_bytes();
+        assert!(rt; gets_a_beginning(&rt, answers, room, true)?, "{room}");
+        assert!(rt; gets_a_beginning(&rt, answers, room, false)?, "{room}");
+    }
+    let mut rest: &[u8] = &text;
+    let line = "error: cannot write output\n";
+    assert!(rt; ends_at(&rt, &mut world, &mut rest, &mut Stuck, line, 9)?);
+    Ok(())
+}
+
+/// The state of an unused key of 5/8,5/8, whose next write fails, and leaves the old text or the new one.
+fn unwritable(alloc: Global, left: Left) -> Result<MemoryWorld, Fail> {
+    let mut store = store_at(alloc, &TWO, 0)?;
+    store.fail_replace(1, left);
+    let mut world = MemoryWorld::new(alloc);
+    world.set_state(store);
+    Ok(world)
+}
+
+#[test]
+fn burns_the_indices_of_a_batch(rt: HostRuntime) -> Result<(), Fail> {
+    let text = lines(rt.alloc(), 4)?;
+    for (left, counter) in [(Left::Old, 0), (Left::New, 4)] {
+        let mut world = unwritable(rt.alloc(), left)?;
+        let end = end_of_batch(&rt, &mut world, "2", &text)?;
+        assert!(rt; end.status == 3 && end.output.is_empty());
+        assert!(rt; end.errors.as_str() == "error: cannot write state: 0 to 3 burnt\n");
+        assert!(rt; is_at(&world, &TWO, counter)?);
+    }
+    Ok(())
+}
+
+/// Whether a batch of a bad line ends with this status and these errors.
+fn fails_before_the_line(
+    rt: &(impl Threads + Wait + AllocGlobal + Sync),
+    world: &mut MemoryWorld,
+    workers: &str,
+    status: u8,
+    errors: &str,
+) -> Result<bool, Fail> {
+    let end = end_of_batch(rt, world, workers, b"\n")?;
+    Ok(end.status == status && end.errors.as_str() == errors && end.output.is_empty())
+}
+
+/// The state is asked for before the input is read, and the workers before both.
+#[test]
+fn fails_in_order(rt: HostRuntime) -> Result<(), Fail> {
+    let mut world = keyed(rt.alloc(), &ONE, 5)?;
+    world.use_elsewhere();
+    let line = "error: bad workers\n";
+    assert!(rt; fails_before_the_line(&rt, &mut world, "0", 2, line)?);
+    let line = "error: state in use\n";
+    assert!(rt; fails_before_the_line(&rt, &mut world, "1", 3, line)?);
+    let line = "error: cannot read state\n";
+    world = MemoryWorld::new(rt.alloc());
+    assert!(rt; fails_before_the_line(&rt, &mut world, "1", 3, line)?);
+    world.set_state(store_of(rt.alloc(), Some(b"HSSK"))?);
+    let line = "error: bad state: Truncated\n";
+    assert!(rt; fails_before_the_line(&rt, &mut world, "1", 3, line)?);
+    Ok(())
+}
+
+/// How many indices a batch of four jobs that ended so has used, and how many lines it printed.
+fn uses(end: &Ended) -> Option<(u64, usize)> {
+    match (end.status, end.errors.as_str()) {
+        (0, "") => Some((4, 4)),
+        (1, "error: partial: 0 of 4 signed\n") => Some((4, 0)),
+        (1, "error: partial: 1 of 4 signed\n") => Some((4, 1)),
+        (1, "error: partial: 2 of 4 signed\n") => Some((4, 2)),
+        (1, "error: partial: 3 of 4 signed\n") => Some((4, 3)),
+        (5, "error: out of memory\n") => Some((0, 0)),
+        (5, "error: out of memory: 4 burnt\n") => Some((4, 0)),
+        _ => None,
+    }
+}
+
+/// How many answer lines of 5/2 a text has, or `None` where one is not whole. An index has one digit or two.
+fn answers_in(text: &str) -> Option<usize> {
+    let mut is_whole = text.is_empty() || text.ends_with("\n");
+    for line in text.lines() {
+        is_whole = is_whole && (line.len() == 8930 || line.len() == 8931);
+    }
+    if is_whole {
+        Some(text.lines().count())
+    } else {
+        None
+    }
+}
+
+/// How many indices after index 5 the state counts.
+fn used(world: &MemoryWorld) -> Result<u64, Fail> {
+    for count in 0..9 {
+        if is_at(world, &CHEAP, 5 + count)? {
+            return Ok(count);
+        }
+    }
+    Err(Fail::from("the state is the key's"))
+}
+
+/// Whether a batch that ended so used as many indices as it says, from so many used to so many, and printed its lines.
+fn is_true(end: &Ended, before: u64, after: u64) -> bool {
+    match uses(end) {
+        Some((indices, printed)) => {
+            after.checked_sub(before) == Some(indices) && answers_in(&end.output) == Some(printed)
+        }
+        None => false,
+    }
+}
+
+/// Four job lines, with room made at the first or at the second try.
+fn four_lines(alloc: Global) -> Result<Vec<u8>, Fail> {
+    let mut text = match Vec::with_capacity(alloc, 512) {
+        Ok(room) => room,
+        Err(_) => Vec::with_capacity(alloc, 512)?,
+    };
+    for number in 0..4 {
+        push_line(&mut text, number)?;
+    }
+    Ok(text)
+}
+
+/// An empty list with room for four answer lines, made at the first or at the second try. So writing them takes no memory.
+fn roomy(alloc: Global) -> Result<Vec<u8>, Fail> {
+    match Vec::with_capacity(alloc, 36_000) {
+        Ok(room) => Ok(room),
+        Err(_) => Ok(Vec::with_capacity(alloc, 36_000)?),
+    }
+}
+
+/// The state of index 5 of 5/2, made at the first or at the second try.
+fn world_at_last(alloc: Global) -> Result<MemoryWorld, Fail> {
+    let image = image_of(&CHEAP, 5)?;
+    let text = image.as_slice();
+    if text.len() > 256 {
+        return Err(Fail::from("a text of over 256 bytes"));
+    }
+    let store = match MemoryStore::new(alloc, Some(text), 8) {
+        Ok(store) => store,
+        Err(_) => MemoryStore::new(alloc, Some(text), 8)?,
+    };
+    let mut world = MemoryWorld::new(alloc);
+    world.set_state(store);
+    Ok(world)
+}
+
+/// `rt test` refuses no memory. At the top of the workspace,
+/// `tests/refused lms_tool tests::batch_faults::a_batch_says_what_it_used` refuses each request in turn.
+#[test]
+fn a_batch_says_what_it_used(rt: HostRuntime) -> Result<(), Fail> {
+    let text = four_lines(rt.alloc())?;
+    let mut world = world_at_last(rt.alloc())?;
+    let output = roomy(rt.alloc())?;
+    let first = end_of_batch_to(&rt, &mut world, "4", &text, output)?;
+    let between = used(&world)?;
+    let output = roomy(rt.alloc())?;
+    let second = end_of_batch_to(&rt, &mut world, "4", &text, output)?;
+    let after = used(&world)?;
+    assert!(rt; is_true(&first, 0, between));
+    assert!(rt; is_true(&second, between, after));
+    assert!(rt; first.status == 0 || second.status == 0);
+    Ok(())
+}

@@ -1,0 +1,190 @@
+//! States, files and streams that fail, in memory.
+use super::state::{INFO, ONE, is_at, keyed, keygen_one, sign_text, store_at, store_of};
+use super::{Closed, VERIFY, fails_with, is_unprinted, says};
+use lms_book::Left;
+use lms_world::{MemoryWorld, World, WorldFault};
+use std::alloc::Global;
+use std::sync::Wait;
+use std::test::Fail;
+use std::thread::Threads;
+
+/// A message, and a state of index 5 whose next read fails.
+fn unreadable(alloc: Global) -> Result<MemoryWorld, Fail> {
+    let mut world = keyed(alloc, &ONE, 5)?;
+    let mut store = store_at(alloc, &ONE, 5)?;
+    store.fail_read(1);
+    world.set_state(store);
+    Ok(world)
+}
+
+/// Whether a command ends where the state can't be read, and leaves it.
+fn is_unread(
+    rt: &(impl Threads + Wait + AllocGlobal + Sync),
+    words: &[&str],
+) -> Result<bool, Fail> {
+    let mut world = unreadable(rt.alloc())?;
+    let failed = fails_with(rt, words, &mut world, 3, "error: cannot read state\n");
+    Ok(failed && is_at(&world, &ONE, 5)?)
+}
+
+#[test]
+fn cannot_read_the_state(rt: HostRuntime) -> Result<(), Fail> {
+    assert!(rt; is_unread(&rt, &INFO)?);
+    assert!(rt; is_unread(&rt, &sign_text())?);
+    Ok(())
+}
+
+/// Whether the file of a name can't be read.
+fn is_missing(alloc: Global, world: &MemoryWorld, name: &str) -> bool {
+    world.read(alloc, name).is_err()
+}
+
+/// No state, and a store whose next write fails, and leaves the old text or the new one.
+fn no_state(alloc: Global, left: Left) -> Result<MemoryWorld, Fail> {
+    let mut world = MemoryWorld::new(alloc);
+    let mut store = store_of(alloc, None)?;
+    store.fail_replace(1, left);
+    world.set_state(store);
+    Ok(world)
+}
+
+/// Whether no key is made where the write of its state fails.
+fn stores_no_key(
+    rt: &(impl Threads + Wait + AllocGlobal + Sync),
+    left: Left,
+) -> Result<bool, Fail> {
+    let mut world = no_state(rt.alloc(), left)?;
+    let line = "error: cannot write state\n";
+    let failed = fails_with(rt, &keygen_one(), &mut world, 3, line);
+    Ok(failed && is_missing(rt.alloc(), &world, "key.pub"))
+}
+
+#[test]
+fn cannot_store_a_new_key(rt: HostRuntime) -> Result<(), Fail> {
+    assert!(rt; stores_no_key(&rt, Left::Old)?);
+    assert!(rt; stores_no_key(&rt, Left::New)?);
+    Ok(())
+}
+
+/// A message, and a state of index 5 whose next write fails, and leaves the old text or the new one.
+fn unwritable(alloc: Global, left: Left) -> Result<MemoryWorld, Fail> {
+    let mut world = keyed(alloc, &ONE, 5)?;
+    let mut store = store_at(alloc, &ONE, 5)?;
+    store.fail_replace(1, left);
+    world.set_state(store);
+    Ok(world)
+}
+
+/// Whether a write of the state that fails burns index 5, with no signature.
+fn burns(rt: &(impl Threads + Wait + AllocGlobal + Sync), world: &mut MemoryWorld) -> bool {
+    let line = "error: cannot write state: 5 to 5 burnt\n";
+    fails_with(rt, &sign_text(), world, 3, line) && is_missing(rt.alloc(), world, "text.sig")
+}
+
+/// Whether a write that fails, and leaves the old text or the new one, burns index 5, and the next signature says this.
+fn burns_and_signs(
+    rt: &(impl Threads + Wait + AllocGlobal + Sync),
+    left: Left,
+    next: &str,
+) -> Result<bool, Fail> {
+    let mut world = unwritable(rt.alloc(), left)?;
+    Ok(burns(rt, &mut world) && says(rt, &sign_text(), &mut world, 0, next))
+}
+
+/// A write that fails burns the index, whichever text it leaves.
+#[test]
+fn burns_an_index(rt: HostRuntime) -> Result<(), Fail> {
+    assert!(rt; burns_and_signs(&rt, Left::Old, "index 5\n")?);
+    assert!(rt; burns_and_signs(&rt, Left::New, "index 6\n")?);
+    Ok(())
+}
+
+#[test]
+fn is_exhausted(rt: HostRuntime) -> Result<(), Fail> {
+    let mut world = keyed(rt.alloc(), &ONE, 32)?;
+    assert!(rt;
+        fails_with(
+            &rt,
+            &sign_text(),
+            &mut world,
+            4,
+            "error: exhausted: 0 left\n"
+        )
+    );
+    assert!(rt; is_at(&world, &ONE, 32)?);
+    Ok(())
+}
+
+/// Whether a `sign` from index 5 on, for which the file of a name fails, ends with this status and this line, and with this
+/// index next.
+fn fails_to_sign(
+    rt: &(impl Threads + Wait + AllocGlobal + Sync),
+    name: &str,
+    fault: WorldFault,
+    status: u8,
+    line: &str,
+    next: u64,
+) -> Result<bool, Fail> {
+    let mut world = keyed(rt.alloc(), &ONE, 5)?;
+    world.fail(name, fault)?;
+    let failed = fails_with(rt, &sign_text(), &mut world, status, line);
+    Ok(failed && is_at(&world, &ONE, next)?)
+}
+
+const UNREAD: &str = "error: cannot read input\n";
+
+const UNWRITTEN: &str = "error: cannot write output\n";
+
+const NO_MEMORY: &str = "error: out of memory\n";
+
+/// A message that can't be read uses no index.
+#[test]
+fn cannot_read_the_message(rt: HostRuntime) -> Result<(), Fail> {
+    assert!(rt; fails_to_sign(&rt, "text", WorldFault::Device, 6, UNREAD, 5)?);
+    assert!(rt; fails_to_sign(&rt, "text", WorldFault::OutOfMemory, 5, NO_MEMORY, 5)?);
+    Ok(())
+}
+
+/// A signature that can't be written has used its index, and want of memory is not said.
+#[test]
+fn cannot_write_a_signature(rt: HostRuntime) -> Result<(), Fail> {
+    assert!(rt; fails_to_sign(&rt, "text.sig", WorldFault::Device, 6, UNWRITTEN, 6)?);
+    assert!(rt; fails_to_sign(&rt, "text.sig", WorldFault::OutOfMemory, 6, UNWRITTEN, 6)?);
+    Ok(())
+}
+
+/// Whether a `keygen` that can't write the public key ends with this status and this line, and leaves the state.
+fn leaves_a_state(
+    rt: &(impl Threads + Wait + AllocGlobal + Sync),
+    fault: WorldFault,
+    status: u8,
+    line: &str,
+) -> Result<bool, Fail> {
+    let mut world = MemoryWorld::new(rt.alloc());
+    world.fail("key.pub", fault)?;
+    let failed = fails_with(rt, &keygen_one(), &mut world, status, line);
+    Ok(failed && is_at(&world, &ONE, 0)?)
+}
+
+/// A public key that can't be written leaves the state.
+#[test]
+fn cannot_write_a_public_key(rt: HostRuntime) -> Result<(), Fail> {
+    assert!(rt; leaves_a_state(&rt, WorldFault::Device, 6, UNWRITTEN)?);
+    assert!(rt; leaves_a_state(&rt, WorldFault::OutOfMemory, 5, NO_MEMORY)?);
+    Ok(())
+}
+
+/// Where the last line can't be printed, the state and the files are written already.
+#[test]
+fn cannot_print(rt: HostRuntime) -> Result<(), Fail> {
+    let mut world = MemoryWorld::new(rt.alloc());
+    world.write("text", b"abc")?;
+    assert!(rt; is_unprinted(&rt, &keygen_one(), &mut world, &mut Closed));
+    assert!(rt; is_at(&world, &ONE, 0)?);
+    assert!(rt; is_unprinted(&rt, &sign_text(), &mut world, &mut Closed));
+    assert!(rt; is_at(&world, &ONE, 1)?);
+    assert!(rt; says(&rt, &VERIFY, &mut world, 0, "valid\n"));
+    assert!(rt; is_unprinted(&rt, &INFO, &mut world, &mut Closed));
+    assert!(rt; is_at(&world, &ONE, 1)?);
+    Ok(())
+}

@@ -1,0 +1,38 @@
+use Rattle.lms_params.specs.LmsType.{lms_set_of}
+use Rattle.lms_params.specs.OtsType.{ots_set_of}
+use Rattle.lms_tree.proofs.Acceptance.{parts-of-accepted, candidate-of-accepted}
+use Rattle.lms_tree.proofs.SameParts.{parts-under, one-time-parts-under}
+use Rattle.lms_tree.proofs.verification.Verifier.begin.Goals as goal
+
+pub returns-in_err-sig-clause-none : goal.returns-in_err-sig-clause-none
+returns-in_err-sig-clause-none c =
+    let key = c.in_ok-key.key in
+    rw c.from_residual-in_err-sig.ensures
+    (λ message a. c.in_err-sig.ensures.none a.q a.ots_part a.path
+    (parts-of-accepted (lms_set_of key.lms) (ots_set_of key.ots) key.i key.root c.args.public.now message c.args.sig.now c.in_ok-key.ensures.some a).0)
+
+pub returns-in_err-ots-clause-none : goal.returns-in_err-ots-clause-none
+returns-in_err-ots-clause-none c =
+    let key = c.in_ok-key.key in
+    let sig = c.in_ok-sig.sig in
+    rw c.from_residual-in_err-ots.ensures
+    (λ message a.
+    let k = candidate-of-accepted (lms_set_of key.lms) (ots_set_of key.ots) key.i key.root c.args.public.now sig.q sig.ots_part.now sig.path.now
+    message c.args.sig.now c.in_ok-key.ensures.some c.in_ok-sig.ensures.some a in
+    c.in_err-ots.ensures.none message k.0 k.1)
+
+pub returns-in_err-sig-clause-no_parts : goal.returns-in_err-sig-clause-no_parts
+returns-in_err-sig-clause-no_parts c =
+    let key = c.in_ok-key.key in
+    rw c.from_residual-in_err-sig.ensures
+    (λ has. c.in_err-sig.ensures.none has.q has.ots_part has.path
+    (parts-under (lms_set_of key.lms) (ots_set_of key.ots) key.i key.root c.args.public.now c.args.sig.now c.in_ok-key.ensures.some has).0)
+
+pub returns-in_err-ots-clause-no_parts : goal.returns-in_err-ots-clause-no_parts
+returns-in_err-ots-clause-no_parts c =
+    let key = c.in_ok-key.key in
+    let sig = c.in_ok-sig.sig in
+    rw c.from_residual-in_err-ots.ensures
+    (λ has. c.in_err-ots.ensures.no_parts has.randomizer has.values
+    (one-time-parts-under (lms_set_of key.lms) (ots_set_of key.ots) key.i key.root c.args.public.now sig.q sig.ots_part.now sig.path.now c.args.sig.now
+    c.in_ok-key.ensures.some c.in_ok-sig.ensures.some has))

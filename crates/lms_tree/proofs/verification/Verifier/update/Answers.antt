@@ -1,0 +1,11 @@
+use Rattle.lms_tree.proofs.verification.Verifier.update.Goals as goal
+
+pub returns : goal.returns
+returns c public_key signature message taken = record {
+  key_parts = taken.key_parts;
+  q = taken.q;
+  ots_part = taken.ots_part;
+  signature_parts = taken.signature_parts;
+  leaf_is = taken.leaf_is;
+  taken = c.update.ensures _ _ _ _ _ taken.taken;
+}

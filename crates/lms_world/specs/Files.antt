@@ -1,0 +1,72 @@
+-- Files and a state in memory.
+use Rattle.std.specs.Prelude.{ℕ, ◌≡◌, ◌⊎◌, List, Bool, true, Option, Some, None, Result, Ok, Err, String, find, string_bytes}
+use Rattle.std.specs.Global.{Global, Vec}
+use Rattle.std.specs.Str.{bytes_eq}
+use Rattle.lms_book.specs.Memory.{MayFail, MemoryState}
+use Rattle.lms_world.specs.Known.{Known}
+use Rattle.lms_world.specs.declared.world.WorldFault.{WorldFault}
+use Rattle.lms_world.specs.declared.world.WorldFault.TheVariants.{Device, OutOfMemory}
+use Rattle.lms_world.specs.declared.memory.MemoryWorld.{MemoryWorld}
+
+-- a name, and what a read of it answers
+abbrev pub Entry : Type 0
+Entry = String Global × Result (Vec ℕ) WorldFault
+
+abbrev pub bytes_or_fault : Result (Vec ℕ) WorldFault → Result (List ℕ) WorldFault
+bytes_or_fault (Ok bytes) = Ok bytes.items
+bytes_or_fault (Err fault) = Err fault
+
+abbrev pub entry_answer : Option Entry → Result (List ℕ) WorldFault
+entry_answer None = Err Device
+entry_answer (Some entry) = bytes_or_fault entry.1
+
+-- the entry of the name that counts: the first
+abbrev pub entry_of : MemoryWorld → List ℕ → Option Entry
+entry_of world name = find (λ entry. bytes_eq (string_bytes entry.0) name) world.entries.items
+
+-- what a read of the name answers: with no entry there is no file
+abbrev pub answer_of : MemoryWorld → List ℕ → Result (List ℕ) WorldFault
+answer_of world name = entry_answer (entry_of world name)
+
+-- a read of the name may be refused by this fault: by its answer, or since memory ran out
+abbrev pub MayRefuse : MemoryWorld → List ℕ → WorldFault → Type 0
+MayRefuse world name fault = (answer_of world name ≡ Err fault) ⊎ (fault ≡ OutOfMemory)
+
+-- the text of a state: with no store there is none
+abbrev pub state_text : Option MemoryState → Option (List ℕ)
+state_text None = None
+state_text (Some store) = store.text
+
+-- a read of a state may fail: with no store it does
+abbrev pub MayFailToRead : Option MemoryState → Type 0
+MayFailToRead None = Unit {0}
+MayFailToRead (Some store) = MayFail store
+
+-- the store that keeps the state, where there is one
+abbrev pub store_in : MemoryWorld → Option MemoryState
+store_in world = world.state
+
+-- another program has the lock
+abbrev pub is_used_elsewhere : MemoryWorld → Bool
+is_used_elsewhere world = world.in_use
+
+-- the world with this store for its state
+abbrev pub with_store : MemoryState → MemoryWorld → MemoryWorld
+with_store store world = record world { state = Some store }
+
+-- the world with its lock held by another program
+abbrev pub used_elsewhere : MemoryWorld → MemoryWorld
+used_elsewhere world = record world { in_use = true }
+
+-- what is known in such a world: there is one state, whatever its name
+abbrev pub known_in_memory : MemoryWorld → Known
+known_in_memory world = record {
+  gives = λ name bytes. answer_of world name ≡ Ok bytes;
+  refuses = MayRefuse world;
+  keeps = λ _ text. state_text (store_in world) ≡ Some text;
+  lacks = λ _. state_text (store_in world) ≡ None;
+  holds = λ _ text. state_text (store_in world) ≡ Some text;
+  fails = λ _. MayFailToRead (store_in world);
+  in_use = λ _. is_used_elsewhere world ≡ true;
+  may_be = λ name text is. is;
+}

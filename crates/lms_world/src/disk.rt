@@ -1,0 +1,159 @@
+//! The files of the disk.
+ghost use Rattle.std.specs.Prelude.{◌≡◌, ◌≢◌, ℕ, ◌<◌, ◌≤◌, List, length, take, IfOk, IfSome, OnOk};
+ghost use Rattle.std.specs.IoError.{error_kind};
+ghost use Rattle.std.specs.Io.KnownBytes.{Consumes, IsAtEnd};
+
+use crate::contents::{Contents, Taker};
+use crate::world::{World, WorldFault};
+use lms_params::OutOfMemory;
+use lms_store::{FileStore, TryLock, exists, lock};
+use std::alloc::Global;
+use std::fs::OpenFile;
+use std::io::{ErrorKind, Read};
+use std::rt::Files;
+use std::{fs, io};
+
+/// How many bytes of a file are asked for at once, where it is read in pieces.
+const BLOCK: usize = 4096;
+
+/// The files and the states of the disk, named by their paths. Nothing is claimed of what they hold.
+#[derive(Drop)]
+pub struct DiskWorld<'a, R: Files> {
+    files: &'a R,
+}
+
+impl<'a, R: Files> DiskWorld<'a, R> {
+    /// The files that the runtime reaches.
+    pub fn new(files: &'a R) -> Self
+        ensures { result.files ≡ files.entry }
+    {
+        DiskWorld { files }
+    }
+}
+
+impl<'a, R: Files + Sync> World for DiskWorld<'a, R>
+where
+    R::File: TryLock,
+{
+    type Lock = R::File;
+
+    type Store = FileStore<'a, R>;
+
+    type Contents = DiskContents<R::File>;
+
+    ghost use Rattle.lms_world.specs.Known.{nothing_known};
+
+    ghost known = { λ _. nothing_known };
+
+    fn read(&self, alloc: Global, name: &str) -> Result<Vec<u8>, WorldFault> {
+        read_whole(self.files, alloc, name).map_err(|error| fault_of(&error))
+    }
+
+    fn open(&self, _alloc: Global, name: &str) -> Result<DiskContents<R::File>, WorldFault> {
+        match fs::open(self.files, name) {
+            Ok(file) => Ok(DiskContents { file }),
+            Err(error) => Err(fault_of(&error)),
+        }
+    }
+
+    fn write(&mut self, name: &str, bytes: &[u8]) -> Result<(), WorldFault> {
+        fs::write(self.files, name, bytes).map_err(|error| fault_of(&error))
+    }
+
+    fn exists(&self, name: &str) -> bool {
+        exists(self.files, name)
+    }
+
+    fn lock(&self, alloc: Global, name: &str) -> Result<Option<R::File>, OutOfMemory> {
+        lock(self.files, alloc, name)
+    }
+
+    fn take_store(&mut self, alloc: Global, name: &str) -> Result<FileStore<'a, R>, OutOfMemory> {
+        FileStore::new(alloc, self.files, name)
+    }
+
+    /// The state is in its file already.
+    fn put_back(&mut self, _name: &str, _store: FileStore<'a, R>) {}
+}
+
+/// A file of the disk that was opened to be read.
+#[derive(Drop)]
+pub struct DiskContents<F> {
+    file: F,
+}
+
+impl<F: Read + Drop> Contents for DiskContents<F> {
+    ghost gives = { λ _ _. Unit {0} };
+
+    ghost refuses = { λ _ _. Unit {0} };
+
+    fn hand_over<T: Taker>(self, taker: &mut T) -> Result<(), WorldFault> {
+        let mut file = self.file;
+        hand_blocks(&mut file, taker).map_err(|error| fault_of(&error))
+    }
+}
+
+/// Hands all that is left in the file over, block by block.
+fn hand_blocks<F: Read, T: Taker>(file: &mut F, taker: &mut T) -> io::Result<()>
+    ensures { OnOk result ((bytes : List ℕ)
+        × IfSome (F.remaining file.old) (λ rest. bytes ≡ rest) × T.after taker.old bytes taker.new) }
+{
+    let mut block = [0u8; BLOCK];
+    for _turn in 0..u64::MAX {
+        let count = read_block(file, &mut block)?;
+        if count == 0 {
+            return Ok(());
+        }
+        taker.take(&block[..count]);
+    }
+    Err(io::Error::from(ErrorKind::FileTooLarge))
+}
+
+/// One read, which is tried again where it was interrupted.
+fn read_block<F: Read>(file: &mut F, block: &mut [u8]) -> io::Result<usize>
+    requires { 0 < length block.old }
+    ensures bound { IfOk result (λ n. n ≤ length block.new) }
+    ensures bytes { IfOk result (λ n. Consumes (F.remaining file.old) (F.remaining file.new) (take n block.new)) }
+    ensures end { IfOk result (λ n. n ≡ 0 → IsAtEnd (F.remaining file.new)) }
+{
+    for _try in 0..u64::MAX {
+        match file.read(block) {
+            Ok(count) => return Ok(count),
+            Err(error) => {
+                if error.kind() != ErrorKind::Interrupted {
+                    return Err(error);
+                }
+            }
+        }
+    }
+    Err(io::Error::from(ErrorKind::Interrupted))
+}
+
+/// The bytes of a file, whole.
+fn read_whole<R: Files>(files: &R, alloc: Global, path: &str) -> io::Result<Vec<u8>> {
+    let mut file = fs::open(files, path)?;
+    let size = file.metadata()?.len() as usize;
+    read_sized(alloc, &mut file, size)
+}
+
+/// All that is left in the file, in memory of the size that it says it has and one byte for the read
+/// that finds the end, so that a large file is held once.
+fn read_sized<F: Read>(alloc: Global, file: &mut F, size: usize) -> io::Result<Vec<u8>>
+    ensures { IfOk result (λ bytes. IfSome (F.remaining file.old) (λ rest. bytes.items ≡ rest)) }
+{
+    let mut bytes = Vec::with_capacity(alloc, size.saturating_add(1))?;
+    file.read_to_end(&mut bytes)?;
+    Ok(bytes)
+}
+
+/// The fault of the world that an error of the disk is.
+fn fault_of(error: &io::Error) -> WorldFault
+    ensures memory { error_kind error.now ≡ ErrorKind.OutOfMemory → result ≡ WorldFault.OutOfMemory }
+    ensures device { error_kind error.now ≢ ErrorKind.OutOfMemory → result ≡ WorldFault.Device }
+{
+    if error.kind() == ErrorKind::OutOfMemory {
+        WorldFault::OutOfMemory
+    } else {
+        WorldFault::Device
+    }
+}

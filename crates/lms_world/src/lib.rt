@@ -1,0 +1,16 @@
+//! The files and the keys' states that a program reaches by their names.
+//!
+//! A [`World`] has them: [`DiskWorld`] is the disk, [`MemoryWorld`] stands in for it in tests.
+#![tactic(auto)]
+
+mod contents;
+mod disk;
+mod memory;
+#[cfg(test)]
+mod tests;
+mod world;
+
+pub use crate::contents::{Contents, Taker};
+pub use crate::disk::{DiskContents, DiskWorld};
+pub use crate::memory::{MemoryContents, MemoryLock, MemoryWorld};
+pub use crate::world::{World, WorldFault};

@@ -1,0 +1,166 @@
+//! Files and a state in memory.
+ghost use Rattle.std.specs.Prelude.{ℕ, ◌≡◌, ◌≢◌, List, OnOk, Ok, Err, None, false, option_map};
+ghost use Rattle.lms_world.specs.Files.{answer_of, bytes_or_fault, entry_of, is_used_elsewhere, known_in_memory, state_text, store_in, used_elsewhere, with_store};
+
+use crate::contents::{Contents, Taker};
+use crate::world::{World, WorldFault};
+use lms_book::MemoryStore;
+use lms_params::OutOfMemory;
+use std::alloc::{AllocError, Global};
+
+/// How many writes the record of a state has room for.
+const ROOM: usize = 8;
+
+/// Files and one state in memory, for tests: what a read of each name answers, and the state, whatever its name.
+#[derive(Drop)]
+pub struct MemoryWorld {
+    alloc: Global,
+    // The newest entry of a name stands first, and counts.
+    entries: Vec<(String, Result<Vec<u8>, WorldFault>)>,
+    state: Option<MemoryStore>,
+    in_use: bool,
+}
+
+/// The lock of a state in memory.
+#[derive(Drop)]
+pub struct MemoryLock;
+
+/// The bytes of a file in memory.
+#[derive(Drop)]
+pub struct MemoryContents {
+    bytes: Vec<u8>,
+}
+
+impl Contents for MemoryContents {
+    ghost gives = { λ contents bytes. bytes ≡ contents.bytes.items };
+
+    ghost refuses = { λ _ _. ⊥ };
+
+    /// In one piece.
+    fn hand_over<T: Taker>(self, taker: &mut T) -> Result<(), WorldFault> {
+        taker.take(&self.bytes);
+        Ok(())
+    }
+}
+
+impl MemoryWorld {
+    /// No files, where a read of any name answers `Device`, and no state.
+    pub fn new(alloc: Global) -> Self
+        ensures files { (name : List ℕ) → answer_of result name ≡ Err WorldFault.Device }
+        ensures state { state_text (store_in result) ≡ None }
+        ensures free { is_used_elsewhere result ≡ false }
+    {
+        MemoryWorld {
+            alloc,
+            entries: Vec::new(alloc),
+            state: None,
+            in_use: false,
+        }
+    }
+
+    /// Makes the state one that this store keeps.
+    pub fn set_state(&mut self, store: MemoryStore)
+        ensures { self.new ≡ with_store store self.old }
+    {
+        self.state = Some(store);
+    }
+
+    /// The store that keeps the state, where one was made or put back.
+    pub fn state(&self) -> Option<&MemoryStore>
+        ensures { option_map (λ store. store.now) result ≡ store_in self.now }
+    {
+        self.state.as_ref()
+    }
+
+    /// Makes the lock one that another program has.
+    pub fn use_elsewhere(&mut self)
+        ensures { self.new ≡ used_elsewhere self.old }
+    {
+        self.in_use = true;
+    }
+
+    /// Makes each read and each write of a name fail. An error is want of memory.
+    pub fn fail(&mut self, name: &str, fault: WorldFault) -> Result<(), AllocError>
+        ensures fails { OnOk result (answer_of self.new name.now ≡ Err fault) }
+        ensures state { store_in self.new ≡ store_in self.old }
+    {
+        self.put(name, Err(fault))
+    }
+
+    fn put(&mut self, name: &str, answer: Result<Vec<u8>, WorldFault>) -> Result<(), AllocError>
+        ensures answer { OnOk result (answer_of self.new name.now ≡ bytes_or_fault answer) }
+        ensures others { (other : List ℕ) → other ≢ name.now → answer_of self.new other ≡ answer_of self.old other }
+        ensures state { store_in self.new ≡ store_in self.old }
+    {
+        let name = String::from_str(self.alloc, name)?;
+        self.entries.insert(0, (name, answer))?;
+        Ok(())
+    }
+
+    /// The entry of the name that counts.
+    fn entry(&self, name: &str) -> Option<&(String, Result<Vec<u8>, WorldFault>)>
+        ensures { option_map (λ entry. entry.now) result ≡ entry_of self.now name.now }
+    {
+        self.entries.iter().find(|entry| entry.0.as_str() == name)
+    }
+}
+
+impl World for MemoryWorld {
+    type Lock = MemoryLock;
+
+    type Store = MemoryStore;
+
+    type Contents = MemoryContents;
+
+    ghost known = { known_in_memory };
+
+    fn read(&self, alloc: Global, name: &str) -> Result<Vec<u8>, WorldFault> {
+        match self.entry(name) {
+            Some((_, Ok(bytes))) => {
+                Vec::from_slice(alloc, bytes).map_err(|_| WorldFault::OutOfMemory)
+            }
+            Some((_, Err(fault))) => Err(*fault),
+            None => Err(WorldFault::Device),
+        }
+    }
+
+    fn open(&self, alloc: Global, name: &str) -> Result<MemoryContents, WorldFault> {
+        let bytes = self.read(alloc, name)?;
+        Ok(MemoryContents { bytes })
+    }
+
+    fn write(&mut self, name: &str, bytes: &[u8]) -> Result<(), WorldFault> {
+        if let Some((_, Err(fault))) = self.entry(name) {
+            return Err(*fault);
+        }
+        let copy = Vec::from_slice(self.alloc, bytes).map_err(|_| WorldFault::OutOfMemory)?;
+        self.put(name, Ok(copy))
+            .map_err(|_| WorldFault::OutOfMemory)
+    }
+
+    fn exists(&self, _name: &str) -> bool {
+        match &self.state {
+            Some(store) => store.text().is_some(),
+            None => false,
+        }
+    }
+
+    fn lock(&self, _alloc: Global, _name: &str) -> Result<Option<MemoryLock>, OutOfMemory> {
+        if self.in_use {
+            Ok(None)
+        } else {
+            Ok(Some(MemoryLock))
+        }
+    }
+
+    fn take_store(&mut self, alloc: Global, _name: &str) -> Result<MemoryStore, OutOfMemory> {
+        match self.state.take() {
+            Some(store) => Ok(store),
+            None => MemoryStore::new(alloc, None, ROOM),
+        }
+    }
+
+    fn put_back(&mut self, _name: &str, store: MemoryStore) {
+        self.set_state(store);
+    }
+}

@@ -1,0 +1,90 @@
+//! What a world of files and states owes.
+ghost use Rattle.std.specs.Prelude.{◌≡◌, ◌↔◌, ℕ, List, None, true, false, IfErr, IfOk, OnOk};
+ghost use Rattle.lms_book.specs.Stops.{MayLeave};
+ghost use Rattle.lms_world.specs.Known.{Exists, Given, Known, SameFiles, SameFilesBut, Stays};
+
+use crate::contents::Contents;
+use lms_book::StateStore;
+use lms_params::OutOfMemory;
+use std::alloc::Global;
+use thiserror::Error;
+
+/// Why a file can't be read or written.
+#[derive(Clone, Copy, Debug, PartialEq, Eq, Error)]
+pub enum WorldFault {
+    /// There is no such file, or it can't be read or written.
+    #[error("the file can't be reached")]
+    Device,
+    /// Memory ran out.
+    #[error("out of memory")]
+    OutOfMemory,
+}
+
+/// Files and keys' states, by their names.
+pub trait World {
+    /// Keeps other programs from a state for as long as it is held.
+    type Lock: Drop;
+
+    /// What keeps a state.
+    type Store: StateStore + Drop;
+
+    /// A file that was opened to be read.
+    type Contents: Contents + Drop;
+
+    // What is known of the files and the states.
+    ghost known: { Self → Known };
+
+    /// The bytes of a file.
+    ///
+    /// `Device` where there is no such file or it can't be read, `OutOfMemory` where memory for its
+    /// bytes was refused.
+    fn read(&self, alloc: Global, name: &str) -> Result<Vec<u8>, WorldFault>
+        ensures given { IfOk result (λ bytes. (known self.now).gives name.now bytes.items) }
+        ensures refused { IfErr result ((known self.now).refuses name.now) };
+
+    /// Opens a file to be read, in pieces of which none is large. Nothing of it is read yet.
+    ///
+    /// `Device` where there is no such file or it can't be opened, `OutOfMemory` where memory for that was refused.
+    fn open(&self, alloc: Global, name: &str) -> Result<Self::Contents, WorldFault>
+        ensures there { IfOk result (λ _. Given (known self.now) name.now) }
+        ensures given { IfOk result (λ contents. (bytes : List ℕ)
+            → Self.Contents.gives contents bytes → (known self.now).gives name.now bytes) }
+        ensures refuses { IfOk result (λ contents. (fault : WorldFault)
+            → Self.Contents.refuses contents fault → (known self.now).refuses name.now fault) }
+        ensures refused { IfErr result ((known self.now).refuses name.now) };
+
+    /// Makes these the bytes of a file, which need not be there yet. No other file is changed, and no state.
+    ///
+    /// `Device` where it can't be written, `OutOfMemory` where memory for that was refused. After an error the file may be
+    /// missing or cut short.
+    fn write(&mut self, name: &str, bytes: &[u8]) -> Result<(), WorldFault>
+        ensures given { OnOk result ((known self.new).gives name.now bytes.now) }
+        ensures others { SameFilesBut name.now (known self.old) (known self.new) }
+        ensures states { (state : List ℕ) → Stays (known self.old) (known self.new) state };
+
+    /// True where there is a state of this name, and where that can't be found out.
+    fn exists(&self, name: &str) -> bool
+        ensures missing { result ≡ false → (known self.now).lacks name.now }
+        ensures there { result ≡ true → Exists (known self.now) name.now };
+
+    /// Locks the state of this name, without waiting. `None` where the lock is not available, `OutOfMemory` where memory for
+    /// it was refused.
+    fn lock(&self, alloc: Global, name: &str) -> Result<Option<Self::Lock>, OutOfMemory>
+        ensures { IfOk result (λ lock. lock ≡ None → (known self.now).in_use name.now) };
+
+    /// Takes out what keeps the state of this name. Where there is no such state, its reads fail. No file is changed.
+    ///
+    /// `OutOfMemory` where memory for it was refused.
+    fn take_store(&mut self, alloc: Global, name: &str) -> Result<Self::Store, OutOfMemory>
+        ensures taken { IfOk result (λ store. (text : List ℕ)
+            → MayLeave (Self.Store.seen store) text ↔ (known self.old).keeps name.now text) }
+        ensures fails { IfOk result (λ store. Self.Store.may_fail store → (known self.old).fails name.now) }
+        ensures stays { IfErr result (λ _. Stays (known self.old) (known self.new) name.now) }
+        ensures files { SameFiles (known self.old) (known self.new) };
+
+    /// Puts it back: the state of this name is what it keeps. No file is changed.
+    fn put_back(&mut self, name: &str, store: Self::Store)
+        ensures kept { (text : List ℕ) → MayLeave (Self.Store.seen store) text → (known self.new).keeps name.now text }
+        ensures only { (text : List ℕ) → (known self.new).holds name.now text → MayLeave (Self.Store.seen store) text }
+        ensures files { SameFiles (known self.old) (known self.new) };
+}
