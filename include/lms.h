@@ -64,17 +64,18 @@ bool lms_verify_pieces(const uint8_t *public_key, size_t public_key_len,
  * Both calls have to be given the same key and the same signature, which nobody may have changed in between. The head
  * comes from them: of a hash with the head of others nothing is proved, and lms_verify_hash can't tell it from its own.
  *
- * lms_message_head answers whether key and signature have a head, and writes it. It is false only where the key's number of
- * levels isn't 1 to 8, the signature's isn't one less, an upper level's signature isn't valid, or the bottom level's key or
- * signature isn't of known typecodes that agree, of its length, and of a leaf in the tree. No message is valid then: refuse
- * the image, and hash nothing. True says nothing of a message yet. The signatures of the upper levels, which sign keys, are
+ * lms_message_head answers whether key and signature have a head, and writes it. It is false only where key or signature
+ * ends before its number of levels, the key's isn't 1 to 8, the signature's isn't one less, an upper level's signature or the
+ * key that it signs isn't there whole or isn't valid, or the bottom level's key or signature isn't of known typecodes that
+ * agree, of its length, and of a leaf in the tree. No message is valid then: refuse the image, and hash nothing. True says
+ * nothing of a message yet. The signatures of the upper levels, which sign keys, are
  * verified by both calls.
  *
  * The head must not overlap key or signature: the call reads them, and may do so after it has begun to write the head, as
  * it was proved and compiled for memory that lies apart. It must not be null.
  *
  * Proved: true exactly where key and signature have a head. After true, what is written is RFC 8554's head. After false, its
- * definition accepts no message with this key and signature, and nothing is written. */
+ * definition accepts no message with this key and signature, and the head is as it was. */
 bool lms_message_head(const uint8_t *public_key, size_t public_key_len,
                       const uint8_t *signature, size_t signature_len,
                       uint8_t head[LMS_MESSAGE_HEAD_LEN]);

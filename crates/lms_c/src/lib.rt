@@ -41,7 +41,7 @@ pub extern "C" fn lms_verify_pieces(public: &[u8], pieces: &[LmsPiece], signatur
 }
 
 /// Writes the 54 bytes that the hash of a message has before it, I, q, D_MESG and C (RFC 8554, 4.5), for a caller that
-/// hashes the message. False exactly where there is no head: no message is accepted then, and nothing is written.
+/// hashes the message. False exactly where there is no head: no message is accepted then, and `head` is as it was.
 #[unsafe(no_mangle)]
 pub extern "C" fn lms_message_head(public: &[u8], signature: &[u8], head: &mut [u8; 54]) -> bool
     ensures head { IsTrue result → IsMessageHead public.now signature.now head.new }

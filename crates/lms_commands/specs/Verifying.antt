@@ -29,7 +29,7 @@ RefusedAt at name Input = at.refuses name world.Device
 RefusedAt at name OutOfMemory = at.refuses name world.OutOfMemory
 RefusedAt at name _ = ⊥
 
--- of three names read in this order, the fault is that of the first that gave no bytes, or that of the output after all three
+-- the fault is that of a name that gave no bytes, after those before it gave some, or that of the output after all three
 abbrev pub FailsToJudge : Known → Text → Text → Text → Fault → Type 0
 FailsToJudge at public message signature fault =
     RefusedAt at public fault

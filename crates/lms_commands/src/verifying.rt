@@ -14,8 +14,8 @@ use lms_world::{Taker, World};
 use std::alloc::Global;
 use std::io::Write;
 
-/// Reads a public key, a message and a signature, prints the verdict on them and answers it. The message is read in pieces,
-/// none of them large.
+/// Reads a public key, opens a message and reads a signature, in this order, then reads the message piece by piece, as the
+/// world hands it over; prints the verdict on them and answers it.
 ///
 /// `Input` where a file can't be read, `OutOfMemory` where memory for it was refused, `Output` where
 /// the verdict can't be printed. Only at `Output` may a part of it have been printed.

@@ -12,8 +12,10 @@ pub trait Taker {
     fn take(&mut self, piece: &[u8])
         ensures { after self.old piece.now self.new };
 
+    // No bytes change nothing.
     ghost none: { (taker : Self) → after taker [] taker };
 
+    // Bytes after bytes are the bytes joined.
     ghost more: { (old between new : Self) (bytes others : List ℕ)
         → after old bytes between → after between others new → after old (bytes ++ others) new };
 }

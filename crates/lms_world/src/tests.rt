@@ -11,7 +11,7 @@ use std::{fs, io};
 /// The most bytes that a poor file gives or takes at once.
 const MOST: usize = 1000;
 
-/// Files that give and take few bytes at once, and tell nothing of a name.
+/// Files that give and take few bytes at once, whose reads are interrupted every second time, and that tell nothing of a name.
 #[derive(Drop)]
 struct PoorFiles<'a, R: Files> {
     files: &'a R,
@@ -21,10 +21,15 @@ struct PoorFiles<'a, R: Files> {
 #[derive(Drop)]
 struct PoorFile<F> {
     file: F,
+    was_interrupted: bool,
 }
 
 impl<F: Read> Read for PoorFile<F> {
     fn read(&mut self, buf: &mut [u8]) -> io::Result<usize> {
+        self.was_interrupted = !self.was_interrupted;
+        if self.was_interrupted {
+            return Err(io::Error::from(ErrorKind::Interrupted));
+        }
         let count = buf.len().min(MOST);
         self.file.read(&mut buf[..count])
     }
@@ -80,7 +85,10 @@ impl<'a, R: Files> Files for PoorFiles<'a, R> {
 
     fn open_file(&self, how: &OpenOptions, path: &str) -> io::Result<PoorFile<R::File>> {
         let file = self.files.open_file(how, path)?;
-        Ok(PoorFile { file })
+        Ok(PoorFile {
+            file,
+            was_interrupted: false,
+        })
     }
 
     fn open_dir(&self, path: &str) -> io::Result<R::Dir> {
@@ -140,6 +148,7 @@ fn reads<W: World>(alloc: Global, world: &W, name: &str, bytes: &[u8]) -> bool {
 }
 
 /// Compares what it takes with a text.
+#[derive(Drop)]
 struct Comparing<'a> {
     left: &'a [u8],
     is_same: bool,

@@ -42,7 +42,7 @@ pub trait World {
         ensures given { IfOk result (λ bytes. (known self.now).gives name.now bytes.items) }
         ensures refused { IfErr result ((known self.now).refuses name.now) };
 
-    /// Opens a file to be read, in pieces of which none is large. Nothing of it is read yet.
+    /// Opens a file, whose bytes are then handed over piece by piece.
     ///
     /// `Device` where there is no such file or it can't be opened, `OutOfMemory` where memory for that was refused.
     fn open(&self, alloc: Global, name: &str) -> Result<Self::Contents, WorldFault>
