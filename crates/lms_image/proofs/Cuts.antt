@@ -9,8 +9,10 @@ use Rattle.std.proofs.lemmas.List.Elements.{All-nil, All-cons, All-from_get_or}
 use Rattle.std.proofs.lemmas.Nat.{be_bytes_4, be_bytes_8}
 use Rattle.lms_spec.specs.Bytes.{u32str, number_of}
 use Rattle.lms_spec.proofs.Numbers.{number_of-u32}
-use Rattle.lms_image.specs.Image.{u64str}
-use Rattle.lms_image.specs.Reading.{IsCut}
+use Rattle.lms_image.specs.declared.version.Version.{Version}
+use Rattle.lms_image.specs.declared.version.Version.TheVariants.{First, Second}
+use Rattle.lms_image.specs.Image.{u64str, later_text}
+use Rattle.lms_image.specs.Reading.{IsCut, ReadsLater, later_length}
 use Rattle.lms_image.proofs.LevelTexts.{Is8}
 
 abbrev pub IsBytes : List ℕ → Type 0
@@ -65,31 +67,63 @@ concat-chunks (suc n) bytes h =
     ap (λ rest. take 8 bytes ++ rest) (concat-chunks n (drop 8 bytes) (omega (arith, length-drop 8 bytes)))
     ∙ take-append-drop 8 bytes
 
+-- a text is the number that its first eight bytes make, and the rest
+pub eight-and-rest : (bytes front rest : List ℕ) (n : ℕ) → IsBytes bytes → 8 ≤ length bytes
+    → front ≡ take 8 bytes → rest ≡ drop 8 bytes → n ≡ from_be_bytes w64 front → bytes ≡ u64str n ++ rest
+eight-and-rest bytes front rest n small long ef er en =
+    let eight = length-take-le 8 bytes long in
+    let number : u64str n ≡ take 8 bytes = be_bytes_8 (take 8 bytes) n eight (bytes-take 8 bytes small) (en ∙ ap (from_be_bytes w64) ef) in
+    sym (take-append-drop 8 bytes) ∙ ap₂ (λ x y. x ++ y) (sym number) (sym er)
+
+-- the numbers behind the counter are read
+pub reads-later : (v : Version) (text : List ℕ) → IsBytes text → later_length v ≤ length text
+    → (openings burnt : ℕ) × (rest : List ℕ) × ReadsLater v text openings burnt rest
+reads-later First text small long = (0, 0, text, record { are = (refl, refl); parts = refl; long = omega arith })
+reads-later Second text small long =
+    let behind = drop 8 text in
+    let behind_small = bytes-drop 8 text small in
+    let behind_long = length-drop 8 text in
+    let openings = from_be_bytes w64 (take 8 text) in
+    let burnt = from_be_bytes w64 (take 8 behind) in
+    let first : text ≡ u64str openings ++ behind = eight-and-rest text (take 8 text) behind openings small (omega (arith, long)) refl refl refl in
+    let second : behind ≡ u64str burnt ++ drop 8 behind
+    = eight-and-rest behind (take 8 behind) (drop 8 behind) burnt behind_small (omega (arith, long, behind_long)) refl refl refl in (
+      openings,
+      burnt,
+      drop 8 behind,
+      record {
+        are = (eight-fit (take 8 text) (bytes-take 8 text small), eight-fit (take 8 behind) (bytes-take 8 behind behind_small));
+        parts = first ∙ ap (λ x. u64str openings ++ x) second;
+        long = omega (arith, long, behind_long, length-drop 8 behind);
+      },
+    )
+
 -- what follows a count of levels, cut at their length
-pub cut-parts : (count : ℕ) (rest front after seed after_seed id after_id number digest : List ℕ) (levels : List (List ℕ)) (counter : ℕ)
-    → IsBytes rest → length rest ≡ 88 + 8 * count
+pub cut-parts : (count : ℕ) (rest front after seed after_seed id after_id after_counter digest : List ℕ) (levels : List (List ℕ))
+    (v : Version) (counter openings burnt : ℕ)
+    → IsBytes rest → length rest ≡ 88 + later_length v + 8 * count
     → front ≡ take (8 * count) rest → after ≡ drop (8 * count) rest
     → seed ≡ take 32 after → after_seed ≡ drop 32 after
     → id ≡ take 16 after_seed → after_id ≡ drop 16 after_seed
-    → number ≡ take 8 after_id → digest ≡ drop 8 after_id
-    → levels ≡ first_chunks 8 count front → counter ≡ from_be_bytes w64 number
-    → IsCut count rest levels seed id counter digest
-cut-parts count rest front after seed after_seed id after_id number digest levels counter small long ef ea es eas ei eai en ed el ec =
+    → levels ≡ first_chunks 8 count front
+    → after_id ≡ u64str counter ++ after_counter → counter < 2 ^ 64
+    → ReadsLater v after_counter openings burnt digest
+    → IsCut count rest
+    (record { version = v; levels = levels; seed = seed; id = id; counter = counter; openings = openings; burnt = burnt }) digest
+cut-parts count rest front after seed after_seed id after_id after_counter digest levels v counter openings burnt small long ef ea es eas ei eai el ec fits later =
     let k = 8 * count in
     let after_small : IsBytes after = subst IsBytes (sym ea) (bytes-drop k rest small) in
     let after_seed_small : IsBytes after_seed = subst IsBytes (sym eas) (bytes-drop 32 after after_small) in
-    let after_id_small : IsBytes after_id = subst IsBytes (sym eai) (bytes-drop 16 after_seed after_seed_small) in
-    let number_small : IsBytes number = subst IsBytes (sym en) (bytes-take 8 after_id after_id_small) in
     let front_long : length front ≡ k = ap length ef ∙ length-take-le k rest (omega arith) in
-    let after_long : length after ≡ 88 = ap length ea ∙ omega (arith, length-drop k rest) in
-    let after_seed_long : length after_seed ≡ 56 = ap length eas ∙ omega (arith, length-drop 32 after) in
-    let after_id_long : length after_id ≡ 40 = ap length eai ∙ omega (arith, length-drop 16 after_seed) in
-    let number_long : length number ≡ 8 = ap length en ∙ length-take-le 8 after_id (omega arith) in
-    let word : u64str counter ≡ number = be_bytes_8 number counter number_long number_small ec in
+    let after_long : length after ≡ 88 + later_length v = ap length ea ∙ omega (arith, length-drop k rest) in
+    let after_seed_long : length after_seed ≡ 56 + later_length v = ap length eas ∙ omega (arith, length-drop 32 after) in
+    let after_id_long : length after_id ≡ 40 + later_length v = ap length eai ∙ omega (arith, length-drop 16 after_seed) in
     let pieces : concat levels ≡ front = ap concat el ∙ concat-chunks count front front_long in
-    let last : u64str counter ++ digest ≡ after_id = ap₂ (λ x y. x ++ y) (word ∙ en) ed ∙ take-append-drop 8 after_id in
-    let behind_seed : id ++ (u64str counter ++ digest) ≡ after_seed = ap₂ (λ x y. x ++ y) ei (last ∙ eai) ∙ take-append-drop 16 after_seed in
-    let behind : seed ++ (id ++ (u64str counter ++ digest)) ≡ after = ap₂ (λ x y. x ++ y) es (behind_seed ∙ eas) ∙ take-append-drop 32 after in
+    let last : u64str counter ++ (later_text v openings burnt ++ digest) ≡ after_id = ap (λ x. u64str counter ++ x) (sym later.parts) ∙ sym ec in
+    let behind_seed : id ++ (u64str counter ++ (later_text v openings burnt ++ digest)) ≡ after_seed
+    = ap₂ (λ x y. x ++ y) ei (last ∙ eai) ∙ take-append-drop 16 after_seed in
+    let behind : seed ++ (id ++ (u64str counter ++ (later_text v openings burnt ++ digest))) ≡ after
+    = ap₂ (λ x y. x ++ y) es (behind_seed ∙ eas) ∙ take-append-drop 32 after in
     record {
       level_count = ap length el ∙ length-chunks count front;
       level_lengths = subst (All Is8) (sym el) (chunks-are-8 count front (omega arith));
@@ -97,7 +131,8 @@ cut-parts count rest front after seed after_seed id after_id number digest level
       seed_bytes = all-bytes seed (subst IsBytes (sym es) (bytes-take 32 after after_small));
       id_length = ap length ei ∙ length-take-le 16 after_seed (omega arith);
       id_bytes = all-bytes id (subst IsBytes (sym ei) (bytes-take 16 after_seed after_seed_small));
-      counter_fits = omega (arith, eight-fit number number_small);
-      digest_length = ap length ed ∙ omega (arith, length-drop 8 after_id);
+      counter_fits = fits;
+      later = later.are;
+      digest_length = (let all = ap length ec in let behind_counter = later.long in omega arith);
       parts = sym (ap₂ (λ x y. x ++ y) (pieces ∙ ef) (behind ∙ ea) ∙ take-append-drop k rest);
     }

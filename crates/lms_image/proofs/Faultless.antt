@@ -1,5 +1,5 @@
--- A text of bytes without a fault is the image of some key and counter.
-use Rattle.std.proofs.Common.{ℕ, ◌≡◌, ◌+◌, ◌*◌, ◌^◌, ◌<◌, ◌≤◌, List, [], ◌∷◌, ◌++◌, length, map, take, drop, get_or, All, Bool, true, false, cond, Option, Some, None, ◌==◌, nat_lt, option_map, is_some, sum_by, refl, sym, ◌∙◌, ap, ap₂, arith, ⊎_elim, length-drop, take-append-drop}
+-- A text of bytes without a fault is an image of some key and its numbers.
+use Rattle.std.proofs.Common.{ℕ, ◌≡◌, ◌+◌, ◌*◌, ◌^◌, ◌<◌, ◌≤◌, List, [], ◌∷◌, ◌++◌, length, map, take, drop, get_or, All, Bool, true, false, cond, Option, Some, None, ◌==◌, ◌||◌, nat_lt, option_map, is_some, sum_by, refl, sym, ◌∙◌, ap, ap₂, arith, ⊎_elim, length-drop, take-append-drop}
 use Rattle.std.specs.Prelude.{unwrap_or}
 use Rattle.std.specs.List.{list_all}
 use Rattle.std.specs.Simd.{first_chunks}
@@ -25,16 +25,18 @@ use Rattle.lms_hss.specs.Levels.{levels_of, IsAdmitted}
 use Rattle.lms_hss.specs.Keys.{hss_key_of}
 use Rattle.lms_hss.specs.declared.key.HssKey.{HssKey as KeyOfCode}
 use Rattle.lms_image.specs.declared.image.ImageFault.{ImageFault}
-use Rattle.lms_image.specs.declared.image.ImageFault.TheVariants.{Truncated, NotAnImage, UnknownVersion, BadLevels, WrongLength, Damaged, BadType, TooTall, CounterTooHigh}
-use Rattle.lms_image.specs.Image.{magic, level_text, is_level, height_in, heights_in, number_at, count_in, levels_in, counter_in, body_in, digest_in, has_fault, faults, fault_of, image_of, HasImage}
-use Rattle.lms_image.specs.Reading.{IsHeaded, IsCut}
+use Rattle.lms_image.specs.declared.image.ImageFault.TheVariants.{Truncated, NotAnImage, UnknownVersion, BadLevels, WrongLength, Damaged, BadType, TooTall, CounterTooHigh, OpeningTooHigh, BurntTooHigh}
+use Rattle.lms_image.specs.declared.version.Version.{Version}
+use Rattle.lms_image.specs.declared.version.Version.TheVariants.{First, Second}
+use Rattle.lms_image.specs.Image.{Fields, magic, code_of, level_text, is_level, height_in, heights_in, number_at, length_of, version_in, count_in, levels_in, counter_in, openings_in, burnt_in, body_in, digest_in, has_fault, faults, fault_of, IsImage, HasImage}
+use Rattle.lms_image.specs.Reading.{IsHeaded, IsCut, ReadsLater, later_length}
 use Rattle.lms_image.specs.Laws.{IsText, FaultlessAreImages}
 use Rattle.lms_image.proofs.Fields.{u32-at}
 use Rattle.lms_image.proofs.LevelTexts.{Is8, level-read, signed-of-texts, heights-of-texts}
 use Rattle.lms_image.proofs.Faults.{first_among, fault-of}
-use Rattle.lms_image.proofs.Parts.{laid-out, whole}
-use Rattle.lms_image.proofs.Cuts.{IsBytes, bytes-take, bytes-drop, four-fit, number-back, chunks-are-bytes, cut-parts}
-use Rattle.lms_image.proofs.Images.{read-image, read-counted, read-faultless}
+use Rattle.lms_image.proofs.Parts.{laid-out, whole, length-by-code}
+use Rattle.lms_image.proofs.Cuts.{IsBytes, bytes-take, bytes-drop, four-fit, eight-fit, number-back, chunks-are-bytes, eight-and-rest, reads-later, cut-parts}
+use Rattle.lms_image.proofs.Images.{read-image, read-counted, image-has-no-fault}
 
 -- ---- levels
 
@@ -99,14 +101,21 @@ passed text f fs e = not-taken (has_fault f text) f (first_among fs text) e
 record IsClear (text : List ℕ) : Type 0 where
   long : 12 ≤ length text
   start : take 4 text ≡ magic
-  version : number_at 4 4 text ≡ 1
+  version : Version
+  version_is : version_in text ≡ code_of version
   some_level : 1 ≤ count_in text
   eight_at_most : count_in text ≤ 8
-  length_is : length text ≡ 100 + 8 * count_in text
+  length_is : length text ≡ length_of (version_in text) (count_in text)
   digest : digest_in text ≡ sha256 (body_in text)
   types : list_all is_level (levels_in text) ≡ true
   heights : heights_in text ≤ 60
   counter : counter_in text ≤ 2 ^ heights_in text
+  openings : openings_in text ≤ counter_in text
+  burnt : burnt_in text ≤ counter_in text
+
+named-version : (n : ℕ) (first : Bool) → (n == 1) ≡ first → (first || n == 2) ≡ true → (v : Version) × (n ≡ code_of v)
+named-version n true one known = (First, eqb-true n 1 one)
+named-version n false other known = (Second, eqb-true n 2 known)
 
 clear-of : (text : List ℕ) → fault_of text ≡ None → IsClear text
 unfolding has_fault
@@ -120,37 +129,43 @@ clear-of text none =
     let p6 = passed text BadType (drop 7 faults) p5.1 in
     let p7 = passed text TooTall (drop 8 faults) p6.1 in
     let p8 = passed text CounterTooHigh (drop 9 faults) p7.1 in
+    let p9 = passed text OpeningTooHigh (drop 10 faults) p8.1 in
+    let p10 = passed text BurntTooHigh (drop 11 faults) p9.1 in
+    let stated = named-version (version_in text) (version_in text == 1) refl (not-false _ p2.0) in
     let counts = or_parts (count_in text == 0) (nat_lt 8 (count_in text)) p3.0 in
     record {
       long = ltb-false (length text) 12 p0.0;
       start = (bytes_eq-Decides (take 4 text) magic).0 (not-false _ p1.0);
-      version = eqb-true _ 1 (not-false _ p2.0);
+      version = stated.0;
+      version_is = stated.1;
       some_level = (let some : count_in text ≡ 0 → ⊥ = eqb-false (count_in text) 0 counts.0 in omega arith);
       eight_at_most = ltb-false 8 (count_in text) counts.1;
-      length_is = eqb-true (length text) (100 + 8 * count_in text) (not-false _ p4.0);
+      length_is = eqb-true (length text) (length_of (version_in text) (count_in text)) (not-false _ p4.0);
       digest = (bytes_eq-Decides (digest_in text) (sha256 (body_in text))).0 (not-false _ p5.0);
       types = not-false _ p6.0;
       heights = ltb-false 60 (heights_in text) p7.0;
       counter = ltb-false (2 ^ heights_in text) (counter_in text) p8.0;
+      openings = ltb-false (counter_in text) (openings_in text) p9.0;
+      burnt = ltb-false (counter_in text) (burnt_in text) p10.0;
     }
 
--- ---- the key and the counter
+-- ---- the key and the numbers
 
-head-of : (text : List ℕ) → IsBytes text → IsClear text → IsHeaded text (drop 12 text) (count_in text)
+head-of : (text : List ℕ) → IsBytes text → (is : IsClear text) → IsHeaded text (drop 12 text) is.version (count_in text)
 head-of text small is =
     let long = is.long in
     let behind = drop 4 text in
     let behind_small = bytes-drop 4 text small in
     let behind_long : 8 ≤ length behind = omega (arith, length-drop 4 text) in
-    let version : take 4 behind ≡ u32str 1
-    = number-back (take 4 behind) (length-take-le 4 behind (omega arith)) (bytes-take 4 behind behind_small) ∙ ap u32str is.version in
+    let version : take 4 behind ≡ u32str (code_of is.version)
+    = number-back (take 4 behind) (length-take-le 4 behind (omega arith)) (bytes-take 4 behind behind_small) ∙ ap u32str is.version_is in
     let after = drop 8 text in
     let after_long : 4 ≤ length after = omega (arith, length-drop 8 text) in
     let count : take 4 after ≡ u32str (count_in text)
     = number-back (take 4 after) (length-take-le 4 after after_long) (bytes-take 4 after (bytes-drop 8 text small)) in
     let third : after ≡ u32str (count_in text) ++ drop 12 text
     = sym (take-append-drop 4 after) ∙ ap₂ (λ x y. x ++ y) count (drop-drop 4 8 text) in
-    let second : behind ≡ u32str 1 ++ (u32str (count_in text) ++ drop 12 text)
+    let second : behind ≡ u32str (code_of is.version) ++ (u32str (count_in text) ++ drop 12 text)
     = sym (take-append-drop 4 behind) ∙ ap₂ (λ x y. x ++ y) version (drop-drop 4 4 text ∙ third) in
     record {
       some_level = is.some_level;
@@ -158,19 +173,60 @@ head-of text small is =
       parts = sym (take-append-drop 4 text) ∙ ap₂ (λ x y. x ++ y) is.start second;
     }
 
--- the parts of a text
+-- what stands behind the levels, and behind the identifier
 after_levels : List ℕ → List ℕ
 after_levels text = drop (8 * count_in text) (drop 12 text)
 
-cut-of : (text : List ℕ) → IsBytes text → IsClear text
-    → IsCut (count_in text) (drop 12 text) (first_chunks 8 (count_in text) (take (8 * count_in text) (drop 12 text)))
-    (take 32 (after_levels text)) (take 16 (drop 32 (after_levels text)))
-    (from_be_bytes w64 (take 8 (drop 16 (drop 32 (after_levels text))))) (drop 8 (drop 16 (drop 32 (after_levels text))))
-unfolding after_levels
-cut-of text small is =
-    let all = is.length_is in
-    cut-parts (count_in text) (drop 12 text) _ _ _ _ _ _ _ _ _ _ (bytes-drop 12 text small) (omega (arith, length-drop 12 text))
-    refl refl refl refl refl refl refl refl refl refl
+after_id : List ℕ → List ℕ
+after_id text = drop 16 (drop 32 (after_levels text))
+
+levels_of_text : List ℕ → List (List ℕ)
+levels_of_text text = first_chunks 8 (count_in text) (take (8 * count_in text) (drop 12 text))
+
+-- what a text says, with these numbers behind the counter
+fields_in : Version → List ℕ → ℕ → ℕ → Fields
+fields_in v text openings burnt = record {
+  version = v;
+  levels = levels_of_text text;
+  seed = take 32 (after_levels text);
+  id = take 16 (drop 32 (after_levels text));
+  counter = from_be_bytes w64 (take 8 (after_id text));
+  openings = openings;
+  burnt = burnt;
+}
+
+text-long : (text : List ℕ) (is : IsClear text) → length text ≡ 100 + later_length is.version + 8 * count_in text
+text-long text is = is.length_is ∙ (ap (λ n. length_of n (count_in text)) is.version_is ∙ length-by-code is.version (count_in text))
+
+id-long : (text : List ℕ) (is : IsClear text) → length (after_id text) ≡ 40 + later_length is.version
+unfolding after_levels after_id
+id-long text is =
+    let all = text-long text is in
+    omega (
+      arith,
+      all,
+      length-drop 12 text,
+      length-drop (8 * count_in text) (drop 12 text),
+      length-drop 32 (drop (8 * count_in text) (drop 12 text)),
+      length-drop 16 (drop 32 (drop (8 * count_in text) (drop 12 text))),
+    )
+
+id-bytes : (text : List ℕ) → IsBytes text → IsBytes (after_id text)
+unfolding after_levels after_id
+id-bytes text small = bytes-drop 16 _ (bytes-drop 32 _ (bytes-drop (8 * count_in text) _ (bytes-drop 12 text small)))
+
+cut-of : (text : List ℕ) → IsBytes text → (is : IsClear text) → (openings burnt : ℕ) (digest : List ℕ)
+    → ReadsLater is.version (drop 8 (after_id text)) openings burnt digest
+    → IsCut (count_in text) (drop 12 text) (fields_in is.version text openings burnt) digest
+unfolding after_levels after_id fields_in levels_of_text
+cut-of text small is openings burnt digest later =
+    let all = text-long text is in
+    let behind = id-long text is in
+    let bytes = id-bytes text small in
+    cut-parts (count_in text) (drop 12 text) _ _ _ _ _ _ (drop 8 (after_id text)) digest _ is.version _ openings burnt (bytes-drop 12 text small)
+    (omega (arith, all, length-drop 12 text)) refl refl refl refl refl refl refl
+    (eight-and-rest (after_id text) (take 8 (after_id text)) (drop 8 (after_id text)) _ bytes (omega (arith, behind)) refl refl refl)
+    (eight-fit (take 8 (after_id text)) (bytes-take 8 (after_id text) bytes)) later
 
 key_of : List (LmsType × OtsType) → List ℕ → List ℕ → KeyOfCode
 key_of levels seed id = record { levels = levels; seed = seed; i = id }
@@ -190,32 +246,41 @@ admitted-of text texts levels is same counted e =
       not_too_tall = omega arith;
     }
 
-image-of-parts : (text : List ℕ) (texts : List (List ℕ)) (seed id : List ℕ) (counter : ℕ) (digest : List ℕ) → IsClear text
-    → IsHeaded text (drop 12 text) (count_in text) → IsCut (count_in text) (drop 12 text) texts seed id counter digest → All IsBytes texts
-    → (key : KeyOfCode) × (counter : ℕ) × HasImage key counter × (text ≡ image_of key counter)
-unfolding key_of
-image-of-parts text texts seed id counter digest clear head cut small =
-    let laid = laid-out text (drop 12 text) (count_in text) texts seed id counter digest head cut in
+-- an image of some key and its numbers
+IsSomeImage : List ℕ → Type 0
+IsSomeImage text = (key : KeyOfCode) × (counter openings burnt : ℕ) × HasImage key counter openings burnt × IsImage text key counter openings burnt
+
+image-of-parts : (text : List ℕ) (f : Fields) (digest : List ℕ) → IsClear text
+    → IsHeaded text (drop 12 text) f.version (count_in text) → IsCut (count_in text) (drop 12 text) f digest → All IsBytes f.levels
+    → IsSomeImage text
+unfolding key_of IsSomeImage
+image-of-parts text f digest clear head cut small =
+    let laid = laid-out text (drop 12 text) (count_in text) f digest head cut in
     let right : digest ≡ sha256 (body_in text) = sym laid.digest_is ∙ clear.digest in
-    let all = whole text texts seed id counter digest laid (not_from_true _ ((bytes_eq-Decides digest (sha256 (body_in text))).1 right)) in
-    let named = named-levels texts cut.level_lengths small (ap (list_all is_level) (sym laid.levels_are) ∙ clear.types) in
+    let all = whole text f digest laid (not_from_true _ ((bytes_eq-Decides digest (sha256 (body_in text))).1 right)) in
+    let named = named-levels f.levels cut.level_lengths small (ap (list_all is_level) (sym laid.levels_are) ∙ clear.types) in
     let levels = named.0 in
-    let admitted = admitted-of text texts levels clear laid.levels_are cut.level_count named.1 in
-    let key = key_of levels seed id in
+    let admitted = admitted-of text f.levels levels clear laid.levels_are cut.level_count named.1 in
+    let key = key_of levels f.seed f.id in
     let power : 2 ^ heights_in text ≡ capacity_of (hss_key_of key)
     = ap (λ h. 2 ^ h) (ap (sum_by height_in) (laid.levels_are ∙ sym named.1) ∙ heights-of-texts levels) in
-    let read = laid.counter_is in
-    let low = clear.counter in
-    let counted = read-counted key levels seed id counter admitted refl refl refl cut.seed_length cut.seed_bytes cut.id_length cut.id_bytes (omega arith) in
-    (key, counter, counted, read-image key levels text texts seed id counter all named.1 refl refl refl)
+    let counted = read-counted f (count_in text) (drop 12 text) digest key levels cut admitted refl refl refl
+    (omega (arith, laid.counter_is, clear.counter, power)) (omega (arith, laid.counter_is, laid.openings_are, clear.openings))
+    (omega (arith, laid.counter_is, laid.burnt_are, clear.burnt)) in
+    (key, f.counter, f.openings, f.burnt, counted, read-image text f key levels all named.1 refl refl refl cut.later)
 
-image-of-faultless : (text : List ℕ) → IsBytes text → fault_of text ≡ None
-    → (key : KeyOfCode) × (counter : ℕ) × HasImage key counter × (text ≡ image_of key counter)
+image-of-faultless : (text : List ℕ) → IsBytes text → fault_of text ≡ None → IsSomeImage text
+unfolding fields_in levels_of_text
 image-of-faultless text small none =
     let clear = clear-of text none in
     let rest = drop 12 text in
     let front = take (8 * count_in text) rest in
-    image-of-parts text _ _ _ _ _ clear (head-of text small clear) (cut-of text small clear)
+    let behind = id-long text clear in
+    let later = reads-later clear.version (drop 8 (after_id text)) (bytes-drop 8 (after_id text) (id-bytes text small))
+    (omega (arith, behind, length-drop 8 (after_id text))) in
+    let (openings, burnt, digest, reads) = later in
+    image-of-parts text (fields_in clear.version text openings burnt) digest clear (head-of text small clear)
+    (cut-of text small clear openings burnt digest reads)
     (chunks-are-bytes (count_in text) front (bytes-take (8 * count_in text) rest (bytes-drop 12 text small)))
 
 bytes-of : (text : List ℕ) → IsText text → IsBytes text
@@ -227,7 +292,8 @@ bytes-of text small i =
 
 -- a text of bytes has no fault exactly where it is an image
 pub faultless-are-images : FaultlessAreImages
+unfolding IsSomeImage
 faultless-are-images text small = (
   image-of-faultless text (bytes-of text small),
-  λ is. read-faultless is.0 is.1 text is.3 is.2,
+  λ is. image-has-no-fault text is.0 is.1 is.2 is.3 is.4 is.5,
 )

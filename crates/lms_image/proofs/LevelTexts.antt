@@ -22,7 +22,8 @@ use Rattle.lms_params.proofs.KnownSets.{known_lms_set, known_ots_set}
 use Rattle.lms_hss.specs.Levels.{level_of, levels_of, JudgesLevels}
 use Rattle.lms_hss.specs.declared.levels.KeyFault.{KeyFault}
 use Rattle.lms_hss.specs.declared.levels.KeyFault.TheVariants.{NoLevels, TooManyLevels, HeightNotSigned, TooTall}
-use Rattle.lms_image.specs.Image.{magic, head_text, level_text, is_level, height_in, number_at}
+use Rattle.lms_image.specs.declared.version.Version.{Version}
+use Rattle.lms_image.specs.Image.{magic, code_of, head_text, level_text, is_level, height_in, number_at}
 use Rattle.lms_image.specs.Reading.{ReadsLevels, refused_as}
 use Rattle.lms_image.proofs.Fields.{u32-at}
 
@@ -151,13 +152,13 @@ head-more prefix text next last levels i a b other there et en el ea eb =
     ∙ ap (λ x. prefix ++ x) (sym (levels-more levels i other there))))))
 
 -- the text of all levels
-pub head-whole : (text : List ℕ) (i : ℕ) (levels own : List (LmsType × OtsType)) → levels ≡ own → length levels ≤ i
-    → text ≡ magic ++ u32str 1 ++ u32str (length levels) ++ concat (map level_text (take i levels))
-    → text ≡ head_text (map level_text own)
+pub head-whole : (text : List ℕ) (v : Version) (code i : ℕ) (levels own : List (LmsType × OtsType)) → code ≡ code_of v → levels ≡ own → length levels ≤ i
+    → text ≡ magic ++ u32str code ++ u32str (length levels) ++ concat (map level_text (take i levels))
+    → text ≡ head_text v (map level_text own)
 unfolding head_text
-head-whole text i levels own same all e =
-    e ∙ (ap (λ ls. magic ++ u32str 1 ++ u32str (length levels) ++ concat (map level_text ls)) (take_all i levels all ∙ same)
-    ∙ ap (λ n. magic ++ u32str 1 ++ u32str n ++ concat (map level_text own)) (ap length same ∙ sym (length-map own level_text)))
+head-whole text v code i levels own is same all e =
+    e ∙ (ap₂ (λ n ls. magic ++ u32str n ++ u32str (length levels) ++ concat (map level_text ls)) is (take_all i levels all ∙ same)
+    ∙ ap (λ n. magic ++ u32str (code_of v) ++ u32str n ++ concat (map level_text own)) (ap length same ∙ sym (length-map own level_text)))
 
 -- a level whose typecodes are not both known
 pub unknown-lms : (text rest : List ℕ) (a : ℕ) → a < 2 ^ 32 → text ≡ u32str a ++ rest → None ≡ lms_set a → is_level text ≡ false

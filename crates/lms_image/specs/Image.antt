@@ -1,6 +1,7 @@
--- The text that a store keeps of a key and of how many of its indices are used: the state image, version 1. Its numbers
--- are big-endian. A text is a list of numbers below 256.
-use Rattle.std.specs.Prelude.{ℕ, ◌≡◌, ◌+◌, ◌-◌, ◌*◌, ◌^◌, ◌<◌, ◌≤◌, Bool, not, ◌||◌, ◌&&◌, ◌==◌, nat_lt, List, [], ◌∷◌, ◌++◌, length, map, take, drop, sum_by, find, All, Option, is_some, option_map, unwrap_or, codes, false}
+-- The text that a store keeps of a key, of how many of its indices are used, of how many openings stored something and of
+-- how many indices were lost: the state image, in its two versions. Its numbers are big-endian. A text is a list of numbers
+-- below 256.
+use Rattle.std.specs.Prelude.{ℕ, ◌≡◌, ◌⊎◌, ◌+◌, ◌-◌, ◌*◌, ◌^◌, ◌<◌, ◌≤◌, Bool, not, ◌||◌, ◌&&◌, ◌==◌, nat_lt, if◌then◌else◌, List, [], ◌∷◌, ◌++◌, length, map, take, drop, sum_by, find, All, Option, is_some, option_map, unwrap_or, codes, false}
 use Rattle.std.specs.List.{concat, list_all}
 use Rattle.std.specs.Str.{bytes_eq}
 use Rattle.std.specs.Int.{w64, to_be_bytes}
@@ -17,7 +18,9 @@ use Rattle.lms_hss.specs.Levels.{IsAdmitted}
 use Rattle.lms_hss.specs.Keys.{hss_key_of}
 use Rattle.lms_hss.specs.declared.key.HssKey.{HssKey as KeyOfCode}
 use Rattle.lms_image.specs.declared.image.ImageFault.{ImageFault}
-use Rattle.lms_image.specs.declared.image.ImageFault.TheVariants.{Truncated, NotAnImage, UnknownVersion, BadLevels, WrongLength, Damaged, BadType, TooTall, CounterTooHigh}
+use Rattle.lms_image.specs.declared.image.ImageFault.TheVariants.{Truncated, NotAnImage, UnknownVersion, BadLevels, WrongLength, Damaged, BadType, TooTall, CounterTooHigh, OpeningTooHigh, BurntTooHigh}
+use Rattle.lms_image.specs.declared.version.Version.{Version}
+use Rattle.lms_image.specs.declared.version.Version.TheVariants.{First, Second}
 
 -- a number as eight bytes, the most significant first
 abbrev pub u64str : ℕ → List ℕ
@@ -31,42 +34,93 @@ magic = codes "HSSK"
 unfoldable pub level_text : LmsType × OtsType → List ℕ
 level_text sets = u32str (lms_set_of sets.0).code ++ u32str (ots_set_of sets.1).code
 
--- what stands before the seed, with these bytes for each level
-unfoldable pub head_text : List (List ℕ) → List ℕ
-head_text levels = magic ++ u32str 1 ++ u32str (length levels) ++ concat levels
+-- the number by which an image states its version
+abbrev pub code_of : Version → ℕ
+code_of First = 1
+code_of Second = 2
+
+-- what an image says: its version, the eight bytes of each level, the seed, the identifier and the numbers behind them
+pub record Fields : Type 0 where
+  pub version : Version
+  pub levels : List (List ℕ)
+  pub seed : List ℕ
+  pub id : List ℕ
+  pub counter : ℕ
+  pub openings : ℕ
+  pub burnt : ℕ
+
+-- what stands before the seed
+unfoldable pub head_text : Version → List (List ℕ) → List ℕ
+head_text version levels = magic ++ u32str (code_of version) ++ u32str (length levels) ++ concat levels
+
+-- the numbers that stand behind the counter since version 2
+abbrev pub later_text : Version → ℕ → ℕ → List ℕ
+later_text First openings burnt = []
+later_text Second openings burnt = u64str openings ++ u64str burnt
 
 -- what stands before the digest
-unfoldable pub body_text : List (List ℕ) → List ℕ → List ℕ → ℕ → List ℕ
-body_text levels seed id counter = head_text levels ++ seed ++ id ++ u64str counter
+unfoldable pub body_text : Fields → List ℕ
+body_text f =
+    head_text f.version f.levels ++ f.seed ++ f.id ++ u64str f.counter ++ later_text f.version f.openings f.burnt
 
 -- a text with its digest behind it
 unfoldable pub sealed : List ℕ → List ℕ
 sealed body = body ++ sha256 body
 
--- the image of a key and a counter
-unfoldable pub image_of : KeyOfCode → ℕ → List ℕ
-image_of key counter = sealed (body_text (map level_text key.levels) key.seed key.i counter)
+-- what an image of a version says of a key and its numbers
+abbrev pub fields_of : Version → KeyOfCode → ℕ → ℕ → ℕ → Fields
+fields_of version key counter openings burnt = record {
+  version = version;
+  levels = map level_text key.levels;
+  seed = key.seed;
+  id = key.i;
+  counter = counter;
+  openings = openings;
+  burnt = burnt;
+}
 
--- a key and a counter that have an image: the signer takes the levels, the seed has 32 bytes and the identifier 16, and
--- the counter is at most the capacity, at which the key is exhausted
-pub record HasImage (key : KeyOfCode) (counter : ℕ) : Type 0 where
+-- the image of a key, of how many of its indices are used, of how many openings stored something, and of how many indices
+-- were lost: version 2, which alone is written
+unfoldable pub image_of : KeyOfCode → ℕ → ℕ → ℕ → List ℕ
+image_of key counter openings burnt = sealed (body_text (fields_of Second key counter openings burnt))
+
+-- the image of a key and a counter: version 1, which is only read
+unfoldable pub first_image_of : KeyOfCode → ℕ → List ℕ
+first_image_of key counter = sealed (body_text (fields_of First key counter 0 0))
+
+-- the text is an image of these: version 2, or version 1, which counts no openings and no lost indices
+abbrev pub IsImage : List ℕ → KeyOfCode → ℕ → ℕ → ℕ → Type 0
+IsImage text key counter openings burnt =
+    (text ≡ image_of key counter openings burnt) ⊎ ((text ≡ first_image_of key counter) × (openings ≡ 0) × (burnt ≡ 0))
+
+-- a key and numbers that have an image: the signer takes the levels, the seed has 32 bytes and the identifier 16, the counter
+-- is at most the capacity, at which the key is exhausted, and neither more openings nor more lost indices are counted than
+-- used indices
+pub record HasImage (key : KeyOfCode) (counter openings burnt : ℕ) : Type 0 where
   pub admitted : IsAdmitted key.levels
   pub seed_length : length key.seed ≡ 32
   pub seed_bytes : All (λ b. b < 256) key.seed
   pub id_length : length key.i ≡ 16
   pub id_bytes : All (λ b. b < 256) key.i
   pub within : counter ≤ capacity_of (hss_key_of key)
+  pub openings_within : openings ≤ counter
+  pub burnt_within : burnt ≤ counter
 
--- an image of this key, with a counter at or past this one
-pub record IsImageFrom (key : KeyOfCode) (floor : ℕ) (text : List ℕ) : Type 0 where
+-- an image that an opening with this number wrote of this key, with a counter at or past this one
+pub record IsImageFrom (key : KeyOfCode) (number floor : ℕ) (text : List ℕ) : Type 0 where
   pub counter : ℕ
+  pub burnt : ℕ
   pub past : floor ≤ counter
-  pub within : counter ≤ capacity_of (hss_key_of key)
-  pub text_is : text ≡ image_of key counter
+  pub counted : HasImage key counter number burnt
+  pub text_is : text ≡ image_of key counter number burnt
 
 -- the number in n bytes of a text, from byte k on
 abbrev pub number_at : ℕ → ℕ → List ℕ → ℕ
 number_at k n text = number_of (take n (drop k text))
+
+-- the version that a text states
+abbrev pub version_in : List ℕ → ℕ
+version_in text = number_at 4 4 text
 
 -- the number of levels that a text states
 abbrev pub count_in : List ℕ → ℕ
@@ -79,6 +133,21 @@ levels_in text = first_chunks 8 (count_in text) (drop 12 text)
 -- the counter, which stands behind the levels, the seed and the identifier
 abbrev pub counter_in : List ℕ → ℕ
 counter_in text = number_at (60 + 8 * count_in text) 8 text
+
+-- a number that stands from byte k on, and that version 1 has not: there it is 0
+abbrev pub later_number : ℕ → List ℕ → ℕ
+later_number k text = if version_in text == 1 then 0 else number_at k 8 text
+
+-- the openings and the lost indices, which stand behind the counter
+abbrev pub openings_in : List ℕ → ℕ
+openings_in text = later_number (68 + 8 * count_in text) text
+
+abbrev pub burnt_in : List ℕ → ℕ
+burnt_in text = later_number (76 + 8 * count_in text) text
+
+-- the bytes of an image of a version with so many levels
+abbrev pub length_of : ℕ → ℕ → ℕ
+length_of version count = (if version == 1 then 100 else 116) + 8 * count
 
 -- all but the last 32 bytes, and these
 abbrev pub body_in : List ℕ → List ℕ
@@ -104,18 +173,21 @@ heights_in text = sum_by height_in (levels_in text)
 unfoldable pub has_fault : ImageFault → List ℕ → Bool
 has_fault Truncated text = nat_lt (length text) 12
 has_fault NotAnImage text = not (bytes_eq (take 4 text) magic)
-has_fault UnknownVersion text = not (number_at 4 4 text == 1)
+has_fault UnknownVersion text = not (version_in text == 1 || version_in text == 2)
 has_fault BadLevels text = count_in text == 0 || nat_lt 8 (count_in text)
-has_fault WrongLength text = not (length text == 100 + 8 * count_in text)
+has_fault WrongLength text = not (length text == length_of (version_in text) (count_in text))
 has_fault Damaged text = not (bytes_eq (digest_in text) (sha256 (body_in text)))
 has_fault BadType text = not (list_all is_level (levels_in text))
 has_fault TooTall text = nat_lt 60 (heights_in text)
 has_fault CounterTooHigh text = nat_lt (2 ^ heights_in text) (counter_in text)
+has_fault OpeningTooHigh text = nat_lt (counter_in text) (openings_in text)
+has_fault BurntTooHigh text = nat_lt (counter_in text) (burnt_in text)
 
 -- the faults, in the order in which they are looked for
 abbrev pub faults : List ImageFault
 faults =
-    Truncated ∷ NotAnImage ∷ UnknownVersion ∷ BadLevels ∷ WrongLength ∷ Damaged ∷ BadType ∷ TooTall ∷ CounterTooHigh ∷ []
+    Truncated ∷ NotAnImage ∷ UnknownVersion ∷ BadLevels ∷ WrongLength ∷ Damaged ∷ BadType ∷ TooTall ∷ CounterTooHigh
+    ∷ OpeningTooHigh ∷ BurntTooHigh ∷ []
 
 -- the first fault that a text has
 unfoldable pub fault_of : List ℕ → Option ImageFault
@@ -132,3 +204,5 @@ name_of Damaged = codes "Damaged"
 name_of BadType = codes "BadType"
 name_of TooTall = codes "TooTall"
 name_of CounterTooHigh = codes "CounterTooHigh"
+name_of OpeningTooHigh = codes "OpeningTooHigh"
+name_of BurntTooHigh = codes "BurntTooHigh"

@@ -1,5 +1,5 @@
 -- What the functions that read an image say of its parts.
-use Rattle.std.specs.Prelude.{ℕ, ◌≡◌, ◌^◌, ◌<◌, ◌≤◌, List, ◌++◌, length, map, sum_by, All, Result, true, false}
+use Rattle.std.specs.Prelude.{ℕ, ◌≡◌, ◌+◌, ◌^◌, ◌<◌, ◌≤◌, List, ◌++◌, length, map, sum_by, All, Result, true, false}
 use Rattle.std.specs.Prelude.Result.{Ok, Err}
 use Rattle.std.specs.List.{concat, list_all}
 use Rattle.lms_spec.specs.Bytes.{u32str}
@@ -10,25 +10,44 @@ use Rattle.lms_hss.specs.declared.levels.KeyFault.{KeyFault}
 use Rattle.lms_hss.specs.declared.levels.KeyFault.TheVariants.{NoLevels, TooManyLevels, HeightNotSigned, TooTall as TallLevels}
 use Rattle.lms_image.specs.declared.image.ImageFault.{ImageFault}
 use Rattle.lms_image.specs.declared.image.ImageFault.TheVariants.{BadType, TooTall}
-use Rattle.lms_image.specs.Image.{u64str, magic, level_text, is_level, height_in}
+use Rattle.lms_image.specs.declared.version.Version.{Version}
+use Rattle.lms_image.specs.declared.version.Version.TheVariants.{First, Second}
+use Rattle.lms_image.specs.Image.{Fields, u64str, magic, code_of, later_text, level_text, is_level, height_in}
 
--- a text that begins as the image of this many levels does, and goes on with these bytes
-pub record IsHeaded (text rest : List ℕ) (count : ℕ) : Type 0 where
+-- a text that begins as the image of this version and of this many levels does, and goes on with these bytes
+pub record IsHeaded (text rest : List ℕ) (version : Version) (count : ℕ) : Type 0 where
   pub some_level : 1 ≤ count
   pub eight_at_most : count ≤ 8
-  pub parts : text ≡ magic ++ (u32str 1 ++ (u32str count ++ rest))
+  pub parts : text ≡ magic ++ (u32str (code_of version) ++ (u32str count ++ rest))
+
+-- how many bytes the numbers take that stand behind the counter
+abbrev pub later_length : Version → ℕ
+later_length First = 0
+later_length Second = 16
+
+-- what these numbers may be: there are none in version 1, where both are 0
+abbrev pub AreLater : Version → ℕ → ℕ → Type 0
+AreLater First openings burnt = (openings ≡ 0) × (burnt ≡ 0)
+AreLater Second openings burnt = (openings < 2 ^ 64) × (burnt < 2 ^ 64)
+
+-- these numbers are read from the front of a text, and these bytes follow
+pub record ReadsLater (version : Version) (text : List ℕ) (openings burnt : ℕ) (rest : List ℕ) : Type 0 where
+  pub are : AreLater version openings burnt
+  pub parts : text ≡ later_text version openings burnt ++ rest
+  pub long : length text ≡ later_length version + length rest
 
 -- the parts of what follows an image's count of levels
-pub record IsCut (count : ℕ) (rest : List ℕ) (levels : List (List ℕ)) (seed id : List ℕ) (counter : ℕ) (digest : List ℕ) : Type 0 where
-  pub level_count : length levels ≡ count
-  pub level_lengths : All (λ level. length level ≡ 8) levels
-  pub seed_length : length seed ≡ 32
-  pub seed_bytes : All (λ b. b < 256) seed
-  pub id_length : length id ≡ 16
-  pub id_bytes : All (λ b. b < 256) id
-  pub counter_fits : counter < 2 ^ 64
+pub record IsCut (count : ℕ) (rest : List ℕ) (f : Fields) (digest : List ℕ) : Type 0 where
+  pub level_count : length f.levels ≡ count
+  pub level_lengths : All (λ level. length level ≡ 8) f.levels
+  pub seed_length : length f.seed ≡ 32
+  pub seed_bytes : All (λ b. b < 256) f.seed
+  pub id_length : length f.id ≡ 16
+  pub id_bytes : All (λ b. b < 256) f.id
+  pub counter_fits : f.counter < 2 ^ 64
+  pub later : AreLater f.version f.openings f.burnt
   pub digest_length : length digest ≡ 32
-  pub parts : rest ≡ concat levels ++ (seed ++ (id ++ (u64str counter ++ digest)))
+  pub parts : rest ≡ concat f.levels ++ (f.seed ++ (f.id ++ (u64str f.counter ++ (later_text f.version f.openings f.burnt ++ digest))))
 
 -- the fault of an image whose levels the signer refuses
 abbrev pub refused_as : KeyFault → ImageFault

@@ -1,14 +1,15 @@
 //! The bytes of an image, put together without taking memory.
 ghost use Rattle.std.specs.Prelude.{◌≡◌, ◌+◌, ◌≤◌, ◌++◌, [], length};
 ghost use Rattle.lms_spec.specs.Bytes.{u32str};
+ghost use Rattle.lms_image.specs.Image.{u64str};
 
 use arrayvec::ArrayVec;
 use std::marker::Model;
 
 /// The most bytes of an image: those of eight levels.
-pub(crate) const MOST_BYTES: usize = 164;
+pub(crate) const MOST_BYTES: usize = 180;
 
-/// The text of an image, at most 164 bytes. Contracts see the list of its bytes.
+/// The text of an image, at most 180 bytes. Contracts see the list of its bytes.
 #[derive(Drop)]
 pub struct ImageBytes {
     bytes: ArrayVec<u8, MOST_BYTES>,
@@ -21,14 +22,14 @@ impl Model for ImageBytes {
 
     ghost view = { λ a. a.bytes.items };
 
-    ghost invariant = { λ a. length a.bytes.items ≤ 164 };
+    ghost invariant = { λ a. length a.bytes.items ≤ 180 };
 }
 
 impl ImageBytes {
     /// The bytes.
     pub fn as_slice(&self) -> &[u8]
         ensures bytes { result.now ≡ self.now }
-        ensures short { length result.now ≤ 164 }
+        ensures short { length result.now ≤ 180 }
     {
         self.bytes.as_slice()
     }
@@ -44,7 +45,7 @@ impl ImageBytes {
 
     /// Puts a part behind what there is.
     pub(crate) fn append(&mut self, part: &[u8])
-        requires { length self.old + length part.now ≤ 164 }
+        requires { length self.old + length part.now ≤ 180 }
         ensures { self.new ≡ self.old ++ part.now }
     {
         match self.bytes.try_extend_from_slice(part) {
@@ -55,8 +56,16 @@ impl ImageBytes {
 
     /// Puts a number behind what there is, in four bytes.
     pub(crate) fn append_u32(&mut self, number: u32)
-        requires { length self.old + 4 ≤ 164 }
+        requires { length self.old + 4 ≤ 180 }
         ensures { self.new ≡ self.old ++ u32str number }
+    {
+        self.append(&number.to_be_bytes());
+    }
+
+    /// Puts a number behind what there is, in eight bytes.
+    pub(crate) fn append_u64(&mut self, number: u64)
+        requires { length self.old + 8 ≤ 180 }
+        ensures { self.new ≡ self.old ++ u64str number }
     {
         self.append(&number.to_be_bytes());
     }

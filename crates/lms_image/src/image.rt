@@ -1,14 +1,17 @@
-//! The state image: the bytes in which a store keeps a key and how many of its indices are used.
+//! The state image: the bytes in which a store keeps a key, how many of its indices are used, how many openings stored
+//! something, and how many indices were lost.
 ghost use Rattle.std.specs.Prelude.{◌≡◌, ◌+◌, ◌*◌, ◌≤◌, ◌<◌, ◌^◌, ◌≢◌, ◌++◌, length, map, take, None, Some, IfOk, IfErr, IfSome, IfNone, MatchResult, IsFalse};
 ghost use Rattle.std.specs.List.{list_all};
 ghost use Rattle.sha2.specs.Sha256.{sha256};
 ghost use Rattle.lms_spec.specs.Bytes.{u32str};
 ghost use Rattle.lms_spec.specs.Hss.{capacity_of};
 ghost use Rattle.lms_hss.specs.Keys.{hss_key_of};
-ghost use Rattle.lms_image.specs.Image.{image_of, fault_of, head_text, level_text, is_level, HasImage};
-ghost use Rattle.lms_image.specs.Reading.{IsHeaded, IsCut, ReadsLevels, refused_as};
+ghost use Rattle.lms_image.specs.declared.version.Version.TheVariants.{Second};
+ghost use Rattle.lms_image.specs.Image.{image_of, fault_of, head_text, level_text, is_level, IsImage, HasImage};
+ghost use Rattle.lms_image.specs.Reading.{IsHeaded, IsCut, later_length, ReadsLevels, refused_as};
 
 use crate::bytes::ImageBytes;
+use crate::version::{Version, split_later, split_u64};
 use lms_hss::{HssKey, KeyFault, Levels};
 use lms_params::{LmsType, OtsType, split_u32};
 use sha2::{Digest, Sha256};
@@ -21,17 +24,22 @@ mod tests;
 /// The first four bytes of every image.
 const MAGIC: [u8; 4] = *b"HSSK";
 
-/// The version that is written, and read.
-const VERSION: u32 = 1;
+/// The version that is written.
+const VERSION: u32 = 2;
 
 /// The bytes of the digest at the end.
 const DIGEST_LEN: usize = 32;
 
-/// A key, and how many of its indices are used. There is no `Debug`, which would print the seed.
+/// A key, and what is counted of it. There is no `Debug`, which would print the seed.
 #[derive(Clone, Copy, PartialEq, Eq)]
 pub struct Image {
     pub key: HssKey,
+    /// How many of its indices are used.
     pub counter: u64,
+    /// How many openings of its store stored something.
+    pub openings: u64,
+    /// How many of its indices were lost, since a write failed.
+    pub burnt: u64,
 }
 
 /// What is wrong with bytes that should be an image: the first of these, in this order.
@@ -41,11 +49,11 @@ pub enum ImageFault {
     Truncated,
     /// The first four bytes aren't `HSSK`.
     NotAnImage,
-    /// The version isn't 1.
+    /// The version is neither 1 nor 2.
     UnknownVersion,
     /// The number of levels is 0 or over 8.
     BadLevels,
-    /// The length isn't that of an image with so many levels.
+    /// The length isn't that of an image of its version with so many levels.
     WrongLength,
     /// The last 32 bytes aren't the digest of those before.
     Damaged,
@@ -55,6 +63,10 @@ pub enum ImageFault {
     TooTall,
     /// The counter is over the key's capacity.
     CounterTooHigh,
+    /// More openings are counted than used indices.
+    OpeningTooHigh,
+    /// More burnt indices are counted than used ones.
+    BurntTooHigh,
 }
 
 impl fmt::Display for ImageFault {
@@ -73,23 +85,30 @@ impl fmt::Display for ImageFault {
             ImageFault::BadType => "BadType",
             ImageFault::TooTall => "TooTall",
             ImageFault::CounterTooHigh => "CounterTooHigh",
+            ImageFault::OpeningTooHigh => "OpeningTooHigh",
+            ImageFault::BurntTooHigh => "BurntTooHigh",
         })
     }
 }
 
 impl Error for ImageFault {}
 
-/// The image of a key and a counter, 100 bytes and 8 for each level: `HSSK`, the version 1 and the number of levels, 4 bytes
-/// each; each level's two typecodes, 4 bytes each; the seed, 32; the identifier I, 16; the counter, 8; and the SHA-256
-/// digest of all these, 32. The counter must be at most the key's capacity.
+/// The image of a key and its numbers, 116 bytes and 8 for each level: `HSSK`, the version 2 and the number of levels, 4 bytes
+/// each; each level's two typecodes, 4 bytes each; the seed, 32; the identifier I, 16; the counter, the openings and the burnt
+/// indices, 8 each; and the SHA-256 digest of all these, 32. The counter must be at most the key's capacity, and the other two
+/// at most the counter.
 pub fn encode_image(image: &Image) -> ImageBytes
-    requires { image.now.counter ≤ capacity_of (hss_key_of image.now.key) }
-    ensures { result ≡ image_of image.now.key image.now.counter }
+    requires within { image.now.counter ≤ capacity_of (hss_key_of image.now.key) }
+    requires openings { image.now.openings ≤ image.now.counter }
+    requires burnt { image.now.burnt ≤ image.now.counter }
+    ensures { result ≡ image_of image.now.key image.now.counter image.now.openings image.now.burnt }
 {
     let mut text = encode_head(&image.key.levels);
     text.append(&image.key.seed);
     text.append(&image.key.i);
-    text.append(&image.counter.to_be_bytes());
+    text.append_u64(image.counter);
+    text.append_u64(image.openings);
+    text.append_u64(image.burnt);
     let digest = Sha256::digest(text.as_slice());
     text.append(&digest);
     text
@@ -97,7 +116,7 @@ pub fn encode_image(image: &Image) -> ImageBytes
 
 /// What stands before the seed.
 fn encode_head(levels: &Levels) -> ImageBytes
-    ensures text { result ≡ head_text (map level_text levels.now) }
+    ensures text { result ≡ head_text Second (map level_text levels.now) }
     ensures short { length result ≤ 76 }
 {
     let levels = levels.as_slice();
@@ -112,13 +131,15 @@ fn encode_head(levels: &Levels) -> ImageBytes
     text
 }
 
-/// The key and the counter whose image these bytes are; or the first `ImageFault` that the bytes have.
+/// The key and the numbers whose image these bytes are, in either version; or the first `ImageFault` that the bytes have. In
+/// version 1, which is 16 bytes shorter, no openings and no burnt indices are counted.
 pub fn decode_image(text: &[u8]) -> Result<Image, ImageFault>
-    ensures ok { IfOk result (λ image. (text.now ≡ image_of image.key image.counter) × HasImage image.key image.counter) }
+    ensures ok { IfOk result (λ image. IsImage text.now image.key image.counter image.openings image.burnt
+        × HasImage image.key image.counter image.openings image.burnt) }
     ensures exact { MatchResult result (λ _. fault_of text.now ≡ None) (λ fault. fault_of text.now ≡ Some fault) }
 {
-    let (count, rest) = read_head(text)?;
-    let Some(parts) = Parts::cut(count, rest) else {
+    let (version, count, rest) = read_head(text)?;
+    let Some(parts) = Parts::cut(version, count, rest) else {
         return Err(ImageFault::WrongLength);
     };
     let (body, _) = text.split_at(text.len() - DIGEST_LEN);
@@ -130,15 +151,23 @@ pub fn decode_image(text: &[u8]) -> Result<Image, ImageFault>
     if parts.counter > key.capacity() {
         return Err(ImageFault::CounterTooHigh);
     }
+    if parts.openings > parts.counter {
+        return Err(ImageFault::OpeningTooHigh);
+    }
+    if parts.burnt > parts.counter {
+        return Err(ImageFault::BurntTooHigh);
+    }
     Ok(Image {
         key,
         counter: parts.counter,
+        openings: parts.openings,
+        burnt: parts.burnt,
     })
 }
 
-/// The number of levels of an image, 1 to 8, and the bytes after it; or the fault of the first 12 bytes.
-fn read_head(text: &[u8]) -> Result<(usize, &[u8]), ImageFault>
-    ensures ok { IfOk result (λ head. IsHeaded text.now head.1.now head.0) }
+/// The version of an image, its number of levels, 1 to 8, and the bytes after it; or the fault of the first 12 bytes.
+fn read_head(text: &[u8]) -> Result<(Version, usize, &[u8]), ImageFault>
+    ensures ok { IfOk result (λ head. IsHeaded text.now head.2.now head.0 head.1) }
     ensures err { IfErr result (λ fault. fault_of text.now ≡ Some fault) }
 {
     let Some(head) = Head::cut(text) else {
@@ -147,13 +176,13 @@ fn read_head(text: &[u8]) -> Result<(usize, &[u8]), ImageFault>
     if *head.magic != MAGIC {
         return Err(ImageFault::NotAnImage);
     }
-    if head.version != VERSION {
+    let Some(version) = Version::from_code(head.version) else {
         return Err(ImageFault::UnknownVersion);
-    }
+    };
     if head.levels == 0 || head.levels > 8 {
         return Err(ImageFault::BadLevels);
     }
-    Ok((head.levels as usize, head.rest))
+    Ok((version, head.levels as usize, head.rest))
 }
 
 /// The first 12 bytes of a text, and the bytes after them.
@@ -186,7 +215,7 @@ impl<'a> Head<'a> {
     }
 }
 
-/// What follows an image's number of levels: the eight bytes of each level, the seed, the identifier, the counter and the
+/// What follows an image's number of levels: the eight bytes of each level, the seed, the identifier, the numbers and the
 /// digest.
 #[derive(Clone, Copy)]
 struct Parts<'a> {
@@ -194,27 +223,40 @@ struct Parts<'a> {
     seed: &'a [u8; 32],
     i: &'a [u8; 16],
     counter: u64,
+    openings: u64,
+    burnt: u64,
     digest: &'a [u8; 32],
 }
 
 impl<'a> Parts<'a> {
-    /// Cuts what follows a number of levels, 1 to 8. None exactly where its length isn't theirs.
-    fn cut(count: usize, rest: &'a [u8]) -> Option<Self>
+    /// Cuts what follows a number of levels, 1 to 8. None exactly where its length isn't theirs in this version.
+    fn cut(version: Version, count: usize, rest: &'a [u8]) -> Option<Self>
         requires { count ≤ 8 }
-        ensures parts { IfSome result (λ p. IsCut count rest.now p.levels.now p.seed.now p.i.now p.counter p.digest.now) }
-        ensures none { IfNone result (length rest.now ≢ 88 + 8 * count) }
+        ensures parts { IfSome result (λ p. IsCut count rest.now (record {
+          version = version;
+          levels = p.levels.now;
+          seed = p.seed.now;
+          id = p.i.now;
+          counter = p.counter;
+          openings = p.openings;
+          burnt = p.burnt;
+        }) p.digest.now) }
+        ensures none { IfNone result (length rest.now ≢ 88 + later_length version + 8 * count) }
     {
         let (levels, rest) = rest.split_at_checked(8 * count)?;
         let (seed, rest) = rest.split_first_chunk::<32>()?;
         let (i, rest) = rest.split_first_chunk::<16>()?;
-        let (counter, rest) = rest.split_first_chunk::<8>()?;
+        let (counter, rest) = split_u64(rest)?;
+        let (openings, burnt, rest) = split_later(version, rest)?;
         let digest = rest.as_array::<32>()?;
         let (levels, _) = levels.as_chunks::<8>();
         Some(Parts {
             levels,
             seed,
             i,
-            counter: u64::from_be_bytes(*counter),
+            counter,
+            openings,
+            burnt,
             digest,
         })
     }

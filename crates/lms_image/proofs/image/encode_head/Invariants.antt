@@ -6,6 +6,6 @@ use Rattle.lms_image.proofs.image.encode_head.Given as goal
 
 abbrev pub invariant-loop-lms : goal.invariant-loop-lms
 invariant-loop-lms l = record {
-  bytes : l.text ≡ magic ++ u32str 1 ++ u32str (length l.levels) ++ concat (map level_text (take l.lms-index l.levels));
+  bytes : l.text ≡ magic ++ u32str 2 ++ u32str (length l.levels) ++ concat (map level_text (take l.lms-index l.levels));
   long : length l.text ≡ 12 + 8 * l.lms-index;
 }

@@ -1,0 +1,56 @@
+//! The versions of an image, and what version 2 adds.
+ghost use Rattle.std.specs.Prelude.{◌≡◌, ◌+◌, ◌<◌, ◌^◌, ◌≢◌, ◌++◌, length, IfSome, IfNone};
+ghost use Rattle.lms_image.specs.Image.{u64str, code_of};
+ghost use Rattle.lms_image.specs.Reading.{ReadsLater, later_length};
+
+/// A version of the image.
+#[derive(Clone, Copy)]
+pub(crate) enum Version {
+    /// Read, and no longer written. It has no openings and no burnt indices.
+    First,
+    /// Read and written.
+    Second,
+}
+
+impl Version {
+    /// The version of a number. None where there is none.
+    pub(crate) fn from_code(code: u32) -> Option<Version>
+        ensures some { IfSome result (λ version. code ≡ code_of version) }
+        ensures not_first { IfNone result (code ≢ 1) }
+        ensures not_second { IfNone result (code ≢ 2) }
+    {
+        match code {
+            1 => Some(Version::First),
+            2 => Some(Version::Second),
+            _ => None,
+        }
+    }
+}
+
+/// The number in the first eight bytes, the most significant first, and the bytes after it. None exactly where there are
+/// fewer than eight.
+pub(crate) fn split_u64(bytes: &[u8]) -> Option<(u64, &[u8])>
+    ensures parts { IfSome result (λ s. bytes.now ≡ u64str s.0 ++ s.1.now) }
+    ensures fits { IfSome result (λ s. s.0 < 2 ^ 64) }
+    ensures long { IfSome result (λ s. length bytes.now ≡ 8 + length s.1.now) }
+    ensures none { IfNone result (length bytes.now < 8) }
+{
+    let (number, rest) = bytes.split_first_chunk::<8>()?;
+    Some((u64::from_be_bytes(*number), rest))
+}
+
+/// How many openings stored something, how many indices are burnt, and the bytes after these numbers; 0 and 0 in version
+/// 1, where none stand. None exactly where there are too few bytes.
+pub(crate) fn split_later(version: Version, bytes: &[u8]) -> Option<(u64, u64, &[u8])>
+    ensures some { IfSome result (λ s. ReadsLater version bytes.now s.0 s.1 s.2.now) }
+    ensures none { IfNone result (length bytes.now < later_length version) }
+{
+    match version {
+        Version::First => Some((0, 0, bytes)),
+        Version::Second => {
+            let (openings, rest) = split_u64(bytes)?;
+            let (burnt, rest) = split_u64(rest)?;
+            Some((openings, burnt, rest))
+        }
+    }
+}
