@@ -2,19 +2,16 @@
 use Rattle.std.proofs.Common.{◌≡◌, ℕ, ◌+◌, ◌≤◌, List, [], ◌∷◌, ◌++◌, sym, subst, arith}
 use Rattle.std.specs.Prelude.{AllPairs, Result, Ok, Err}
 use Rattle.std.specs.List.{AllByRecursion}
-use Rattle.lms_spec.specs.Hss.{capacity_of}
-use Rattle.lms_hss.specs.Keys.{hss_key_of}
-use Rattle.lms_hss.specs.declared.key.HssKey.{HssKey as KeyOfCode}
 use Rattle.lms_book.specs.declared.history.Entry.{Entry}
 use Rattle.lms_book.specs.declared.history.Entry.TheVariants.{Given, Burnt}
 use Rattle.lms_book.specs.declared.refusals.BookFault.{BookFault}
 use Rattle.lms_book.specs.declared.refusals.BookFault.TheVariants.{Exhausted, OutOfMemory, Store}
-use Rattle.lms_image.specs.Image.{image_of, HasImage}
-use Rattle.lms_book.specs.History.{Range, range_of, end, counter_of, leases}
+use Rattle.lms_image.specs.Image.{HasImage}
+use Rattle.lms_book.specs.History.{Range, range_of, end, counter_of, burnt_after, leases}
 use Rattle.lms_book.specs.Stops.{Texts, MayLeave}
-use Rattle.lms_book.specs.States.{BookState, LeaseState, IsOpenedFrom, IsSafe}
-use Rattle.lms_book.specs.Books.{counter, capacity, Reserves, Follows, IsInOrder, ReservesInOrder}
-use Rattle.lms_book.proofs.Histories.{counter-push, recount, safe_given, safe_burnt}
+use Rattle.lms_book.specs.States.{BookState, LeaseState, ReservationsState, reservations_of, IsOpenedFrom, IsSafe}
+use Rattle.lms_book.specs.Books.{counter, burnt_now, Reserves, Follows, IsInOrder, ReservesInOrder}
+use Rattle.lms_book.proofs.Histories.{counter-push, burnt-push, recount, next_counted, safe_given, safe_burnt}
 use Rattle.lms_book.proofs.Leaving.{leaves_written, leaves_failed}
 use Rattle.lms_book.proofs.Overlap.{pairs_cons}
 
@@ -28,37 +25,61 @@ disjoint_leases base [] = λ i j d lt long. absurd (omega arith)
 disjoint_leases base (Given len ∷ history) = pairs_cons Follows (range_of base len) (leases (base + len) history) (starts_from (range_of base len) (base + len) history (omega arith)) (disjoint_leases (base + len) history)
 disjoint_leases base (Burnt len ∷ history) = disjoint_leases (base + len) history
 
-pub in_order : (book : BookState) → HasImage book.key (counter book) → IsSafe book.key (leases book.base book.history) (MayLeave book.store)
-    → IsInOrder book
+pub in_order : (book : BookState) → HasImage book.key (counter book) book.openings (burnt_now book)
+    → IsSafe book.key (book.openings + 1) (leases book.base book.history) (MayLeave book.store) → IsInOrder book
 in_order book counted safe = record { counted = counted; disjoint = disjoint_leases book.base book.history; safe = safe }
 
--- what holds of another key, base and history that are the book's
-order_of : (book : BookState) (key : KeyOfCode) (base : ℕ) (history : List Entry) → book.key ≡ key → book.base ≡ base → book.history ≡ history
-    → HasImage key (counter_of base history) → IsSafe key (leases base history) (MayLeave book.store) → IsInOrder book
-order_of book key base history k b h counted safe =
-    let P : KeyOfCode → ℕ → List Entry → Type 0 = λ key base history. HasImage key (counter_of base history) × IsSafe key (leases base history) (MayLeave book.store) in
-    let all : P book.key book.base book.history = subst (λ key. P key book.base book.history) (sym k) (subst (λ base. P key base book.history) (sym b) (subst (λ history. P key base history) (sym h) (counted, safe))) in
-    in_order book all.0 all.1
+-- what is in order of reservations
+record AreInOrder (r : ReservationsState) (may_leave : List ℕ → Type 0) : Type 0 where
+  counted : HasImage r.key (counter_of r.base r.history) r.openings (burnt_after r.burnt r.history)
+  safe : IsSafe r.key (r.openings + 1) (leases r.base r.history) may_leave
 
-pub order_stays : (n : ℕ) (old : BookState) (answer : Result LeaseState BookFault) (new : BookState)
-    → new.key ≡ old.key → new.base ≡ old.base → IsInOrder old → Reserves n old answer new → IsInOrder new
-order_stays n old (Ok lease) new k b order (room, is, history, wrote) =
-    order_of new old.key old.base (old.history ++ Given n ∷ []) k b history (recount old.key (counter old) _ order.counted (omega (arith, room, counter-push old.base old.history (Given n))))
-    (safe_given old.key old.base n old.history old.store new.store room (leaves_written _ old.store new.store wrote))
-order_stays n old (Err (Exhausted left)) new k b order (full, is, same) = subst (λ (book : BookState). IsInOrder book) (sym same) order
-order_stays n old (Err OutOfMemory) new k b order (room, same) = subst (λ (book : BookState). IsInOrder book) (sym same) order
-order_stays n old (Err (Store start len)) new k b order (room, s, l, history, failed) =
-    order_of new old.key old.base (old.history ++ Burnt n ∷ []) k b history (recount old.key (counter old) _ order.counted (omega (arith, room, counter-push old.base old.history (Burnt n))))
-    (safe_burnt old.key old.base n old.history old.store new.store room order.safe (leaves_failed _ old.store new.store failed))
+-- what holds of other reservations that are the book's
+order_of : (book : BookState) (r : ReservationsState) → reservations_of book ≡ r → AreInOrder r (MayLeave book.store) → IsInOrder book
+order_of book r is order =
+    let mine = subst (λ (s : ReservationsState). AreInOrder s (MayLeave book.store)) (sym is) order in
+    in_order book mine.counted mine.safe
 
-pub reserved_in_order : (n : ℕ) (old : BookState) (answer : Result LeaseState BookFault) (new : BookState)
-    → IsInOrder old → new.key ≡ old.key → new.base ≡ old.base → ((held : Texts) → IsOpenedFrom held old → IsOpenedFrom held new)
-    → Reserves n old answer new → ReservesInOrder n old answer new
-reserved_in_order n old answer new order k b o is = record {
+-- the reservations of a book whose history alone changed
+with_history : (old new : BookState) (history : List Entry) → new.key ≡ old.key → new.base ≡ old.base → new.openings ≡ old.openings → new.burnt ≡ old.burnt
+    → new.history ≡ history → reservations_of new ≡ record { key = old.key; base = old.base; openings = old.openings; burnt = old.burnt; history = history }
+with_history old new history k b o u h = λ i. record { key = k i; base = b i; openings = o i; burnt = u i; history = h i }
+
+pub order_stays : (n : ℕ) (old : BookState) (answer : Result LeaseState BookFault) (new : BookState) → 1 ≤ n
+    → new.key ≡ old.key → new.base ≡ old.base → new.openings ≡ old.openings → new.burnt ≡ old.burnt → IsInOrder old → Reserves n old answer new → IsInOrder new
+order_stays n old (Ok lease) new some k b o u order (room, is, history, wrote) =
+    let r = reservations_of old in
+    let counted = next_counted old.key (counter old) old.openings (burnt_now old) n order.counted some room in
+    order_of new _ (with_history old new (old.history ++ Given n ∷ []) k b o u history) (record {
+      counted = recount old.key (counter old) old.openings (burnt_now old) _ old.openings _ order.counted
+          (omega (arith, room, counter-push old.base old.history (Given n)))
+          (omega (arith, order.counted.openings_within, counter-push old.base old.history (Given n)))
+          (omega (arith, order.counted.burnt_within, counter-push old.base old.history (Given n), burnt-push old.burnt old.history (Given n)));
+      safe = safe_given r n old.store new.store counted (leaves_written _ old.store new.store wrote);
+    })
+order_stays n old (Err (Exhausted left)) new some k b o u order (full, is, same) = subst (λ (book : BookState). IsInOrder book) (sym same) order
+order_stays n old (Err OutOfMemory) new some k b o u order (room, same) = subst (λ (book : BookState). IsInOrder book) (sym same) order
+order_stays n old (Err (Store start len)) new some k b o u order (room, s, l, history, failed) =
+    let r = reservations_of old in
+    let counted = next_counted old.key (counter old) old.openings (burnt_now old) n order.counted some room in
+    order_of new _ (with_history old new (old.history ++ Burnt n ∷ []) k b o u history) (record {
+      counted = recount old.key (counter old) old.openings (burnt_now old) _ old.openings _ order.counted
+          (omega (arith, room, counter-push old.base old.history (Burnt n)))
+          (omega (arith, order.counted.openings_within, counter-push old.base old.history (Burnt n)))
+          (omega (arith, order.counted.burnt_within, counter-push old.base old.history (Burnt n), burnt-push old.burnt old.history (Burnt n)));
+      safe = safe_burnt r n old.store new.store counted order.safe (leaves_failed _ old.store new.store failed);
+    })
+
+pub reserved_in_order : (n : ℕ) (old : BookState) (answer : Result LeaseState BookFault) (new : BookState) → 1 ≤ n
+    → IsInOrder old → new.key ≡ old.key → new.base ≡ old.base → new.openings ≡ old.openings → new.burnt ≡ old.burnt
+    → ((held : Texts) → IsOpenedFrom held old → IsOpenedFrom held new) → Reserves n old answer new → ReservesInOrder n old answer new
+reserved_in_order n old answer new some order k b o u opened is = record {
   found = order;
   key = k;
   base = b;
-  opened = o;
+  openings = o;
+  burnt = u;
+  opened = opened;
   reserves = is;
-  left = order_stays n old answer new k b order is;
+  left = order_stays n old answer new some k b o u order is;
 }

@@ -1,5 +1,5 @@
 -- Which texts are among those that a stop leaves.
-use Rattle.std.proofs.Common.{◌≡◌, ◌⊎◌, inl, inr, ℕ, zero, suc, List, [], ◌∷◌, length, Some, None, sym, subst, arith}
+use Rattle.std.proofs.Common.{◌≡◌, ◌⊎◌, inl, inr, ℕ, zero, suc, List, Some, None, sym, subst, arith}
 use Rattle.lms_book.specs.Stops.{Texts, IsAmong, only, or_else, StoreView, MayLeave, after_write, IsLeftBy, FailsToWrite}
 
 pub among_only : (text left : List ℕ) → IsAmong (only text) left → left ≡ text

@@ -3,6 +3,9 @@ pub mod InOrder
 pub mod Known
 pub mod Leaving
 pub mod Moments
+pub mod Numbered
 pub mod Openings
 pub mod Overlap
+pub mod Readings
 pub mod Storing
+pub mod Uses

@@ -1,13 +1,12 @@
 -- What a stop could leave at the moments of a reservation.
-use Rattle.std.proofs.Common.{◌≡◌, ◌⊎◌, inl, inr, ⊎_elim, ℕ, zero, suc, ◌+◌, List, [], ◌∷◌, ◌++◌, sym, ap, subst, arith}
+use Rattle.std.proofs.Common.{◌≡◌, ◌⊎◌, inl, inr, ⊎_elim, ℕ, zero, suc, List, [], ◌∷◌, ◌++◌, sym, ap, subst, arith}
 use Rattle.std.proofs.Math.Seq.{drop-append_seam, drop-length}
 use Rattle.std.specs.Prelude.{Contains, Result, Ok, Err}
 use Rattle.lms_book.specs.declared.refusals.BookFault.{BookFault}
 use Rattle.lms_book.specs.declared.refusals.BookFault.TheVariants.{Exhausted, OutOfMemory, Store}
-use Rattle.lms_image.specs.Image.{image_of}
 use Rattle.lms_book.specs.Stops.{Texts, StoreView, IsAmong, MayLeave, LeavesWithin, only, raised, FailsToWrite}
 use Rattle.lms_book.specs.States.{BookState, LeaseState}
-use Rattle.lms_book.specs.Books.{counter, Reserves}
+use Rattle.lms_book.specs.Books.{next_image, Reserves}
 use Rattle.lms_book.proofs.Leaving.{among_only, narrowed}
 
 among_one : (a texts : Texts) → Contains (a ∷ []) texts → texts ≡ a
@@ -43,9 +42,9 @@ failing old new image text (inr (texts, by, is)) within =
     (moved_once old texts (raised old.failures) text (subst (λ (s : StoreView). LeavesWithin old s text) is within))
 
 pub no_third_text : (n : ℕ) (old : BookState) (answer : Result LeaseState BookFault) (new : BookState) → Reserves n old answer new
-    → (text : List ℕ) → LeavesWithin old.store new.store text → MayLeave old.store text ⊎ (text ≡ image_of old.key (counter old + n))
+    → (text : List ℕ) → LeavesWithin old.store new.store text → MayLeave old.store text ⊎ (text ≡ next_image n old)
 no_third_text n old (Ok lease) new (room, is, history, wrote) text within =
-    let image = image_of old.key (counter old + n) in
+    let image = next_image n old in
     ⊎_elim (λ was. inl was) (λ now. inr (among_only image text now))
     (moved_once old.store (only image) old.store.failures text (subst (λ (s : StoreView). LeavesWithin old.store s text) wrote within))
 no_third_text n old (Err (Exhausted left)) new (full, is, same) text within = inl (same_store old.store new.store text (ap (λ (b : BookState). b.store) same) within)

@@ -1,14 +1,12 @@
 -- What a store holds of a book's reservations, after a reservation more.
-use Rattle.std.proofs.Common.{◌≡◌, ◌∙◌, ◌⊎◌, inl, inr, ⊎_elim, ℕ, ◌+◌, ◌≤◌, List, [], ◌∷◌, ◌++◌, sym, ap, subst}
-use Rattle.lms_spec.specs.Hss.{capacity_of}
-use Rattle.lms_hss.specs.Keys.{hss_key_of}
+use Rattle.std.proofs.Common.{◌≡◌, ◌∙◌, ◌⊎◌, inl, inr, ⊎_elim, ℕ, ◌+◌, List, [], ◌∷◌, ◌++◌, sym, subst}
 use Rattle.lms_book.specs.declared.history.Entry.TheVariants.{Given, Burnt}
-use Rattle.lms_image.specs.Image.{image_of}
-use Rattle.lms_book.specs.History.{counter_of}
+use Rattle.lms_image.specs.Image.{HasImage}
+use Rattle.lms_book.specs.History.{counter_of, burnt_after}
 use Rattle.lms_book.specs.Stops.{Texts, StoreView, MayLeave, after_write, FailsToWrite}
 use Rattle.lms_book.specs.Lives.{IsOpened, opening_of}
 use Rattle.lms_book.specs.States.{ReservationsState, IsBackedBy}
-use Rattle.lms_book.proofs.Histories.{safe_given, safe_burnt}
+use Rattle.lms_book.proofs.Histories.{safe_given, safe_burnt, text_after}
 use Rattle.lms_book.proofs.Leaving.{leaves_written, leaves_failed}
 use Rattle.lms_book.proofs.Openings.{opened_given, opened_burnt}
 
@@ -20,35 +18,36 @@ with_burnt r n = record r { history = r.history ++ Burnt n ∷ [] }
 
 -- what was reserved since these texts were held is an opening
 abbrev pub IsOpenedSince : Texts → ReservationsState → StoreView → Type 0
-IsOpenedSince held r store = IsOpened (opening_of held r.key r.base r.history) store.now
+IsOpenedSince held r store = IsOpened (opening_of held r.key r.base r.openings r.burnt r.history) store.now
 
-module _ (n : ℕ) (r : ReservationsState) (text : List ℕ) (old new : StoreView) (image : text ≡ image_of r.key (counter_of r.base r.history + n)) (room : counter_of r.base r.history + n ≤ capacity_of (hss_key_of r.key)) where
-  image_alone : new ≡ after_write text old → (left : List ℕ) → MayLeave new left → left ≡ image_of r.key (counter_of r.base r.history + n)
+module _ (n : ℕ) (r : ReservationsState) (text : List ℕ) (old new : StoreView) (image : text ≡ text_after r n)
+    (counted : HasImage r.key (counter_of r.base r.history + n) (r.openings + 1) (burnt_after r.burnt r.history)) where
+  image_alone : new ≡ after_write text old → (left : List ℕ) → MayLeave new left → left ≡ text_after r n
   image_alone is left may = leaves_written text old new is left may ∙ image
 
-  image_or_old : FailsToWrite text old new → (left : List ℕ) → MayLeave new left → MayLeave old left ⊎ (left ≡ image_of r.key (counter_of r.base r.history + n))
+  image_or_old : FailsToWrite text old new → (left : List ℕ) → MayLeave new left → MayLeave old left ⊎ (left ≡ text_after r n)
   image_or_old is left may = ⊎_elim (λ was. inl was) (λ here. inr (here ∙ image)) (leaves_failed text old new is left may)
 
   pub opened_with_given : (later : ReservationsState) → later ≡ with_given r n → new ≡ after_write text old
       → (held : Texts) → IsOpenedSince held r old → IsOpenedSince held later new
   opened_with_given later is wrote held opened = subst (λ (l : ReservationsState). IsOpenedSince held l new) (sym is)
-      (opened_given held r.key r.base n r.history old new opened room (image_alone wrote))
+      (opened_given held r n old new opened counted.within (image_alone wrote))
 
   pub opened_with_burnt : (later : ReservationsState) → later ≡ with_burnt r n → FailsToWrite text old new
       → (held : Texts) → IsOpenedSince held r old → IsOpenedSince held later new
   opened_with_burnt later is failed held opened = subst (λ (l : ReservationsState). IsOpenedSince held l new) (sym is)
-      (opened_burnt held r.key r.base n r.history old new opened room (image_or_old failed))
+      (opened_burnt held r n old new opened counted.within (image_or_old failed))
 
   pub backed_with_given : (later : ReservationsState) → later ≡ with_given r n → new ≡ after_write text old → IsBackedBy r old → IsBackedBy later new
   backed_with_given later is wrote backed = subst (λ (l : ReservationsState). IsBackedBy l new) (sym is) (record {
-    safe = safe_given r.key r.base n r.history old new room (image_alone wrote);
+    safe = safe_given r n old new counted (image_alone wrote);
     held = backed.held;
-    opened = opened_given backed.held r.key r.base n r.history old new backed.opened room (image_alone wrote);
+    opened = opened_given backed.held r n old new backed.opened counted.within (image_alone wrote);
   })
 
   pub backed_with_burnt : (later : ReservationsState) → later ≡ with_burnt r n → FailsToWrite text old new → IsBackedBy r old → IsBackedBy later new
   backed_with_burnt later is failed backed = subst (λ (l : ReservationsState). IsBackedBy l new) (sym is) (record {
-    safe = safe_burnt r.key r.base n r.history old new room backed.safe (image_or_old failed);
+    safe = safe_burnt r n old new counted backed.safe (image_or_old failed);
     held = backed.held;
-    opened = opened_burnt backed.held r.key r.base n r.history old new backed.opened room (image_or_old failed);
+    opened = opened_burnt backed.held r n old new backed.opened counted.within (image_or_old failed);
   })

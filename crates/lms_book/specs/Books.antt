@@ -8,13 +8,22 @@ use Rattle.lms_book.specs.declared.refusals.BookFault.TheVariants as faults
 use Rattle.lms_book.specs.declared.refusals.OpenFault.{OpenFault}
 use Rattle.lms_book.specs.declared.refusals.OpenFault.TheVariants as open_faults
 use Rattle.lms_image.specs.Image.{image_of, fault_of, HasImage}
-use Rattle.lms_book.specs.History.{Range, end, counter_of, leases}
+use Rattle.lms_book.specs.History.{Range, end, counter_of, burnt_after, leases}
 use Rattle.lms_book.specs.Stops.{Texts, StoreView, MayLeave, LeavesWithin, after_write, after_failure, FailsToWrite}
 use Rattle.lms_book.specs.States.{BookState, LeaseState, IsOpenedFrom, IsSafe}
 
 -- how many of the key's indices are used
 abbrev pub counter : BookState → ℕ
 counter book = counter_of book.base book.history
+
+-- how many of the key's indices were burnt
+abbrev pub burnt_now : BookState → ℕ
+burnt_now book = burnt_after book.burnt book.history
+
+-- the image that counts n indices more as used. It counts this opening, since it is its first write or a later one, and those
+-- indices that were burnt before it is written.
+abbrev pub next_image : ℕ → BookState → List ℕ
+next_image n book = image_of book.key (counter book + n) (book.openings + 1) (burnt_now book)
 
 -- how many indices the book's key has
 abbrev pub capacity : BookState → ℕ
@@ -26,7 +35,7 @@ Reserves n old (Ok lease) new =
     (counter old + n ≤ capacity old)
     × (lease ≡ record { key = old.key; start = counter old; len = n })
     × (new.history ≡ old.history ++ Given n ∷ [])
-    × (new.store ≡ after_write (image_of old.key (counter old + n)) old.store)
+    × (new.store ≡ after_write (next_image n old) old.store)
 Reserves n old (Err (faults.Exhausted left)) new =
     (capacity old < counter old + n) × (left ≡ capacity old - counter old) × (new ≡ old)
 Reserves n old (Err faults.OutOfMemory) new =
@@ -36,7 +45,7 @@ Reserves n old (Err (faults.Store start len)) new =
     × (start ≡ counter old)
     × (len ≡ n)
     × (new.history ≡ old.history ++ Burnt n ∷ [])
-    × FailsToWrite (image_of old.key (counter old + n)) old.store new.store
+    × FailsToWrite (next_image n old) old.store new.store
 
 -- why a store was not opened: it failed, or one of its texts has this fault, or memory was refused
 abbrev pub HasCause : Type 0 → StoreView → OpenFault → StoreView → Type 0
@@ -49,18 +58,20 @@ HasCause may_fail old open_faults.OutOfMemory new = new ≡ old
 abbrev pub Follows : Range → Range → Type 0
 Follows first second = end first ≤ second.start
 
--- a book's key and counter have an image, so that the counter is within the key's capacity, and its leases are disjoint and below each
--- counter that a stop could leave stored
+-- a book's key and numbers have an image, so that the counter is within the key's capacity, and its leases are disjoint and below
+-- each counter that a stop could leave stored
 pub record IsInOrder (book : BookState) : Type 0 where
-  pub counted : HasImage book.key (counter book)
+  pub counted : HasImage book.key (counter book) book.openings (burnt_now book)
   pub disjoint : AllPairs Follows (leases book.base book.history)
-  pub safe : IsSafe book.key (leases book.base book.history) (MayLeave book.store)
+  pub safe : IsSafe book.key (book.openings + 1) (leases book.base book.history) (MayLeave book.store)
 
--- a reservation of n indices: the book is in order before and after, key and base stay, and its opening goes on
+-- a reservation of n indices: the book is in order before and after, the key and what was read stay, and its opening goes on
 pub record ReservesInOrder (n : ℕ) (old : BookState) (answer : Result LeaseState BookFault) (new : BookState) : Type 0 where
   pub found : IsInOrder old
   pub key : new.key ≡ old.key
   pub base : new.base ≡ old.base
+  pub openings : new.openings ≡ old.openings
+  pub burnt : new.burnt ≡ old.burnt
   pub opened : (held : Texts) → IsOpenedFrom held old → IsOpenedFrom held new
   pub reserves : Reserves n old answer new
   pub left : IsInOrder new
@@ -69,4 +80,4 @@ pub record ReservesInOrder (n : ℕ) (old : BookState) (answer : Result LeaseSta
 abbrev pub NoThirdTextIsLeft : Type 0
 NoThirdTextIsLeft =
     (n : ℕ) (old : BookState) (answer : Result LeaseState BookFault) (new : BookState) → Reserves n old answer new
-    → (text : List ℕ) → LeavesWithin old.store new.store text → MayLeave old.store text ⊎ (text ≡ image_of old.key (counter old + n))
+    → (text : List ℕ) → LeavesWithin old.store new.store text → MayLeave old.store text ⊎ (text ≡ next_image n old)

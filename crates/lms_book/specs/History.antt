@@ -24,6 +24,28 @@ len_of (Burnt len) = len
 abbrev pub counter_of : ℕ → List Entry → ℕ
 counter_of base history = base + sum_by len_of history
 
+-- how many indices an entry gave
+abbrev pub given_len : Entry → ℕ
+given_len (Given len) = len
+given_len (Burnt len) = 0
+
+-- how many a history gave
+abbrev pub given_of : List Entry → ℕ
+given_of history = sum_by given_len history
+
+-- how many indices an entry burnt
+abbrev pub burnt_len : Entry → ℕ
+burnt_len (Given len) = 0
+burnt_len (Burnt len) = len
+
+-- how many a history burnt
+abbrev pub burnt_of : List Entry → ℕ
+burnt_of history = sum_by burnt_len history
+
+-- those that were burnt before, and these
+abbrev pub burnt_after : ℕ → List Entry → ℕ
+burnt_after burnt history = burnt + burnt_of history
+
 -- the ranges of the Given entries; an entry's range starts at the base plus the lengths before it
 abbrev pub leases : ℕ → List Entry → List Range
 leases base [] = []

@@ -6,26 +6,31 @@ use Rattle.lms_hss.specs.Keys.{hss_key_of}
 use Rattle.lms_hss.specs.declared.key.HssKey.{HssKey as KeyOfCode}
 use Rattle.lms_book.specs.declared.history.Entry.{Entry}
 use Rattle.lms_image.specs.Image.{HasImage, IsImageFrom}
-use Rattle.lms_book.specs.History.{Range, end, counter_of, leases, stored_of}
+use Rattle.lms_book.specs.History.{Range, end, counter_of, leases, stored_of, burnt_after}
 use Rattle.lms_book.specs.Stops.{Texts, StoreView, MayLeave}
 use Rattle.lms_book.specs.Lives.{IsOpened, opening_of}
 
--- a key, the counter that was read, and the reservations since
+-- a key, the counter, the openings and the burnt indices that were read, and the reservations since
 pub record ReservationsState : Type 0 where
   pub key : KeyOfCode
   pub base : ℕ
+  pub openings : ℕ
+  pub burnt : ℕ
   pub history : List Entry
 
 -- these, and what is seen of the store
 pub record BookState : Type 0 where
   pub key : KeyOfCode
   pub base : ℕ
+  pub openings : ℕ
+  pub burnt : ℕ
   pub history : List Entry
   pub store : StoreView
 
 -- the reservations of a book
 abbrev pub reservations_of : BookState → ReservationsState
-reservations_of book = record { key = book.key; base = book.base; history = book.history }
+reservations_of book =
+    record { key = book.key; base = book.base; openings = book.openings; burnt = book.burnt; history = book.history }
 
 -- a range of a key's indices
 pub record LeaseState : Type 0 where
@@ -39,23 +44,25 @@ pub record IsLease (key : KeyOfCode) (start len : ℕ) : Type 0 where
   pub at_most : len ≤ 1024
   pub within : start + len ≤ capacity_of (hss_key_of key)
 
--- each text that a stop now could leave is an image of the key, with a counter at or past the end of each range
-abbrev pub IsSafe : KeyOfCode → List Range → (List ℕ → Type 0) → Type 0
-IsSafe key ranges may_leave = AllByRecursion (λ range. (left : List ℕ) → may_leave left → IsImageFrom key (end range) left) ranges
+-- each text that a stop now could leave is an image of the key with this number of openings, and with a counter at or past the end
+-- of each range
+abbrev pub IsSafe : KeyOfCode → ℕ → List Range → (List ℕ → Type 0) → Type 0
+IsSafe key number ranges may_leave = AllByRecursion (λ range. (left : List ℕ) → may_leave left → IsImageFrom key number (end range) left) ranges
 
 -- the running numbers are those of the history, and the key has so many indices
-pub record IsKept (key : KeyOfCode) (base counter stored : ℕ) (history : List Entry) : Type 0 where
-  pub counter_is : counter ≡ counter_of base history
-  pub stored_is : stored ≡ stored_of base history
-  pub counted : HasImage key counter
+pub record IsKept (reserved : ReservationsState) (counter stored burnt : ℕ) : Type 0 where
+  pub counter_is : counter ≡ counter_of reserved.base reserved.history
+  pub stored_is : stored ≡ stored_of reserved.base reserved.history
+  pub burnt_is : burnt ≡ burnt_after reserved.burnt reserved.history
+  pub counted : HasImage reserved.key counter reserved.openings burnt
 
--- the store is never behind a lease; and since it held some texts, perhaps any, what was reserved is an opening of which the law of
--- lives speaks
+-- the store is never behind a lease; and since it held some texts, perhaps any, what was reserved is an opening of which the laws of
+-- lives speak
 pub record IsBackedBy (reserved : ReservationsState) (store : StoreView) : Type 0 where
-  pub safe : IsSafe reserved.key (leases reserved.base reserved.history) (MayLeave store)
+  pub safe : IsSafe reserved.key (reserved.openings + 1) (leases reserved.base reserved.history) (MayLeave store)
   pub held : Texts
-  pub opened : IsOpened (opening_of held reserved.key reserved.base reserved.history) store.now
+  pub opened : IsOpened (opening_of held reserved.key reserved.base reserved.openings reserved.burnt reserved.history) store.now
 
--- what a book did since these texts were held is an opening of which the law of lives speaks, and leaves what its store may leave now
+-- what a book did since these texts were held is an opening of which the laws of lives speak, and leaves what its store may leave now
 abbrev pub IsOpenedFrom : Texts → BookState → Type 0
-IsOpenedFrom held book = IsOpened (opening_of held book.key book.base book.history) book.store.now
+IsOpenedFrom held book = IsOpened (opening_of held book.key book.base book.openings book.burnt book.history) book.store.now

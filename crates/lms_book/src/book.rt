@@ -8,7 +8,7 @@ use crate::refusals::{BookFault, OpenFault};
 use crate::reservations::Reservations;
 use crate::store::{ReadFault, StateStore, StoreFault};
 use lms_hss::{HssKey, same_key};
-use lms_image::{Image, decode_image, encode_image};
+use lms_image::{decode_image, encode_image};
 use std::alloc::Global;
 use std::marker::Model;
 use std::ops::Deref;
@@ -66,10 +66,10 @@ impl Lease {
     }
 }
 
-/// A store, and what was reserved of its key since it was opened. Contracts see the key, the counter that was read, the
+/// A store, and what was reserved of its key since it was opened. Contracts see the key, the numbers that were read, the
 /// reservations, and what a crash would leave in the store.
 ///
-/// `key`, `base`, `history`, `counter`, `stored` and `knows` are those of its `Reservations`.
+/// `key`, `base`, `openings`, `burnt`, `history`, `counter`, `stored` and `knows` are those of its `Reservations`.
 #[derive(Drop)]
 pub struct Book<S: StateStore> {
     store: S,
@@ -84,6 +84,8 @@ impl<S: StateStore> Model for Book<S> {
     ghost view = { λ book. record {
       key = book.reservations.key;
       base = book.reservations.base;
+      openings = book.reservations.openings;
+      burnt = book.reservations.burnt;
       history = book.reservations.history;
       store = S.seen book.store;
     } };
@@ -104,22 +106,23 @@ impl<S: StateStore> Deref for Book<S> {
 }
 
 impl<S: StateStore> Book<S> {
-    ghost use Rattle.lms_image.specs.Image.{image_of, HasImage};
+    ghost use Rattle.lms_image.specs.Image.{HasImage};
     ghost use Rattle.lms_book.specs.History.{leases, range_of};
-    ghost use Rattle.lms_book.specs.Stops.{Texts, MayLeave};
+    ghost use Rattle.lms_book.specs.Lives.{Finds};
+    ghost use Rattle.lms_book.specs.Stops.{Texts};
     ghost use Rattle.lms_book.specs.States.{IsOpenedFrom, reservations_of};
     ghost use Rattle.lms_book.specs.Books.{Reserves, HasCause, IsInOrder};
 
-    /// Reads the image that the store holds, and opens a book with its key and counter. Nothing is written, so a crash
-    /// leaves what it could leave before.
+    /// Reads the image that the store holds, of either version, and opens a book with its key and its numbers. Nothing is
+    /// written, so a crash leaves what it could leave before; the opening is counted by its first write.
     ///
     /// An `Err` hands the store back: `Store` where its read failed, `Image` with the first fault where the stored bytes
     /// are no image, `OutOfMemory` where memory for them is refused.
     pub fn open(alloc: Global, store: S) -> Result<Self, (OpenFault, S)>
         ensures opened { IfOk result (IsOpenedFrom (S.seen store).now) }
         ensures fresh { IfOk result (λ book. book.history ≡ []) }
-        ensures found { IfOk result (λ book. MayLeave (S.seen store) (image_of book.key book.base)) }
-        ensures counted { IfOk result (λ book. HasImage book.key book.base) }
+        ensures found { IfOk result (λ book. Finds (S.seen store).now book.key book.base book.openings book.burnt) }
+        ensures counted { IfOk result (λ book. HasImage book.key book.base book.openings book.burnt) }
         ensures store { IfOk result (λ book. book.store ≡ S.seen store) }
         ensures err { IfErr result (λ e. HasCause (S.may_fail store) (S.seen store) e.0 (S.seen e.1)) }
     {
@@ -132,7 +135,7 @@ impl<S: StateStore> Book<S> {
         match decode_image(&text) {
             Ok(image) => Ok(Book {
                 store,
-                reservations: Reservations::none_since(alloc, image.key, image.counter),
+                reservations: Reservations::none_since(alloc, &image),
             }),
             Err(fault) => Err((OpenFault::Image(fault), store)),
         }
@@ -149,7 +152,8 @@ impl<S: StateStore> Book<S> {
         &self.reservations
     }
 
-    /// Reserves the next n indices, 1 to 1024. An image that counts them as used is stored before the lease is given.
+    /// Reserves the next n indices, 1 to 1024. An image that counts them as used, and this opening, is stored before the lease is
+    /// given. It counts the indices that were burnt before it is written, and is of version 2, whatever was read.
     ///
     /// `Exhausted` where the key has fewer than n left, with their number, and `OutOfMemory` where memory for one more
     /// entry of the history is refused; neither changes anything. `Store` where the image may not have been stored: the
@@ -160,6 +164,8 @@ impl<S: StateStore> Book<S> {
         requires at_most { n ≤ 1024 }
         ensures key { self.new.key ≡ self.old.key }
         ensures base { self.new.base ≡ self.old.base }
+        ensures openings { self.new.openings ≡ self.old.openings }
+        ensures burnt { self.new.burnt ≡ self.old.burnt }
         ensures opened { (held : Texts) → IsOpenedFrom held self.old → IsOpenedFrom held self.new }
         ensures reserves { Reserves n self.old result self.new }
     {
@@ -169,14 +175,12 @@ impl<S: StateStore> Book<S> {
         if n > left {
             return Err(BookFault::Exhausted { left });
         }
+        let image = self.reservations.next_image(n);
         let Ok(()) = self.reservations.burn(n) else {
             return Err(BookFault::OutOfMemory);
         };
-        let image = encode_image(&Image {
-            key,
-            counter: start + n,
-        });
-        match self.store.replace(image.as_slice()) {
+        let text = encode_image(&image);
+        match self.store.replace(text.as_slice()) {
             Ok(()) => {
                 self.reservations.confirm();
                 Ok(Lease { key, start, len: n })
@@ -190,8 +194,8 @@ impl<S: StateStore> Book<S> {
         lease.end()
     }
 
-    /// Ends the book and hands its store back unchanged. What it reserved counts as one opening in the law
-    /// `leases_never_overlap`; the contracts of `open` and `reserve` say what that opening began with.
+    /// Ends the book and hands its store back unchanged. What it reserved counts as one opening in the laws
+    /// of lives; the contracts of `open` and `reserve` say what that opening began with.
     pub fn close(self) -> S
         ensures store { S.seen result ≡ self.store }
         ensures opening { (held : Texts) × IsOpenedFrom held self }

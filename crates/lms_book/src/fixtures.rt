@@ -10,6 +10,14 @@ use std::test::Fail;
 /// The levels 5/8, with 32 indices.
 pub(crate) const LEVELS: [(LmsType, OtsType); 1] = [(LmsType::H5, OtsType::W8)];
 
+/// The image of version 1 of this key with counter 10, by a Python program.
+const FIRST_IMAGE: &[u8] =
+    b"HSSK\x00\x00\x00\x01\x00\x00\x00\x01\x00\x00\x00\x05\x00\x00\x00\x04\x11\x11\x11\x11\x11\x11\
+    \x11\x11\x11\x11\x11\x11\x11\x11\x11\x11\x11\x11\x11\x11\x11\x11\x11\x11\x11\x11\x11\x11\x11\
+    \x11\x11\x11\x22\x22\x22\x22\x22\x22\x22\x22\x22\x22\x22\x22\x22\x22\x22\x22\x00\x00\x00\x00\
+    \x00\x00\x00\x0a\xfeG6\x15\x7e\xf0\xb5\x19\xfe\xf1\x09I\xbcx\x19\xf4\xf3\xfdo\x81f\x0e\x1a\
+    \x145\xcc\xf5\xff\xbaCI\x1e";
+
 /// How many writes a store of the tests has room for.
 const ROOM: usize = 1024;
 
@@ -32,17 +40,28 @@ pub(crate) fn store_of(alloc: Global, text: &[u8]) -> Result<MemoryStore, Fail> 
     }
 }
 
-/// A store that holds the image of this key and this counter.
+/// A store that holds the image of this key and this counter, with no opening counted and no index lost.
 pub(crate) fn store_at(alloc: Global, key: HssKey, counter: u64) -> Result<MemoryStore, Fail> {
     if counter > key.capacity() {
         return Err(Fail::from("a counter past the capacity"));
     }
-    store_of(alloc, encode_image(&Image { key, counter }).as_slice())
+    let image = Image {
+        key,
+        counter,
+        openings: 0,
+        burnt: 0,
+    };
+    store_of(alloc, encode_image(&image).as_slice())
 }
 
 /// A store that holds the image of 5/8 and this counter.
 pub(crate) fn small_store(alloc: Global, counter: u64) -> Result<MemoryStore, Fail> {
     store_at(alloc, key_of(&LEVELS, 0x11)?, counter)
+}
+
+/// A store that holds what version 1 wrote of 5/8 with counter 10.
+pub(crate) fn first_store(alloc: Global) -> Result<MemoryStore, Fail> {
+    store_of(alloc, FIRST_IMAGE)
 }
 
 /// A store that holds the image of another key of 5/8, with no index used.

@@ -1,6 +1,6 @@
 //! The reservations of a book, one after another.
 ghost use Rattle.std.specs.Prelude.{◌≡◌, ◌<◌, ◌^◌};
-ghost use Rattle.lms_book.specs.History.{counter_of, leases, len_of, has_range, range_of};
+ghost use Rattle.lms_book.specs.History.{counter_of, leases, len_of, burnt_len, has_range, range_of};
 
 /// One reservation of `len` indices.
 #[derive(Clone, Copy, Debug, PartialEq, Eq)]
@@ -19,6 +19,16 @@ impl Entry {
     {
         match *self {
             Entry::Given { len } | Entry::Burnt { len } => len,
+        }
+    }
+
+    /// How many indices were burnt.
+    pub(crate) fn burnt(&self) -> u64
+        ensures { result ≡ burnt_len self.now }
+    {
+        match *self {
+            Entry::Given { .. } => 0,
+            Entry::Burnt { len } => len,
         }
     }
 }

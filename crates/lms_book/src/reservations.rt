@@ -4,21 +4,26 @@ ghost use Rattle.lms_spec.specs.Hss.{capacity_of};
 ghost use Rattle.lms_hss.specs.Keys.{hss_key_of};
 ghost use Rattle.lms_image.specs.Image.{HasImage};
 ghost use Rattle.lms_book.specs.declared.history.Entry.TheVariants.{Burnt};
-ghost use Rattle.lms_book.specs.History.{counter_of, confirmed, stored_of};
+ghost use Rattle.lms_book.specs.History.{counter_of, burnt_after, confirmed, stored_of};
 
 use crate::history::Entry;
 use lms_hss::HssKey;
+use lms_image::Image;
 use lms_params::OutOfMemory;
 use std::alloc::Global;
 use std::marker::Model;
 
-/// A key, the counter that was read when its store was opened, and the reservations since. Contracts see these three.
+/// A key, the counter, the openings and the burnt indices that were read when its store was opened, and the reservations since.
+/// Contracts see these five.
 #[derive(Drop)]
 pub struct Reservations {
     key: HssKey,
     base: u64,
+    openings: u64,
+    burnt_before: u64,
     counter: u64,
     stored: u64,
+    burnt: u64,
     history: Vec<Entry>,
 }
 
@@ -27,22 +32,43 @@ impl Model for Reservations {
 
     ghost Value = { ReservationsState };
 
-    ghost view = { λ r. record { key = r.key; base = r.base; history = r.history.items } };
+    ghost view = { λ r. record {
+      key = r.key;
+      base = r.base;
+      openings = r.openings;
+      burnt = r.burnt_before;
+      history = r.history.items;
+    } };
 
-    ghost invariant = { λ r. IsKept r.key r.base r.counter r.stored r.history.items };
+    ghost invariant = { λ r. IsKept (record {
+      key = r.key;
+      base = r.base;
+      openings = r.openings;
+      burnt = r.burnt_before;
+      history = r.history.items;
+    }) r.counter r.stored r.burnt };
 }
 
 impl Reservations {
-    /// None yet of this key, with so many indices used before.
-    pub(crate) fn none_since(alloc: Global, key: HssKey, base: u64) -> Self
-        requires { HasImage key base }
-        ensures { result ≡ record { key = key; base = base; history = [] } }
+    /// None yet since this image was read.
+    pub(crate) fn none_since(alloc: Global, image: &Image) -> Self
+        requires { HasImage image.now.key image.now.counter image.now.openings image.now.burnt }
+        ensures { result ≡ record {
+          key = image.now.key;
+          base = image.now.counter;
+          openings = image.now.openings;
+          burnt = image.now.burnt;
+          history = [];
+        } }
     {
         Reservations {
-            key,
-            base,
-            counter: base,
-            stored: base,
+            key: image.key,
+            base: image.counter,
+            openings: image.openings,
+            burnt_before: image.burnt,
+            counter: image.counter,
+            stored: image.counter,
+            burnt: image.burnt,
             history: Vec::new(alloc),
         }
     }
@@ -61,6 +87,21 @@ impl Reservations {
         self.base
     }
 
+    /// How many earlier openings stored something, as was read. This one is counted in what it stores, and not here.
+    pub fn openings(&self) -> u64
+        ensures { result ≡ self.now.openings }
+    {
+        self.openings
+    }
+
+    /// How many of the key's indices were burnt: those that were read, and the lengths of the `Burnt` entries since. Leases that
+    /// were given back are not among them.
+    pub fn burnt(&self) -> u64
+        ensures { result ≡ burnt_after self.now.burnt self.now.history }
+    {
+        self.burnt
+    }
+
     /// The reservations since the opening.
     pub fn history(&self) -> &[Entry]
         ensures { result.now ≡ self.now.history }
@@ -72,7 +113,7 @@ impl Reservations {
     pub fn counter(&self) -> u64
         ensures counter { result ≡ counter_of self.now.base self.now.history }
         ensures within { result ≤ capacity_of (hss_key_of self.now.key) }
-        ensures counted { HasImage self.now.key result }
+        ensures counted { HasImage self.now.key result self.now.openings (burnt_after self.now.burnt self.now.history) }
     {
         self.counter
     }
@@ -84,6 +125,24 @@ impl Reservations {
         self.stored
     }
 
+    /// What is to be stored so that n indices more are used: this opening is counted, and the indices that were burnt so far.
+    pub(crate) fn next_image(&self, n: u64) -> Image
+        requires some { 1 ≤ n }
+        requires room { counter_of self.now.base self.now.history + n ≤ capacity_of (hss_key_of self.now.key) }
+        ensures key { result.key ≡ self.now.key }
+        ensures counter { result.counter ≡ counter_of self.now.base self.now.history + n }
+        ensures openings { result.openings ≡ self.now.openings + 1 }
+        ensures burnt { result.burnt ≡ burnt_after self.now.burnt self.now.history }
+        ensures counted { HasImage result.key result.counter result.openings result.burnt }
+    {
+        Image {
+            key: self.key,
+            counter: self.counter + n,
+            openings: self.openings + 1,
+            burnt: self.burnt,
+        }
+    }
+
     /// Reserves the next n indices as burnt, which they are until their image is stored. `OutOfMemory` where memory for
     /// the entry is refused; then nothing changes.
     pub(crate) fn burn(&mut self, n: u64) -> Result<(), OutOfMemory>
@@ -93,6 +152,7 @@ impl Reservations {
     {
         self.history.push(Entry::Burnt { len: n })?;
         self.counter += n;
+        self.burnt += n;
         Ok(())
     }
 
@@ -101,6 +161,7 @@ impl Reservations {
         ensures { self.new ≡ record self.old { history = confirmed self.old.history } }
     {
         if let Some(last) = self.history.last_mut() {
+            self.burnt -= last.burnt();
             *last = Entry::Given { len: last.len() };
             self.stored = self.counter;
         }

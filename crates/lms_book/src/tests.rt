@@ -83,13 +83,23 @@ fn has_history(book: &Book<MemoryStore>, history: &[Entry]) -> bool {
     book.history() == history
 }
 
-/// Whether the book's store holds the image of this key with all of its indices used.
-fn leaves_used_up(book: Book<MemoryStore>, key: HssKey) -> bool {
-    let last = encode_image(&Image {
+/// Whether the book says these numbers of openings and of burnt indices.
+fn says_lost(book: &Book<MemoryStore>, openings: u64, burnt: u64) -> bool {
+    book.openings() == openings && book.burnt() == burnt
+}
+
+/// Whether the book's store holds the image of this key and these numbers.
+fn leaves(book: Book<MemoryStore>, key: HssKey, counter: u64, openings: u64, burnt: u64) -> bool {
+    if counter > key.capacity() || openings > counter || burnt > counter {
+        return false;
+    }
+    let image = Image {
         key,
-        counter: key.capacity(),
-    });
-    book.close().text() == Some(last.as_slice())
+        counter,
+        openings,
+        burnt,
+    };
+    book.close().text() == Some(encode_image(&image).as_slice())
 }
 
 #[test]
@@ -109,7 +119,8 @@ fn ranges_follow_each_other(rt: HostRuntime) -> Result<(), Fail> {
     assert!(rt; has_history(&book, &history));
     let key = key_of(&LEVELS, 0x11)?;
     assert!(rt; book.key() == key);
-    assert!(rt; leaves_used_up(book, key));
+    assert!(rt; says_lost(&book, 0, 0));
+    assert!(rt; leaves(book, key, 32, 1, 0));
     Ok(())
 }
 
@@ -164,9 +175,9 @@ fn a_failed_write_burns(rt: HostRuntime) -> Result<(), Fail> {
         let mut book = opened(rt.alloc(), store)?;
         assert!(rt; gives(&mut book, 10, 0));
         assert!(rt; burns(&mut book, 5, 10));
-        assert!(rt; counts(&book, 0, 15, 10));
+        assert!(rt; counts(&book, 0, 15, 10) && says_lost(&book, 0, 5));
         assert!(rt; gives(&mut book, 5, 15));
-        assert!(rt; counts(&book, 0, 20, 20));
+        assert!(rt; counts(&book, 0, 20, 20) && says_lost(&book, 0, 5));
         let history = [
             Entry::Given { len: 10 },
             Entry::Burnt { len: 5 },
