@@ -53,6 +53,8 @@ pub(crate) fn store_at(
     let image = encode_image(&Image {
         key,
         counter: start,
+        openings: 0,
+        burnt: 0,
     });
     match MemoryStore::new(alloc, Some(image.as_slice()), WRITES) {
         Ok(store) => Ok(store),

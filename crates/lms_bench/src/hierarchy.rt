@@ -45,7 +45,12 @@ impl Hierarchy {
     /// A book over the key with no index used, in memory, with room for so many writes.
     pub fn book(self, alloc: Global, writes: usize) -> Result<Book<MemoryStore>> {
         let key = self.key()?;
-        let image = encode_image(&Image { key, counter: 0 });
+        let image = encode_image(&Image {
+            key,
+            counter: 0,
+            openings: 0,
+            burnt: 0,
+        });
         let store = MemoryStore::new(alloc, Some(image.as_slice()), writes)?;
         Ok(Book::open(alloc, store).map_err(|(fault, _)| fault)?)
     }

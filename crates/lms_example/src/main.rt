@@ -46,7 +46,13 @@ fn main(rt: HostRuntime) -> Result<()> {
 /// Stores that no index of a new key is used, and opens the book on it. A key's first image is stored once in its life.
 fn new_book(alloc: Global, key: HssKey) -> Result<Book<OneText>> {
     let mut store = OneText::new(alloc);
-    store.replace(encode_image(&Image { key, counter: 0 }).as_slice())?;
+    let unused = Image {
+        key,
+        counter: 0,
+        openings: 0,
+        burnt: 0,
+    };
+    store.replace(encode_image(&unused).as_slice())?;
     Ok(Book::open(alloc, store).map_err(|(fault, _)| fault)?)
 }
 

@@ -28,6 +28,8 @@ fn book_at(alloc: Global, start: u64) -> Result<Book<MemoryStore>, Fail> {
     let image = encode_image(&Image {
         key,
         counter: start,
+        openings: 0,
+        burnt: 0,
     });
     let store = MemoryStore::new(alloc, Some(image.as_slice()), 1);
     let store = store.or_else(|_| MemoryStore::new(alloc, Some(image.as_slice()), 1))?;

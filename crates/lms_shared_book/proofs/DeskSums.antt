@@ -4,8 +4,8 @@ use Rattle.std.specs.Prelude.{sum_by}
 use Rattle.std.proofs.lemmas.List.Sums.{sum_by-cons, sum_by_push}
 use Rattle.lms_book.specs.declared.history.Entry.{Entry}
 use Rattle.lms_book.specs.declared.history.Entry.TheVariants.{Given, Burnt}
-use Rattle.lms_book.specs.History.{len_of}
-use Rattle.lms_shared_book.specs.Desks.{Sums, sums, plus, total, given_len, burnt_len, given_of, burnt_of, sums_of}
+use Rattle.lms_book.specs.History.{len_of, given_len, burnt_len, given_of, burnt_of}
+use Rattle.lms_shared_book.specs.Desks.{Sums, sums, plus, total, sums_of}
 
 same_sums : (a b : Sums) → a.entries ≡ b.entries → a.received ≡ b.received → a.burnt ≡ b.burnt → a ≡ b
 same_sums a b e r u i = record { entries = e i; received = r i; burnt = u i }

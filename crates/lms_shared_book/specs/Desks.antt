@@ -1,10 +1,10 @@
 -- What desks count of a shared book.
-use Rattle.std.specs.Prelude.{◌≡◌, ℕ, ◌+◌, ◌≤◌, List, [], ◌∷◌, length, sum_by, Result, Ok, Err}
+use Rattle.std.specs.Prelude.{◌≡◌, ℕ, ◌+◌, ◌≤◌, List, [], ◌∷◌, length, Result, Ok, Err}
 use Rattle.std.specs.declared.sync.ledger.Blank.{Blank as BlankOfCode}
 use Rattle.lms_book.specs.declared.history.Entry.{Entry}
-use Rattle.lms_book.specs.declared.history.Entry.TheVariants.{Given, Burnt}
 use Rattle.lms_book.specs.declared.refusals.BookFault.{BookFault}
 use Rattle.lms_book.specs.declared.refusals.BookFault.TheVariants.{Exhausted, OutOfMemory, Store}
+use Rattle.lms_book.specs.History.{given_of, burnt_of}
 use Rattle.lms_book.specs.States.{BookState, LeaseState}
 
 -- numbers of entries, of indices received and of indices burnt
@@ -25,24 +25,6 @@ plus a b = sums (a.entries + b.entries) (a.received + b.received) (a.burnt + b.b
 abbrev pub total : List Sums → Sums
 total [] = sums 0 0 0
 total (s ∷ more) = plus s (total more)
-
--- how many indices an entry gave
-abbrev pub given_len : Entry → ℕ
-given_len (Given len) = len
-given_len (Burnt len) = 0
-
--- how many a history gave
-abbrev pub given_of : List Entry → ℕ
-given_of history = sum_by given_len history
-
--- how many indices an entry burnt
-abbrev pub burnt_len : Entry → ℕ
-burnt_len (Given len) = 0
-burnt_len (Burnt len) = len
-
--- how many a history burnt
-abbrev pub burnt_of : List Entry → ℕ
-burnt_of history = sum_by burnt_len history
 
 -- all three of a history
 abbrev pub sums_of : List Entry → Sums

@@ -16,10 +16,12 @@ abbrev pub Makes : BookState → Entry → BookState → Type 0
 Makes old (Given n) new = Reserves n old (Ok (next_lease old n)) new
 Makes old (Burnt n) new = Reserves n old (Err (Store (counter old) n)) new
 
--- the same, which keeps key and base
+-- the same, which keeps the key and what was read
 pub record IsAfterEntry (old : BookState) (entry : Entry) (new : BookState) : Type 0 where
   pub key : new.key ≡ old.key
   pub base : new.base ≡ old.base
+  pub openings : new.openings ≡ old.openings
+  pub burnt : new.burnt ≡ old.burnt
   pub makes : Makes old entry new
 
 -- a book became this one by the reservations of these entries, one after another

@@ -21,7 +21,12 @@ fn store_at(alloc: Global, level: (LmsType, OtsType), counter: u64) -> Result<Me
     if counter > key.capacity() {
         return Err(Fail::from("a counter past the capacity"));
     }
-    let image = encode_image(&Image { key, counter });
+    let image = encode_image(&Image {
+        key,
+        counter,
+        openings: 0,
+        burnt: 0,
+    });
     let text = Some(image.as_slice());
     let made = MemoryStore::new(alloc, text, ROOM);
     let made = made.or_else(|_| MemoryStore::new(alloc, text, ROOM));

@@ -1,6 +1,6 @@
 //! What a history gave and burnt, added up.
 ghost use Rattle.std.specs.Prelude.{◌≡◌, ◌<◌, ◌^◌};
-ghost use Rattle.lms_shared_book.specs.Desks.{given_of, burnt_of};
+ghost use Rattle.lms_book.specs.History.{given_of, burnt_of};
 
 use lms_book::Entry;
 

@@ -21,6 +21,8 @@ impl Tally for Brand {
     ghost book = { record {
       key = record { levels = []; seed = []; i = [] };
       base = 0;
+      openings = 0;
+      burnt = 0;
       history = [];
       store = record { now = None; past = []; failures = 0 };
     } };

@@ -54,7 +54,12 @@ fn book(alloc: Global, levels: &[(LmsType, OtsType)]) -> Result<Book<MemoryStore
     if key.capacity() < 30 {
         return Err(Fail::from("a capacity of 1024"));
     }
-    let image = encode_image(&Image { key, counter: 30 });
+    let image = encode_image(&Image {
+        key,
+        counter: 30,
+        openings: 0,
+        burnt: 0,
+    });
     let store = match MemoryStore::new(alloc, Some(image.as_slice()), 8) {
         Ok(store) => store,
         Err(_) => MemoryStore::new(alloc, Some(image.as_slice()), 8)?,

@@ -1,5 +1,5 @@
 use Rattle.std.proofs.Common.{◌≡◌, ◌+◌, drop}
-use Rattle.lms_shared_book.specs.Desks.{given_of, burnt_of}
+use Rattle.lms_book.specs.History.{given_of, burnt_of}
 use Rattle.lms_shared_book.proofs.sums.sums_in.Given as goal
 
 abbrev pub invariant-loop-entry : goal.invariant-loop-entry

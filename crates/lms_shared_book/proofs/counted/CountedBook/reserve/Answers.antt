@@ -36,18 +36,18 @@ count-requires-in-Err-Store-clause-burnt g c =
 pub returns-in-Ok-clause-reserves : goal.returns-in-Ok-clause-reserves
 returns-in-Ok-clause-reserves g c =
     subst (λ book. ReservesInOrder c.args.n book (Ok c.in-Ok.lease) c.reserve.new.self) c.self.view_is
-    (reserved_in_order c.args.n c.self.inside.book _ c.reserve.new.self c.self.invariant.0 c.reserve.ensures.key c.reserve.ensures.base
-    c.reserve.ensures.opened c.in-Ok.ensures.reserves)
+    (reserved_in_order c.args.n c.self.inside.book _ c.reserve.new.self c.requires.some c.self.invariant.0 c.reserve.ensures.key
+    c.reserve.ensures.base c.reserve.ensures.openings c.reserve.ensures.burnt c.reserve.ensures.opened c.in-Ok.ensures.reserves)
 
 pub returns-in-Err-Store-clause-reserves : goal.returns-in-Err-Store-clause-reserves
 returns-in-Err-Store-clause-reserves g c =
     subst (λ book. ReservesInOrder c.args.n book (Err (Store c.in-Err-Store.start c.in-Err-Store.len)) c.reserve.new.self) c.self.view_is
-    (reserved_in_order c.args.n c.self.inside.book _ c.reserve.new.self c.self.invariant.0 c.reserve.ensures.key c.reserve.ensures.base
-    c.reserve.ensures.opened (rw c.in-Err-Store.field-0-is at c.in-Err-Store.ensures.reserves))
+    (reserved_in_order c.args.n c.self.inside.book _ c.reserve.new.self c.requires.some c.self.invariant.0 c.reserve.ensures.key
+    c.reserve.ensures.base c.reserve.ensures.openings c.reserve.ensures.burnt c.reserve.ensures.opened (rw c.in-Err-Store.field-0-is at c.in-Err-Store.ensures.reserves))
 
 pub invariant_of-self : goal.invariant_of-self
 invariant_of-self g c = (
-  order_stays c.args.n c.self.inside.book c.reserve.result c.reserve.new.self c.reserve.ensures.key c.reserve.ensures.base c.self.invariant.0 c.reserve.ensures.reserves,
+  order_stays c.args.n c.self.inside.book c.reserve.result c.reserve.new.self c.requires.some c.reserve.ensures.key c.reserve.ensures.base c.reserve.ensures.openings c.reserve.ensures.burnt c.self.invariant.0 c.reserve.ensures.reserves,
   c.count.ensures.totals ∙ ap (λ (s : Sums). plus s (sums 1 c.args.n 0)) (c.audit.ensures.totals ∙ c.self.invariant.1) ∙ given_more c.self.inside.book.history c.args.n ∙ ap sums_of (sym c.in-Ok.ensures.reserves.2),
   ap (λ (s : SharesState). s.parts) c.audit.ensures.other ∙ c.self.invariant.2,
   ap (λ (s : SharesState). s.counted) c.audit.ensures.other ∙ c.self.invariant.3,
@@ -55,14 +55,14 @@ invariant_of-self g c = (
   (
     _,
     after_push g.E.Tally.book c.self.invariant.5.0 (Given c.args.n) c.self.inside.book c.reserve.new.self c.self.invariant.5.1
-        (gives_entry c.args.n c.self.inside.book _ c.reserve.new.self c.reserve.ensures.key c.reserve.ensures.base c.in-Ok.ensures.reserves),
+        (gives_entry c.args.n c.self.inside.book _ c.reserve.new.self c.reserve.ensures.key c.reserve.ensures.base c.reserve.ensures.openings c.reserve.ensures.burnt c.in-Ok.ensures.reserves),
   ),
 )
 
 pub invariant_of-self-in-Err-Store : goal.invariant_of-self-in-Err-Store
 invariant_of-self-in-Err-Store g c =
     let reserves = rw c.in-Err-Store.field-0-is at c.in-Err-Store.ensures.reserves in (
-      order_stays c.args.n c.self.inside.book c.reserve.result c.reserve.new.self c.reserve.ensures.key c.reserve.ensures.base c.self.invariant.0 c.reserve.ensures.reserves,
+      order_stays c.args.n c.self.inside.book c.reserve.result c.reserve.new.self c.requires.some c.reserve.ensures.key c.reserve.ensures.base c.reserve.ensures.openings c.reserve.ensures.burnt c.self.invariant.0 c.reserve.ensures.reserves,
       c.count-in-Err-Store.ensures.totals ∙ ap (λ (s : Sums). plus s (sums 1 0 c.args.n)) (c.audit.ensures.totals ∙ c.self.invariant.1) ∙ burnt_more c.self.inside.book.history c.args.n ∙ ap sums_of (sym reserves.3),
       ap (λ (s : SharesState). s.parts) c.audit.ensures.other ∙ c.self.invariant.2,
       ap (λ (s : SharesState). s.counted) c.audit.ensures.other ∙ c.self.invariant.3,
@@ -70,7 +70,7 @@ invariant_of-self-in-Err-Store g c =
       (
         _,
         after_push g.E.Tally.book c.self.invariant.5.0 (Burnt c.args.n) c.self.inside.book c.reserve.new.self c.self.invariant.5.1
-            (burns_entry c.args.n _ _ c.self.inside.book c.reserve.new.self c.reserve.ensures.key c.reserve.ensures.base reserves),
+            (burns_entry c.args.n _ _ c.self.inside.book c.reserve.new.self c.reserve.ensures.key c.reserve.ensures.base c.reserve.ensures.openings c.reserve.ensures.burnt reserves),
       ),
     )
 

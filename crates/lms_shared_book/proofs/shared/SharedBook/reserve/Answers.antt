@@ -1,6 +1,5 @@
-use Rattle.std.proofs.Common.{sym, ◌∙◌, ap, arith, subst}
+use Rattle.std.proofs.Common.{◌∙◌, ap}
 use Rattle.lms_shared_book.specs.Desks.{SharedState}
-use Rattle.lms_shared_book.specs.Shared.{IsFound}
 use Rattle.lms_shared_book.proofs.shared.SharedBook.reserve.Goals as goal
 
 pub returns-clause-reserves : goal.returns-clause-reserves

@@ -1,8 +1,7 @@
-use Rattle.std.proofs.Common.{◌≡◌, ◌∙◌, List, ap, arith}
+use Rattle.std.proofs.Common.{◌≡◌, ◌∙◌, ap, arith}
 use Rattle.lms_hss.proofs.Keys.{capacity-limit}
-use Rattle.lms_book.specs.declared.history.Entry.{Entry}
 use Rattle.lms_book.specs.States.{ReservationsState}
-use Rattle.lms_shared_book.specs.Desks.{given_of, burnt_of}
+use Rattle.lms_book.specs.History.{given_of, burnt_of}
 use Rattle.lms_shared_book.proofs.DeskSums.{given_le, burnt_le}
 use Rattle.lms_shared_book.proofs.shared.SharedBook.share.Goals as goal
 
