@@ -9,12 +9,12 @@ use Rattle.lms_book.specs.declared.history.Entry.{Entry}
 use Rattle.lms_book.specs.declared.history.Entry.TheVariants.{Given, Burnt}
 use Rattle.lms_book.specs.declared.refusals.BookFault.{BookFault}
 use Rattle.lms_book.specs.declared.refusals.BookFault.TheVariants as book
-use Rattle.lms_book.specs.History.{counter_of}
 use Rattle.lms_book.specs.Stops.{MayLeave, StoreView}
 use Rattle.lms_book.specs.States.{BookState, LeaseState}
-use Rattle.lms_book.specs.Books.{Reserves, ReservesInOrder, counter}
+use Rattle.lms_book.specs.Books.{Reserves, ReservesInOrder, counter, next_image}
 use Rattle.lms_book.proofs.Leaving.{leaves_failed, only_has}
-use Rattle.lms_shared_book.specs.Desks.{Sums, plus, sums, sums_of, total, given_len, burnt_len}
+use Rattle.lms_book.specs.History.{given_len, burnt_len}
+use Rattle.lms_shared_book.specs.Desks.{Sums, plus, sums, sums_of, total}
 use Rattle.lms_shared_book.specs.Shared.{IsAfter, IsAfterEntry, IsSettled}
 use Rattle.lms_batch.specs.Answers.{CouldBeReserved, IsAnswerAfter, start_of}
 use Rattle.lms_batch.specs.declared.collector.Batch.{Batch}
@@ -32,6 +32,7 @@ use Rattle.lms_commands.specs.declared.fault.Fault.{Fault}
 use Rattle.lms_world.specs.Known.{IsOldOr, Known, Stays, Text}
 use Rattle.lms_commands.specs.SharedBooks.{IsDoneBy, IsRefusedBy, at_one_desk}
 use Rattle.lms_commands.specs.Signing.{BurnsIndices, IsAt, LacksIndices, Opens, UsesIndices}
+use Rattle.lms_commands.proofs.Signings.{IsFresh, image_is}
 
 same_sums : (a b : Sums) → a.entries ≡ b.entries → a.received ≡ b.received → a.burnt ≡ b.burnt → a ≡ b
 same_sums a b e r u i = record { entries = e i; received = r i; burnt = u i }
@@ -104,7 +105,12 @@ refused_so start n fault could = let found = finds_start start n (Err (unsigned.
     go new (Ok lease) is follows = absurd follows
     go new (Err refused) is follows = (new, subst (λ (f : BookFault). Reserves n start (Err f) new) (sym follows) is)
 
-module _ (old new : Known) (state : Text) (start left : BookState) (store : StoreView) (counted : HasImage start.key start.base) (opened : IsAt old state start.key start.base) (at : counter start ≡ start.base) (view : store ≡ left.store) (taken : (text : List ℕ) → MayLeave start.store text ↔ old.keeps state text) (kept : (text : List ℕ) → MayLeave store text → new.keeps state text) (only : (text : List ℕ) → new.holds state text → MayLeave store text) where
+module _ (old new : Known) (state : Text) (start left : BookState) (store : StoreView)
+    (counted : HasImage start.key start.base start.openings start.burnt)
+    (opened : IsAt old state start.key start.base start.openings start.burnt) (is_fresh : IsFresh start) (view : store ≡ left.store)
+    (taken : (text : List ℕ) → MayLeave start.store text ↔ old.keeps state text)
+    (kept : (text : List ℕ) → MayLeave store text → new.keeps state text)
+    (only : (text : List ℕ) → new.holds state text → MayLeave store text) where
   -- where no index was reserved, the state stays
   stays : IsSettled start (sums 0 0 0) left → Stays old new state
   stays settled =
@@ -117,21 +123,25 @@ module _ (old new : Known) (state : Text) (start left : BookState) (store : Stor
 
   uses_none : IsSettled start (sums 0 0 0) left → UsesIndices 0 old new state start.key start.base
   uses_none settled = record {
+    openings = start.openings;
+    burnt = start.burnt;
     counted = counted;
     within = omega (arith, counted.within);
     opened = opened;
-    stored = subst (λ (n : ℕ). IsAt new state start.key n) (let h : start.base ≡ start.base + 0 = omega arith in h) ((stays settled).kept _ opened);
+    stored = stays settled;
   }
 
   -- where they were given, the image that counts them is left
-  uses : (n : ℕ) → 1 ≤ n → IsSettled start (sums 1 n 0) left → UsesIndices n old new state start.key start.base
-  uses n some settled =
-      let made = (one_given start n settled.entries left some settled.after settled.all).makes in
-      let text = image_of start.key (start.base + n) in
-      let there : MayLeave left.store text = subst (λ (s : StoreView). MayLeave s text) (sym made.3) (only_has (image_of start.key (counter start + n)) text (ap (λ (k : ℕ). image_of start.key (k + n)) (sym at))) in
+  uses : (n : ℕ) → IsSettled start (sums 1 (suc n) 0) left → UsesIndices (suc n) old new state start.key start.base
+  uses n settled =
+      let made = (one_given start (suc n) settled.entries left (omega arith) settled.after settled.all).makes in
+      let text = image_of start.key (start.base + suc n) (start.openings + 1) start.burnt in
+      let there : MayLeave left.store text = subst (λ (s : StoreView). MayLeave s text) (sym made.3) (only_has (next_image (suc n) start) text (sym (image_is (suc n) start is_fresh))) in
       record {
+        openings = start.openings;
+        burnt = start.burnt;
         counted = counted;
-        within = omega (arith, made.0, at);
+        within = omega (arith, made.0, is_fresh.used);
         opened = opened;
         stored = kept text (subst (λ (s : StoreView). MayLeave s text) (sym view) there);
       }
@@ -140,14 +150,20 @@ module _ (old new : Known) (state : Text) (start left : BookState) (store : Stor
   burns : (n : ℕ) → 1 ≤ n → IsSettled start (sums 1 0 n) left → BurnsIndices n old new state start.base
   burns n some settled =
       let made = (one_burnt start n settled.entries left some settled.after settled.all).makes in
-      let either : IsOldOr (image_of start.key (start.base + n)) old new state = λ text holds. ⊎_elim (λ was. inl ((taken text).0 was)) (λ is. inr (is ∙ ap (λ (k : ℕ). image_of start.key (k + n)) at))
+      let either : IsOldOr (image_of start.key (start.base + n) (start.openings + 1) start.burnt) old new state
+      = λ text holds. ⊎_elim (λ was. inl ((taken text).0 was)) (λ is. inr (is ∙ image_is n start is_fresh))
       (leaves_failed _ start.store left.store made.4 text (subst (λ (s : StoreView). MayLeave s text) view (only text holds))) in
-      (start.key, counted, omega (arith, made.0, at), opened, either)
+      (start.key, start.openings, start.burnt, counted, omega (arith, made.0, is_fresh.used), opened, either)
 
   -- a batch that was read used as many indices as there are jobs
   used_by : (n : ℕ) (sum : Sums) → sum ≡ plus (sums 0 0 0) (sums (min 1 n) n 0) → IsSettled start sum left → UsesIndices n old new state start.key start.base
   used_by zero sum is settled = uses_none (subst (λ (s : Sums). IsSettled start s left) is settled)
-  used_by (suc n) sum is settled = uses (suc n) (omega arith) (subst (λ (s : Sums). IsSettled start s left) (is ∙ from_some n) settled)
+  used_by (suc n) sum is settled = uses n (subst (λ (s : Sums). IsSettled start s left) (is ∙ from_some n) settled)
+
+  -- so many, and there are some
+  used_some : (n : ℕ) → 1 ≤ n → IsSettled start (sums 1 n 0) left → UsesIndices n old new state start.key start.base
+  used_some zero some settled = absurd (omega (arith, some))
+  used_some (suc n) some settled = uses n settled
 
   signs_batch : (before after : Streams) (sum : Sums) (batch : Batch) (is : IsBatchRead (at_one_desk start) before.input after.input (sums 0 0 0) sum batch)
       → IsSettled start sum left → SignsBatch old new state is.jobs batch
@@ -156,7 +172,7 @@ module _ (old new : Known) (state : Text) (start left : BookState) (store : Stor
     index = start.base;
     used = used_by (length is.jobs) sum is.counted settled;
     answer = is.answer;
-    start = λ some. starts_at start (length is.jobs) batch (is.reserved some) ∙ at;
+    start = λ some. starts_at start (length is.jobs) batch (is.reserved some) ∙ is_fresh.used;
   }
 
   signs_input : (before after : Streams) (sum : Sums) (batch : Batch) → IsBatchRead (at_one_desk start) before.input after.input (sums 0 0 0) sum batch
@@ -178,7 +194,7 @@ module _ (old new : Known) (state : Text) (start left : BookState) (store : Stor
   }
 
   opens : Opens old state
-  opens = (start.key, start.base, counted, opened)
+  opens = (start.key, start.base, start.openings, start.burnt, counted, opened)
 
   lines_failed : (before after : Streams) (fault : LinesFault) (sum : Sums)
       → IsLinesFault (at_one_desk start) before.input after.input before.output after.output (sums 0 0 0) sum fault → IsSettled start sum left
@@ -192,28 +208,33 @@ module _ (old new : Known) (state : Text) (start left : BookState) (store : Stor
   lines_failed before after (lines.Batch (unsigned.Book (book.Exhausted rest))) sum is settled =
       let n = length is.jobs in
       let (full, left_is, same) = (refused_so start n (book.Exhausted rest) is.reserved).1 in
-      let lacks : LacksIndices n old state rest = (start.key, start.base, counted, omega (arith, full, at), omega (arith, left_is, at), opened) in
+      let lacks : LacksIndices n old state rest = (
+        start.key,
+        start.base,
+        start.openings,
+        start.burnt,
+        counted,
+        omega (arith, full, is_fresh.used),
+        omega (arith, left_is, is_fresh.used),
+        opened,
+      ) in
       ((is.jobs, is.read, lacks), stays (subst (λ (s : Sums). IsSettled start s left) is.counted settled))
   lines_failed before after (lines.Batch (unsigned.Book book.OutOfMemory)) sum is settled = stays (subst (λ (s : Sums). IsSettled start s left) is.counted settled)
   lines_failed before after (lines.Batch (unsigned.Book (book.Store first len))) sum is settled =
       let n = length is.jobs in
       let refused = (refused_so start n (book.Store first len) is.reserved).1 in
-      let here : start.base ≡ first = sym (refused.1 ∙ at) in
+      let here : start.base ≡ first = sym (refused.1 ∙ is_fresh.used) in
       let burnt = burns n is.some (subst (λ (s : Sums). IsSettled start s left) (is.counted.1 ∙ from_none _) settled) in
       (is.jobs, is.read, (is.counted.0, subst (BurnsIndices n old new state) here burnt))
   lines_failed before after (lines.Batch (unsigned.OutOfMemory burnt)) sum is settled =
       let n = length is.jobs in
-      let used = uses n is.some (subst (λ (s : Sums). IsSettled start s left) (is.counted.1 ∙ from_none _) settled) in
+      let used = used_some n is.some (subst (λ (s : Sums). IsSettled start s left) (is.counted.1 ∙ from_none _) settled) in
       (is.jobs, is.read, (is.counted.0, (start.key, start.base, used)))
   lines_failed before after lines.Write sum (batch, is, printed) settled = record { made = signs_input before after sum batch is settled; printed = printed }
 
   pub failed_so : (before after : Streams) (fault : Fault) → IsRefusedBy start before after fault left → FailsToSignJobs old new state before after fault
   failed_so before after fault (sum, (lines, same, is), settled) =
       subst (FailsToSignJobs old new state before after) (sym same) (lines_failed before after lines sum is settled)
-
--- a book whose history is empty
-pub counter_of_fresh : (start : BookState) → start.history ≡ [] → counter start ≡ start.base
-counter_of_fresh start fresh = omega (arith, ap (λ (history : List Entry). counter_of start.base history) fresh)
 
 -- the only desk of a shared book counts all that was reserved
 pub settled_one : (start book left : BookState) (desks : List Sums) (counted : Sums) → book ≡ start → desks ≡ counted ∷ [] → IsSettled book (total desks) left

@@ -23,13 +23,13 @@ both_ok (Err e) P Q R more p q = tt
 
 -- a new key's state was stored, and its public key or capacity was not published
 pub not_published : (old mid new : Known) (key : KeyOfCode) (state public : Text) (before after : Option (List ℕ)) → old.lacks state
-    → mid.keeps state (image_of key 0) → Stays mid new state → (fault : Fault)
+    → mid.keeps state (image_of key 0 0 0) → Stays mid new state → (fault : Fault)
     → (fault ≡ OutOfMemory) ⊎ ((fault ≡ Output) × IsPrintedLast new public (hss_public_key (hss_key_of key)) before after)
     → FailsToMakeKey old new key state public before after fault
 not_published old mid new key state public before after lacks stored stays fault (inl is) =
-    subst (FailsToMakeKey old new key state public before after) (sym is) (inr (lacks, stays.kept (image_of key 0) stored))
+    subst (FailsToMakeKey old new key state public before after) (sym is) (inr (lacks, stays.kept (image_of key 0 0 0) stored))
 not_published old mid new key state public before after lacks stored stays fault (inr (is, last)) =
-    subst (FailsToMakeKey old new key state public before after) (sym is) ((lacks, stays.kept (image_of key 0) stored), last)
+    subst (FailsToMakeKey old new key state public before after) (sym is) ((lacks, stays.kept (image_of key 0 0 0) stored), last)
 
 -- a message was signed, and no state changed after that
 pub signed_still : (old mid new : Known) (state : Text) (random message signature : List ℕ) (index : ℕ) → SignsNext old mid state random message signature index
@@ -37,6 +37,8 @@ pub signed_still : (old mid new : Known) (state : Text) (random message signatur
 signed_still old mid new state random message signature index is stays = record {
   key = is.key;
   used = record {
+    openings = is.used.openings;
+    burnt = is.used.burnt;
     counted = is.used.counted;
     within = is.used.within;
     opened = is.used.opened;

@@ -54,22 +54,22 @@ IsNoKey levels seed id BadId = AreTaken levels × IsHexOf 32 seed × ¬ IsHexOf 
 IsNoKey levels seed id OutOfMemory = Unit {0}
 IsNoKey levels seed id _ = ⊥
 
--- there was no state, and now there is that of this key with no index used; its public key is in a file, and its capacity is printed
+-- there was no state, and now there is that of this key with nothing counted; its public key is in a file, and its capacity is printed
 pub record MakesKey (old new : Known) (key : KeyOfCode) (state public : Text) (before after : Option (List ℕ)) : Type 0 where
   pub fresh : old.lacks state
-  pub stored : new.keeps state (image_of key 0)
+  pub stored : new.keeps state (image_of key 0 0 0)
   pub published : new.gives public (hss_public_key (hss_key_of key))
   pub printed : Appends before after (number_line (codes "capacity") (capacity_of (hss_key_of key)))
 
 -- why a new key's state was not stored; where the write failed, the state is what it was, or that of the key with no index used
 abbrev pub FailsToStore : Known → Known → KeyOfCode → Text → Fault → Type 0
 FailsToStore old new key state OutOfMemory = Stays old new state
-FailsToStore old new key state WriteState = IsOldOr (image_of key 0) old new state
+FailsToStore old new key state WriteState = IsOldOr (image_of key 0 0 0) old new state
 FailsToStore old new key state _ = ⊥
 
 -- there was no state, and now there is that of this key with no index used
 abbrev pub IsNewKey : Known → Known → KeyOfCode → Text → Type 0
-IsNewKey old new key state = old.lacks state × new.keeps state (image_of key 0)
+IsNewKey old new key state = old.lacks state × new.keeps state (image_of key 0 0 0)
 
 -- why no key was made, in the order in which it is found; memory may run out before the state is stored, and while the public key is
 -- written. Where the output failed, nothing is printed before the file has the public key.
@@ -77,7 +77,7 @@ abbrev pub FailsToMakeKey : Known → Known → KeyOfCode → Text → Text → 
 FailsToMakeKey old new key state public before after StateInUse = old.in_use state × Stays old new state
 FailsToMakeKey old new key state public before after StateExists = Exists old state × Stays old new state
 FailsToMakeKey old new key state public before after OutOfMemory = Stays old new state ⊎ IsNewKey old new key state
-FailsToMakeKey old new key state public before after WriteState = old.lacks state × IsOldOr (image_of key 0) old new state
+FailsToMakeKey old new key state public before after WriteState = old.lacks state × IsOldOr (image_of key 0 0 0) old new state
 FailsToMakeKey old new key state public before after Output =
     IsNewKey old new key state × IsPrintedLast new public (hss_public_key (hss_key_of key)) before after
 FailsToMakeKey old new key state public before after _ = ⊥

@@ -1,13 +1,13 @@
 -- What `info` and `sign` do with a key's state, and where they fail.
-use Rattle.std.specs.Prelude.{ℕ, ◌≡◌, ◌⊎◌, ◌+◌, ◌-◌, ◌<◌, ◌≤◌, List, ◌++◌, [], ◌∷◌, length, Ok, Err, Some, Option, codes}
+use Rattle.std.specs.Prelude.{ℕ, zero, suc, ◌≡◌, ◌⊎◌, ◌+◌, ◌-◌, ◌<◌, ◌≤◌, List, ◌++◌, [], ◌∷◌, length, Ok, Err, Some, Option, codes}
 use Rattle.std.specs.Io.KnownBytes.{Appends}
 use Rattle.hex.specs.Hex.{decode_of}
 use Rattle.lms_spec.specs.Hss.{capacity_of, HssAccepts}
 use Rattle.lms_spec.specs.Profile.{hss_public_key, hss_signature}
 use Rattle.lms_hss.specs.Keys.{hss_key_of}
 use Rattle.lms_hss.specs.declared.key.HssKey.{HssKey as KeyOfCode}
-use Rattle.lms_book.specs.Books.{Reserves, capacity, counter}
-use Rattle.lms_image.specs.Image.{fault_of, image_of, HasImage}
+use Rattle.lms_book.specs.Books.{Reserves, capacity, counter, next_image}
+use Rattle.lms_image.specs.Image.{fault_of, image_of, IsImage, HasImage}
 use Rattle.lms_book.specs.States.{BookState}
 use Rattle.lms_book.specs.Stops.{after_write}
 use Rattle.lms_book.specs.declared.history.Entry.TheVariants.{Given as Gave}
@@ -24,23 +24,30 @@ use Rattle.lms_world.specs.declared.world.WorldFault.TheVariants as world
 pub record GivesOne (old new : BookState) : Type 0 where
   pub within : counter old + 1 ≤ capacity old
   pub given : new.history ≡ old.history ++ Gave 1 ∷ []
-  pub stored : new.store ≡ after_write (image_of old.key (counter old + 1)) old.store
+  pub stored : new.store ≡ after_write (next_image 1 old) old.store
 
 -- why a book's next index signed nothing: it was not given, or it was and memory ran out
 abbrev pub SignsNothing : BookState → SignFault → BookState → Type 0
 SignsNothing old (unsigned.Book fault) new = Reserves 1 old (Err fault) new
 SignsNothing old unsigned.OutOfMemory new = GivesOne old new
 
--- the state of the name may be that of this key with this many indices used
-abbrev pub IsAt : Known → Text → KeyOfCode → ℕ → Type 0
-IsAt at state key used = at.keeps state (image_of key used)
+-- the state of the name may be an image of this key and these numbers, of either version
+abbrev pub IsAt : Known → Text → KeyOfCode → ℕ → ℕ → ℕ → Type 0
+IsAt at state key used openings burnt = (text : List ℕ) × at.keeps state text × IsImage text key used openings burnt
 
--- n indices of the state's key are used, from this one on
+-- the state counts n indices more, and its opening; where there are none, it stays
+abbrev pub Stores : ℕ → Known → Known → Text → KeyOfCode → ℕ → ℕ → ℕ → Type 0
+Stores zero old new state key index openings burnt = Stays old new state
+Stores (suc n) old new state key index openings burnt = new.keeps state (image_of key (index + suc n) (openings + 1) burnt)
+
+-- n indices of the state's key are used, from this one on, and where there are some the opening of the state is counted
 pub record UsesIndices (n : ℕ) (old new : Known) (state : Text) (key : KeyOfCode) (index : ℕ) : Type 0 where
-  pub counted : HasImage key index
+  pub openings : ℕ
+  pub burnt : ℕ
+  pub counted : HasImage key index openings burnt
   pub within : index + n ≤ capacity_of (hss_key_of key)
-  pub opened : IsAt old state key index
-  pub stored : IsAt new state key (index + n)
+  pub opened : IsAt old state key index openings burnt
+  pub stored : Stores n old new state key index openings burnt
 
 -- a signature is the one that the next index of the state's key makes, and is accepted
 pub record SignsNext (old new : Known) (state : Text) (random message signature : List ℕ) (index : ℕ) : Type 0 where
@@ -63,14 +70,14 @@ FailsToOpen at state _ = ⊥
 
 -- the state's key has fewer than n indices left, namely so many
 abbrev pub LacksIndices : ℕ → Known → Text → ℕ → Type 0
-LacksIndices n at state left = (key : KeyOfCode) × (index : ℕ) × HasImage key index × (capacity_of (hss_key_of key) < index + n)
-    × (left ≡ capacity_of (hss_key_of key) - index) × IsAt at state key index
+LacksIndices n at state left = (key : KeyOfCode) × (index openings burnt : ℕ) × HasImage key index openings burnt
+    × (capacity_of (hss_key_of key) < index + n) × (left ≡ capacity_of (hss_key_of key) - index) × IsAt at state key index openings burnt
 
--- n indices from this one on could not be stored as used: the state is what it was, or counts them
+-- n indices from this one on could not be stored as used: the state is what it was, or counts them and its opening
 abbrev pub BurnsIndices : ℕ → Known → Known → Text → ℕ → Type 0
 BurnsIndices n old new state index =
-    (key : KeyOfCode) × HasImage key index × (index + n ≤ capacity_of (hss_key_of key)) × IsAt old state key index
-    × IsOldOr (image_of key (index + n)) old new state
+    (key : KeyOfCode) × (openings burnt : ℕ) × HasImage key index openings burnt × (index + n ≤ capacity_of (hss_key_of key))
+    × IsAt old state key index openings burnt × IsOldOr (image_of key (index + n) (openings + 1) burnt) old new state
 
 -- why nothing was signed, and which indices are used
 abbrev pub FailsToSignNext : Known → Known → Text → Fault → Type 0
@@ -83,17 +90,20 @@ FailsToSignNext old new state (OutOfMemoryBurnt count) =
     (key : KeyOfCode) × (index : ℕ) × UsesIndices 1 old new state key index × (count ≡ 1)
 FailsToSignNext old new state _ = ⊥
 
--- the state was opened: it is that of a key, with so many indices used
+-- the state was opened: it is that of a key, with these numbers
 abbrev pub Opens : Known → Text → Type 0
-Opens at state = (key : KeyOfCode) × (used : ℕ) × HasImage key used × IsAt at state key used
+Opens at state =
+    (key : KeyOfCode) × (used openings burnt : ℕ) × HasImage key used openings burnt × IsAt at state key used openings burnt
 
--- the four lines of the state's key are printed
+-- the six lines of the state's key are printed
 pub record Describes (at : Known) (state : Text) (before after : Option (List ℕ)) : Type 0 where
   pub key : KeyOfCode
   pub used : ℕ
-  pub counted : HasImage key used
-  pub opened : IsAt at state key used
-  pub printed : Appends before after (info_text key used)
+  pub openings : ℕ
+  pub burnt : ℕ
+  pub counted : HasImage key used openings burnt
+  pub opened : IsAt at state key used openings burnt
+  pub printed : Appends before after (info_text key used openings burnt)
 
 -- why no key was described; memory may run out at any state
 abbrev pub FailsToDescribe : Known → Text → Fault → Type 0

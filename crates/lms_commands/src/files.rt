@@ -1,9 +1,9 @@
 //! What every command does with files and states.
 ghost use Rattle.std.specs.Prelude.{[], ◌≡◌, ◌⊎◌, ◌↔◌, ℕ, List, IfErr, IfOk, OnOk};
-ghost use Rattle.lms_image.specs.Image.{image_of, HasImage};
+ghost use Rattle.lms_image.specs.Image.{HasImage};
 ghost use Rattle.lms_book.specs.Stops.{MayLeave};
 ghost use Rattle.lms_world.specs.Known.{Given, SameFiles, SameFilesBut, Stays};
-ghost use Rattle.lms_commands.specs.Signing.{FailsToOpen};
+ghost use Rattle.lms_commands.specs.Signing.{FailsToOpen, IsAt};
 ghost use Rattle.lms_commands.specs.Verifying.{read_fault, RefusedAt};
 
 use crate::fault::Fault;
@@ -99,8 +99,8 @@ pub(crate) fn open_state<W: World>(
     world: &mut W,
     state: &str,
 ) -> Result<Book<W::Store>, Fault>
-    ensures opened { IfOk result (λ book. (W.known world.old).keeps state.now (image_of book.key book.base)) }
-    ensures counted { IfOk result (λ book. HasImage book.key book.base) }
+    ensures opened { IfOk result (λ book. IsAt (W.known world.old) state.now book.key book.base book.openings book.burnt) }
+    ensures counted { IfOk result (λ book. HasImage book.key book.base book.openings book.burnt) }
     ensures fresh { IfOk result (λ book. book.history ≡ []) }
     ensures taken { IfOk result (λ book. (text : List ℕ)
         → MayLeave book.store text ↔ (W.known world.old).keeps state.now text) }

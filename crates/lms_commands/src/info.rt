@@ -1,8 +1,8 @@
 //! `info`: what a key's state says.
 ghost use Rattle.std.specs.Prelude.{◌≡◌, ◌≢◌, IfErr, IfOk, OnOk};
-ghost use Rattle.lms_image.specs.Image.{image_of, HasImage};
+ghost use Rattle.lms_image.specs.Image.{HasImage};
 ghost use Rattle.lms_world.specs.Known.{SameFiles, Stays};
-ghost use Rattle.lms_commands.specs.Signing.{Describes, FailsToDescribe, FailsToOpen};
+ghost use Rattle.lms_commands.specs.Signing.{Describes, FailsToDescribe, FailsToOpen, IsAt};
 
 use crate::description::print_info;
 use crate::fault::Fault;
@@ -12,7 +12,8 @@ use lms_world::World;
 use std::alloc::Global;
 use std::io::Write;
 
-/// Prints four lines on the key of a state: its levels, how many indices are used, how many there are and how many are left.
+/// Prints six lines on the key of a state: its levels, how many indices are used, how many there are and how many are left, how
+/// many openings stored something, and how many indices are burnt.
 ///
 /// `StateInUse` where the state's lock is not available, `ReadState` where the state can't be read, `BadState` where it is
 /// no image, `OutOfMemory` where memory is refused, `Output` where a line can't be printed. The state stays as it was.
@@ -31,21 +32,23 @@ pub fn describe<W: World, O: Write>(
 {
     let _lock = lock_state(alloc, world, state)?;
     let image = read_state(alloc, world, state)?;
-    print_info(output, image.key, image.counter).map_err(|_| Fault::Output)
+    print_info(output, &image).map_err(|_| Fault::Output)
 }
 
-/// The key of a state, and how many of its indices are used.
+/// The key of a state, and what is counted of it.
 fn read_state<W: World>(alloc: Global, world: &mut W, state: &str) -> Result<Image, Fault>
-    ensures opened { IfOk result (λ image. (W.known world.old).keeps state.now (image_of image.key image.counter)) }
+    ensures opened { IfOk result (λ image. IsAt (W.known world.old) state.now image.key image.counter image.openings image.burnt) }
     ensures stays { Stays (W.known world.old) (W.known world.new) state.now }
     ensures files { SameFiles (W.known world.old) (W.known world.new) }
-    ensures counted { IfOk result (λ image. HasImage image.key image.counter) }
+    ensures counted { IfOk result (λ image. HasImage image.key image.counter image.openings image.burnt) }
     ensures failed { IfErr result (FailsToOpen (W.known world.old) state.now) }
 {
     let book = open_state(alloc, world, state)?;
     let image = Image {
         key: book.key(),
-        counter: book.counter(),
+        counter: book.base(),
+        openings: book.openings(),
+        burnt: book.burnt(),
     };
     world.put_back(state, book.close());
     Ok(image)

@@ -106,7 +106,7 @@ fn publish<W: World, O: Write>(
 
 /// Stores a key's state with no index used. `OutOfMemory`, or `WriteState` where it was not stored for certain.
 fn store_key<W: World>(alloc: Global, world: &mut W, key: HssKey, state: &str) -> Result<(), Fault>
-    ensures stored { OnOk result ((W.known world.new).keeps state.now (image_of key 0)) }
+    ensures stored { OnOk result ((W.known world.new).keeps state.now (image_of key 0 0 0)) }
     ensures failed { IfErr result (FailsToStore (W.known world.old) (W.known world.new) key state.now) }
     ensures files { SameFiles (W.known world.old) (W.known world.new) }
 {
@@ -118,8 +118,13 @@ fn store_key<W: World>(alloc: Global, world: &mut W, key: HssKey, state: &str) -
 
 /// Stores a key's image with no index used. A crash at any moment leaves what it could leave before, or that image.
 fn store_unused<S: StateStore>(store: &mut S, key: HssKey) -> Result<(), StoreFault>
-    ensures { WritesStore (image_of key 0) (S.seen store.old) result (S.seen store.new) }
+    ensures { WritesStore (image_of key 0 0 0) (S.seen store.old) result (S.seen store.new) }
 {
-    let image = encode_image(&Image { key, counter: 0 });
+    let image = encode_image(&Image {
+        key,
+        counter: 0,
+        openings: 0,
+        burnt: 0,
+    });
     store.replace(image.as_slice())
 }

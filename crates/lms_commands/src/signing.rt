@@ -6,7 +6,6 @@ ghost use Rattle.lms_spec.specs.Hss.{HssAccepts};
 ghost use Rattle.lms_spec.specs.Profile.{hss_signature, hss_public_key};
 ghost use Rattle.lms_hss.specs.Keys.{hss_key_of};
 ghost use Rattle.lms_book.specs.Books.{counter};
-ghost use Rattle.lms_image.specs.Image.{image_of};
 ghost use Rattle.lms_book.specs.States.{IsOpenedFrom};
 ghost use Rattle.lms_book.specs.Stops.{Texts};
 ghost use Rattle.lms_commands.specs.Faults.{of_signing};
@@ -162,6 +161,8 @@ fn sign_next<S: StateStore>(
 ) -> Result<Signed, SignFault>
     ensures key { book.new.key ≡ book.old.key }
     ensures base { book.new.base ≡ book.old.base }
+    ensures openings { book.new.openings ≡ book.old.openings }
+    ensures burnt { book.new.burnt ≡ book.old.burnt }
     ensures opened { (held : Texts) → IsOpenedFrom held book.old → IsOpenedFrom held book.new }
     ensures index { IfOk result (λ signed. signed.index ≡ counter book.old) }
     ensures reserved { IfOk result (λ _. GivesOne book.old book.new) }
