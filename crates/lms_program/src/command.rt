@@ -26,7 +26,8 @@ Never use a seed and identifier twice, whatever the levels: the same one-time ke
 const INFO_NOTE: &str = "Example:
   lms_tool info --state key.state
 
-Prints the levels, how many indices are used (counter), how many there are (capacity) and how many are left (left).";
+Prints the levels, how many indices are used (counter), how many there are (capacity) and how many are left (left), how many
+times the state was opened for signing (openings), and how many indices were lost (burnt).";
 
 const SIGN_NOTE: &str = "Example:
   lms_tool sign --state key.state --random \"$(openssl rand -hex 32)\" --message firmware.bin --out firmware.sig

@@ -71,6 +71,7 @@ fn what_is_stored_is_read(rt: HostRuntime) -> Result<(), Fail> {
     assert!(rt; reads_none(&rt, &mut store, ReadFault::Device));
     assert!(rt; keeps(&rt, &mut store, name, b"a")?);
     assert!(rt; keeps(&rt, &mut store, name, b"")?);
+    assert!(rt; keeps(&rt, &mut store, name, &[7; 180])?);
     assert!(rt; keeps(&rt, &mut store, name, &[7; 256])?);
     fs::write(&rt, name, b"b".as_slice())?;
     assert!(rt; reads_none(&rt, &mut store, ReadFault::Device));

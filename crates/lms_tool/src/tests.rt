@@ -9,6 +9,7 @@ mod locked;
 mod memory;
 mod options;
 mod state;
+mod states;
 mod stopping;
 mod stops;
 mod words;

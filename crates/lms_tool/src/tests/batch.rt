@@ -1,5 +1,6 @@
 //! `batch`: job lines signed by the whole program.
-use super::state::{ONE, RANDOM, TWO, is_at, keyed};
+use super::state::{ONE, RANDOM, TWO};
+use super::states::{is_at, keyed};
 use super::{Ended, VERIFY, says};
 use lms_hss::{HssKey, Levels};
 use lms_program::run::run;

@@ -1,6 +1,7 @@
 //! `batch` over streams, states and memory that fail.
 use super::batch::{batch, end_of_batch, end_of_batch_to, lines, push_line};
-use super::state::{CHEAP, ONE, TWO, image_of, is_at, keyed, store_at, store_of};
+use super::state::{CHEAP, ONE, TWO};
+use super::states::{image_of, is_at, keyed, store_at, store_of};
 use super::{Closed, Ended, Stuck};
 use lms_book::{Left, MemoryStore};
 use lms_commands::Status;

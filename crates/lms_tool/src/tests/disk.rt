@@ -1,5 +1,6 @@
 //! The program over the files of the disk.
 use super::state::{ID, RANDOM, SEED};
+use super::states::first_state;
 use super::stopping::{StoppingFiles, counter};
 use super::{end_of, ends};
 use lms_store::lock;
@@ -129,7 +130,28 @@ fn goes_a_whole_round(rt: HostRuntime) -> Result<(), Fail> {
     assert!(rt; says(&rt, &rt, &SIGN, 0, "index 0\n"));
     assert!(rt; says(&rt, &rt, &VERIFY, 0, "valid\n"));
     assert!(rt; says(&rt, &rt, &SIGN, 0, "index 1\n"));
-    let lines = "levels 5/8\ncounter 2\ncapacity 32\nleft 30\n";
+    let lines = "levels 5/8\ncounter 2\ncapacity 32\nleft 30\nopenings 2\nburnt 0\n";
+    assert!(rt; says(&rt, &rt, &INFO, 0, lines));
+    end(&rt)
+}
+
+/// Whether the state is a file of this many bytes.
+fn state_has(rt: &HostRuntime, bytes: u64) -> Result<bool, Fail> {
+    Ok(fs::metadata(rt, "program_files/key.state")?.len() == bytes)
+}
+
+/// A state that version 1 wrote is described as it is, and turned by its first signature.
+#[test]
+fn opens_a_state_of_version_1(rt: HostRuntime) -> Result<(), Fail> {
+    begin(&rt)?;
+    let first = first_state(rt.alloc())?;
+    fs::write(&rt, "program_files/key.state", first.as_slice())?;
+    let lines = "levels 5/8\ncounter 10\ncapacity 32\nleft 22\nopenings 0\nburnt 0\n";
+    assert!(rt; says(&rt, &rt, &INFO, 0, lines));
+    assert!(rt; fs::read(&rt, rt.alloc(), "program_files/key.state")? == first);
+    assert!(rt; says(&rt, &rt, &SIGN, 0, "index 10\n"));
+    assert!(rt; state_has(&rt, 124)?);
+    let lines = "levels 5/8\ncounter 11\ncapacity 32\nleft 21\nopenings 1\nburnt 0\n";
     assert!(rt; says(&rt, &rt, &INFO, 0, lines));
     end(&rt)
 }

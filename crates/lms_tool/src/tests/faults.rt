@@ -1,5 +1,6 @@
 //! States, files and streams that fail, in memory.
-use super::state::{INFO, ONE, is_at, keyed, keygen_one, sign_text, store_at, store_of};
+use super::state::{INFO, ONE, keygen_one, sign_text};
+use super::states::{is_at, keyed, store_at, store_of};
 use super::{Closed, VERIFY, fails_with, is_unprinted, says};
 use lms_book::Left;
 use lms_world::{MemoryWorld, World, WorldFault};

@@ -43,7 +43,7 @@ fn eight_levels_go_a_whole_round(rt: HostRuntime) -> Result<(), Fail> {
     assert!(rt; says(&rt, &SIGN, &mut world, 0, "index 0\n"));
     assert!(rt; says(&rt, &VERIFY, &mut world, 0, "valid\n"));
     let lines = "levels 5/1,5/1,5/1,5/2,5/2,5/2,5/4,10/1\ncounter 1\n\
-        capacity 35184372088832\nleft 35184372088831\n";
+        capacity 35184372088832\nleft 35184372088831\nopenings 1\nburnt 0\n";
     assert!(rt; says(&rt, &INFO, &mut world, 0, lines));
     Ok(())
 }

@@ -1,5 +1,6 @@
 //! Each line is printed by one write, and passed on.
-use super::state::{INFO, image_of, keyed, keygen_one, sign_text, store_of};
+use super::state::{INFO, keygen_one, sign_text};
+use super::states::{keyed_with, store_of};
 use super::{VERIFY, status_of};
 use lms_commands::{Fault, print_fault};
 use lms_params::{LmsType, OtsType};
@@ -59,7 +60,7 @@ fn each_line_is_one_write(rt: HostRuntime) -> Result<(), Fail> {
     world.write("text", b"abc")?;
     assert!(rt; prints(&rt, &keygen_one(), &mut world, "capacity 32\n|!", ""));
     assert!(rt; prints(&rt, &sign_text(), &mut world, "index 0\n|!", ""));
-    let lines = "levels 5/8\n|!counter 1\n|!capacity 32\n|!left 31\n|!";
+    let lines = "levels 5/8\n|!counter 1\n|!capacity 32\n|!left 31\n|!openings 1\n|!burnt 0\n|!";
     assert!(rt; prints(&rt, &INFO, &mut world, lines, ""));
     assert!(rt; prints(&rt, &VERIFY, &mut world, "valid\n|!", ""));
     world.write("text", b"another")?;
@@ -94,9 +95,10 @@ fn texts_of_clap_are_passed_on(rt: HostRuntime) {
 
 #[test]
 fn the_longest_lines_have_room(rt: HostRuntime) -> Result<(), Fail> {
-    let mut world = keyed(rt.alloc(), &EIGHT, 1 << 60)?;
+    let mut world = keyed_with(rt.alloc(), &EIGHT, 1 << 60, 1 << 60, 1 << 60)?;
     let lines = "levels 10/8,10/8,10/8,10/8,5/8,5/8,5/8,5/8\n|!\
-        counter 1152921504606846976\n|!capacity 1152921504606846976\n|!left 0\n|!";
+        counter 1152921504606846976\n|!capacity 1152921504606846976\n|!left 0\n|!\
+        openings 1152921504606846976\n|!burnt 1152921504606846976\n|!";
     assert!(rt; prints(&rt, &INFO, &mut world, lines, ""));
     Ok(())
 }

@@ -1,5 +1,6 @@
 //! Commands to which memory is refused once, where it is.
-use super::state::{CHEAP, ID, INFO, SEED, is_at, keygen, sign_text};
+use super::state::{CHEAP, ID, INFO, SEED, keygen, sign_text};
+use super::states::is_at;
 use super::{Ended, VERIFY, end_of};
 use lms_world::{MemoryWorld, World};
 use std::alloc::Global;

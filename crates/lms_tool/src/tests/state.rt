@@ -1,9 +1,9 @@
 ghost use Rattle.std.specs.Prelude.{◌≡◌, ◌<◌};
 
+use super::states::{
+    first_state, has_text, image_of, is_at, is_with, keyed, keyed_with, stated, store_of,
+};
 use super::{VERIFY, fails_with, says};
-use lms_book::MemoryStore;
-use lms_hss::{HssKey, Levels};
-use lms_image::{Image, encode_image};
 use lms_params::{LmsType, OtsType};
 use lms_slow::{SlowKey, slow_public, slow_sign};
 use lms_world::{MemoryWorld, World};
@@ -80,69 +80,6 @@ fn slow_key(levels: &[(LmsType, OtsType)]) -> SlowKey<'_>
     }
 }
 
-/// The text of the state with these levels and this counter.
-pub(super) fn image_of(
-    levels: &[(LmsType, OtsType)],
-    counter: u64,
-) -> Result<lms_image::ImageBytes, Fail> {
-    let levels = Levels::new(levels)
-        .ok()
-        .ok_or("the signer takes the levels")?;
-    let key = HssKey::new(levels, [0x11; 32], [0x22; 16]);
-    if counter > key.capacity() {
-        return Err(Fail::from("a counter past the capacity"));
-    }
-    Ok(encode_image(&Image { key, counter }))
-}
-
-pub(super) fn store_of(alloc: Global, text: Option<&[u8]>) -> Result<MemoryStore, Fail> {
-    if let Some(text) = text {
-        if text.len() > 256 {
-            return Err(Fail::from("a text of over 256 bytes"));
-        }
-    }
-    Ok(
-        MemoryStore::new(alloc, text, 8)
-            .ok()
-            .ok_or("memory for a store")?,
-    )
-}
-
-/// A store with the state of these levels and this counter.
-pub(super) fn store_at(
-    alloc: Global,
-    levels: &[(LmsType, OtsType)],
-    counter: u64,
-) -> Result<MemoryStore, Fail> {
-    let image = image_of(levels, counter)?;
-    store_of(alloc, Some(image.as_slice()))
-}
-
-/// A message, and the state with these levels and this counter.
-pub(super) fn keyed(
-    alloc: Global,
-    levels: &[(LmsType, OtsType)],
-    counter: u64,
-) -> Result<MemoryWorld, Fail> {
-    let mut world = MemoryWorld::new(alloc);
-    world.write("text", b"abc")?;
-    world.set_state(store_at(alloc, levels, counter)?);
-    Ok(world)
-}
-
-/// Whether the state is that with these levels and this counter.
-pub(super) fn is_at(
-    world: &MemoryWorld,
-    levels: &[(LmsType, OtsType)],
-    counter: u64,
-) -> Result<bool, Fail> {
-    let image = image_of(levels, counter)?;
-    Ok(match world.state() {
-        Some(store) => store.text() == Some(image.as_slice()),
-        None => false,
-    })
-}
-
 /// Whether a key of 5/8 is made, with the slow signer's public key.
 fn makes_a_key(
     rt: &(impl Threads + Wait + AllocGlobal + Sync),
@@ -158,10 +95,11 @@ fn makes_a_key_and_signs(rt: HostRuntime) -> Result<(), Fail> {
     let mut world = MemoryWorld::new(rt.alloc());
     world.write("text", b"abc")?;
     assert!(rt; makes_a_key(&rt, &mut world)?);
-    assert!(rt; is_at(&world, &ONE, 0)?);
+    assert!(rt; is_with(&world, &ONE, 0, 0, 0)?);
     assert!(rt; says(&rt, &sign_text(), &mut world, 0, "index 0\n"));
     assert!(rt; says(&rt, &VERIFY, &mut world, 0, "valid\n"));
-    let lines = "levels 5/8\ncounter 1\ncapacity 32\nleft 31\n";
+    assert!(rt; is_with(&world, &ONE, 1, 1, 0)?);
+    let lines = "levels 5/8\ncounter 1\ncapacity 32\nleft 31\nopenings 1\nburnt 0\n";
     assert!(rt; says(&rt, &INFO, &mut world, 0, lines));
     assert!(rt; says(&rt, &sign_text(), &mut world, 0, "index 1\n"));
     Ok(())
@@ -169,10 +107,23 @@ fn makes_a_key_and_signs(rt: HostRuntime) -> Result<(), Fail> {
 
 #[test]
 fn describes_two_levels(rt: HostRuntime) -> Result<(), Fail> {
-    let mut world = keyed(rt.alloc(), &TWO, 12)?;
-    let lines = "levels 5/8,5/8\ncounter 12\ncapacity 1024\nleft 1012\n";
+    let mut world = keyed_with(rt.alloc(), &TWO, 12, 2, 3)?;
+    let lines = "levels 5/8,5/8\ncounter 12\ncapacity 1024\nleft 1012\nopenings 2\nburnt 3\n";
     assert!(rt; says(&rt, &INFO, &mut world, 0, lines));
-    assert!(rt; is_at(&world, &TWO, 12)?);
+    assert!(rt; is_with(&world, &TWO, 12, 2, 3)?);
+    Ok(())
+}
+
+/// `info` leaves what version 1 wrote; the first signature is stored by version 2.
+#[test]
+fn a_signature_turns_version_1(rt: HostRuntime) -> Result<(), Fail> {
+    let first = first_state(rt.alloc())?;
+    let mut world = stated(rt.alloc(), &first)?;
+    let lines = "levels 5/8\ncounter 10\ncapacity 32\nleft 22\nopenings 0\nburnt 0\n";
+    assert!(rt; says(&rt, &INFO, &mut world, 0, lines));
+    assert!(rt; has_text(&world, &first));
+    assert!(rt; says(&rt, &sign_text(), &mut world, 0, "index 10\n"));
+    assert!(rt; is_with(&world, &ONE, 11, 1, 0)?);
     Ok(())
 }
 

@@ -33,7 +33,12 @@ fn begin(rt: &HostRuntime) -> Result<(), Fail> {
         .ok()
         .ok_or("the signer takes the levels")?;
     let key = HssKey::new(levels, [0x11; 32], [0x22; 16]);
-    let image = encode_image(&Image { key, counter: 0 });
+    let image = encode_image(&Image {
+        key,
+        counter: 0,
+        openings: 0,
+        burnt: 0,
+    });
     fs::write(rt, STATE, image.as_slice())?;
     Ok(())
 }

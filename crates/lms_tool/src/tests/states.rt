@@ -1,0 +1,146 @@
+//! States of keys, and worlds that have them.
+use lms_book::MemoryStore;
+use lms_hss::{HssKey, Levels};
+use lms_image::{Image, decode_image, encode_image};
+use lms_params::{LmsType, OtsType};
+use lms_world::{MemoryWorld, World};
+use std::alloc::Global;
+use std::test::Fail;
+
+/// What version 1 wrote of 5/8 with counter 10, by a Python program.
+const FIRST_STATE: &str =
+    "4853534b000000010000000100000005000000041111111111111111111111111111111111111111\
+    11111111111111111111111122222222222222222222222222222222000000000000000afe473615\
+    7ef0b519fef10949bc7819f4f3fd6f81660e1a1435ccf5ffba43491e";
+
+/// The bytes of a state that version 1 wrote, of 5/8 with counter 10.
+pub(super) fn first_state(alloc: Global) -> Result<Vec<u8>, Fail> {
+    Ok(hex::decode(alloc, FIRST_STATE)?)
+}
+
+/// The key of these levels.
+fn key_of(levels: &[(LmsType, OtsType)]) -> Result<HssKey, Fail> {
+    let levels = Levels::new(levels)
+        .ok()
+        .ok_or("the signer takes the levels")?;
+    Ok(HssKey::new(levels, [0x11; 32], [0x22; 16]))
+}
+
+/// The text of the state with these levels and these numbers.
+pub(super) fn image_with(
+    levels: &[(LmsType, OtsType)],
+    counter: u64,
+    openings: u64,
+    burnt: u64,
+) -> Result<lms_image::ImageBytes, Fail> {
+    let key = key_of(levels)?;
+    if counter > key.capacity() || openings > counter || burnt > counter {
+        return Err(Fail::from("numbers past the counter or the capacity"));
+    }
+    Ok(encode_image(&Image {
+        key,
+        counter,
+        openings,
+        burnt,
+    }))
+}
+
+/// The text of the state with these levels and this counter, with no opening counted and no index lost.
+pub(super) fn image_of(
+    levels: &[(LmsType, OtsType)],
+    counter: u64,
+) -> Result<lms_image::ImageBytes, Fail> {
+    image_with(levels, counter, 0, 0)
+}
+
+pub(super) fn store_of(alloc: Global, text: Option<&[u8]>) -> Result<MemoryStore, Fail> {
+    if let Some(text) = text {
+        if text.len() > 256 {
+            return Err(Fail::from("a text of over 256 bytes"));
+        }
+    }
+    Ok(
+        MemoryStore::new(alloc, text, 8)
+            .ok()
+            .ok_or("memory for a store")?,
+    )
+}
+
+/// A store with the state of these levels and this counter.
+pub(super) fn store_at(
+    alloc: Global,
+    levels: &[(LmsType, OtsType)],
+    counter: u64,
+) -> Result<MemoryStore, Fail> {
+    let image = image_of(levels, counter)?;
+    store_of(alloc, Some(image.as_slice()))
+}
+
+/// A message, and a state of this text.
+pub(super) fn stated(alloc: Global, text: &[u8]) -> Result<MemoryWorld, Fail> {
+    let mut world = MemoryWorld::new(alloc);
+    world.write("text", b"abc")?;
+    world.set_state(store_of(alloc, Some(text))?);
+    Ok(world)
+}
+
+/// A message, and the state with these levels and this counter.
+pub(super) fn keyed(
+    alloc: Global,
+    levels: &[(LmsType, OtsType)],
+    counter: u64,
+) -> Result<MemoryWorld, Fail> {
+    stated(alloc, image_of(levels, counter)?.as_slice())
+}
+
+/// A message, and the state with these levels and these numbers.
+pub(super) fn keyed_with(
+    alloc: Global,
+    levels: &[(LmsType, OtsType)],
+    counter: u64,
+    openings: u64,
+    burnt: u64,
+) -> Result<MemoryWorld, Fail> {
+    stated(
+        alloc,
+        image_with(levels, counter, openings, burnt)?.as_slice(),
+    )
+}
+
+/// Whether the state has this text.
+pub(super) fn has_text(world: &MemoryWorld, text: &[u8]) -> bool {
+    match world.state() {
+        Some(store) => store.text() == Some(text),
+        None => false,
+    }
+}
+
+/// Whether the state is that with these levels and these numbers.
+pub(super) fn is_with(
+    world: &MemoryWorld,
+    levels: &[(LmsType, OtsType)],
+    counter: u64,
+    openings: u64,
+    burnt: u64,
+) -> Result<bool, Fail> {
+    Ok(has_text(
+        world,
+        image_with(levels, counter, openings, burnt)?.as_slice(),
+    ))
+}
+
+/// Whether the state is one with these levels and this counter, whatever else it counts.
+pub(super) fn is_at(
+    world: &MemoryWorld,
+    levels: &[(LmsType, OtsType)],
+    counter: u64,
+) -> Result<bool, Fail> {
+    let key = key_of(levels)?;
+    let Some(store) = world.state() else {
+        return Ok(false);
+    };
+    Ok(match decode_image(store.text().unwrap_or(&[])) {
+        Ok(image) => image.key == key && image.counter == counter,
+        Err(_) => false,
+    })
+}
