@@ -10,13 +10,22 @@ use std::test::Fail;
 /// The levels 5/8, with 32 indices.
 pub(crate) const LEVELS: [(LmsType, OtsType); 1] = [(LmsType::H5, OtsType::W8)];
 
-/// The image of version 1 of this key with counter 10, by a Python program.
-const FIRST_IMAGE: &[u8] =
-    b"HSSK\x00\x00\x00\x01\x00\x00\x00\x01\x00\x00\x00\x05\x00\x00\x00\x04\x11\x11\x11\x11\x11\x11\
-    \x11\x11\x11\x11\x11\x11\x11\x11\x11\x11\x11\x11\x11\x11\x11\x11\x11\x11\x11\x11\x11\x11\x11\
-    \x11\x11\x11\x22\x22\x22\x22\x22\x22\x22\x22\x22\x22\x22\x22\x22\x22\x22\x22\x00\x00\x00\x00\
-    \x00\x00\x00\x0a\xfeG6\x15\x7e\xf0\xb5\x19\xfe\xf1\x09I\xbcx\x19\xf4\xf3\xfdo\x81f\x0e\x1a\
-    \x145\xcc\xf5\xff\xbaCI\x1e";
+/// What version 1 wrote, by a Python program: of 5/8 with counter 10, of 5/8 with no index left, and of 15/8 four times with one
+/// index left, each of a seed of bytes 0x11.
+pub(crate) const FIRST_SMALL: &str =
+    "4853534b000000010000000100000005000000041111111111111111111111111111111111111111111111111111111111\
+    11111122222222222222222222222222222222000000000000000afe4736157ef0b519fef10949bc7819f4f3fd6f81660e\
+    1a1435ccf5ffba43491e";
+
+pub(crate) const FIRST_EXHAUSTED: &str =
+    "4853534b000000010000000100000005000000041111111111111111111111111111111111111111111111111111111111\
+    111111222222222222222222222222222222220000000000000020de6e15cdac49703b45bd4c3a86f8056ad2bfd172ac24\
+    2755b7b92183f5481504";
+
+pub(crate) const FIRST_TALL: &str =
+    "4853534b00000001000000040000000700000004000000070000000400000007000000040000000700000004111111111111\
+    1111111111111111111111111111111111111111111111111111222222222222222222222222222222220fffffffffffffff\
+    cbd66f61fe746ad73f25d16a961319fc43fd46f99880f804bda0db84194e9229";
 
 /// How many writes a store of the tests has room for.
 const ROOM: usize = 1024;
@@ -40,7 +49,7 @@ pub(crate) fn store_of(alloc: Global, text: &[u8]) -> Result<MemoryStore, Fail> 
     }
 }
 
-/// A store that holds the image of this key and this counter, with no opening counted and no index lost.
+/// A store that holds the image of this key and this counter, with no opening and no burnt index counted.
 pub(crate) fn store_at(alloc: Global, key: HssKey, counter: u64) -> Result<MemoryStore, Fail> {
     if counter > key.capacity() {
         return Err(Fail::from("a counter past the capacity"));
@@ -59,9 +68,9 @@ pub(crate) fn small_store(alloc: Global, counter: u64) -> Result<MemoryStore, Fa
     store_at(alloc, key_of(&LEVELS, 0x11)?, counter)
 }
 
-/// A store that holds what version 1 wrote of 5/8 with counter 10.
-pub(crate) fn first_store(alloc: Global) -> Result<MemoryStore, Fail> {
-    store_of(alloc, FIRST_IMAGE)
+/// A store that holds this image of version 1.
+pub(crate) fn first_store(alloc: Global, image: &str) -> Result<MemoryStore, Fail> {
+    store_of(alloc, &hex::decode(alloc, image)?)
 }
 
 /// A store that holds the image of another key of 5/8, with no index used.

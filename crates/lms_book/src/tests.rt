@@ -1,6 +1,9 @@
 ghost use Rattle.std.specs.Prelude.{◌≡◌, ◌≤◌, [], IfOk};
 
-use crate::fixtures::{LEVELS, another_store, key_of, small_store, store_at, store_of};
+use crate::fixtures::{
+    FIRST_EXHAUSTED, FIRST_TALL, LEVELS, another_store, first_store, key_of, small_store, store_at,
+    store_of,
+};
 use crate::{Book, BookFault, Entry, Left, MemoryStore, OpenFault, ReadFault, StoreFault};
 use lms_hss::HssKey;
 use lms_image::{Image, ImageFault, encode_image};
@@ -84,7 +87,7 @@ fn has_history(book: &Book<MemoryStore>, history: &[Entry]) -> bool {
 }
 
 /// Whether the book says these numbers of openings and of burnt indices.
-fn says_lost(book: &Book<MemoryStore>, openings: u64, burnt: u64) -> bool {
+fn tells(book: &Book<MemoryStore>, openings: u64, burnt: u64) -> bool {
     book.openings() == openings && book.burnt() == burnt
 }
 
@@ -119,7 +122,7 @@ fn ranges_follow_each_other(rt: HostRuntime) -> Result<(), Fail> {
     assert!(rt; has_history(&book, &history));
     let key = key_of(&LEVELS, 0x11)?;
     assert!(rt; book.key() == key);
-    assert!(rt; says_lost(&book, 0, 0));
+    assert!(rt; tells(&book, 0, 0));
     assert!(rt; leaves(book, key, 32, 1, 0));
     Ok(())
 }
@@ -175,9 +178,9 @@ fn a_failed_write_burns(rt: HostRuntime) -> Result<(), Fail> {
         let mut book = opened(rt.alloc(), store)?;
         assert!(rt; gives(&mut book, 10, 0));
         assert!(rt; burns(&mut book, 5, 10));
-        assert!(rt; counts(&book, 0, 15, 10) && says_lost(&book, 0, 5));
+        assert!(rt; counts(&book, 0, 15, 10) && tells(&book, 0, 5));
         assert!(rt; gives(&mut book, 5, 15));
-        assert!(rt; counts(&book, 0, 20, 20) && says_lost(&book, 0, 5));
+        assert!(rt; counts(&book, 0, 20, 20) && tells(&book, 0, 5));
         let history = [
             Entry::Given { len: 10 },
             Entry::Burnt { len: 5 },
@@ -229,6 +232,23 @@ fn a_tall_key_is_used_up(rt: HostRuntime) -> Result<(), Fail> {
     assert!(rt; gives(&mut book, 1, 1152921504606846975));
     assert!(rt; refuses(&mut book, 1, 0));
     let mut book = reopened(rt.alloc(), book)?;
+    assert!(rt; refuses(&mut book, 1, 0));
+    Ok(())
+}
+
+#[test]
+fn an_exhausted_key_of_version_1_opens(rt: HostRuntime) -> Result<(), Fail> {
+    let mut book = opened(rt.alloc(), first_store(rt.alloc(), FIRST_EXHAUSTED)?)?;
+    assert!(rt; counts(&book, 32, 32, 32) && tells(&book, 0, 0));
+    assert!(rt; refuses(&mut book, 1, 0));
+    Ok(())
+}
+
+#[test]
+fn a_tall_key_of_version_1_is_used_up(rt: HostRuntime) -> Result<(), Fail> {
+    let mut book = opened(rt.alloc(), first_store(rt.alloc(), FIRST_TALL)?)?;
+    assert!(rt; refuses(&mut book, 2, 1));
+    assert!(rt; gives(&mut book, 1, 1152921504606846975));
     assert!(rt; refuses(&mut book, 1, 0));
     Ok(())
 }

@@ -1,7 +1,7 @@
 ghost use Rattle.std.specs.Prelude.{◌≡◌, ◌≤◌, [], IfOk};
 
-use super::{burns, counts, gives, leaves, opened, refuses, reopened, reserved, says_lost};
-use crate::fixtures::{LEVELS, first_store, key_of, small_store};
+use super::{burns, counts, gives, leaves, opened, refuses, reopened, reserved, tells};
+use crate::fixtures::{FIRST_SMALL, LEVELS, first_store, key_of, small_store};
 use crate::{Book, BookFault, Left, MemoryStore};
 use std::alloc::Global;
 use std::test::Fail;
@@ -17,7 +17,7 @@ fn a_life_of_failed_writes(rt: HostRuntime) -> Result<(), Fail> {
     assert!(rt; burns(&mut book, 4, 8));
     assert!(rt; counts(&book, 0, 12, 4));
     let mut book = reopened(rt.alloc(), book)?;
-    assert!(rt; counts(&book, 8, 8, 8) && says_lost(&book, 1, 0));
+    assert!(rt; counts(&book, 8, 8, 8) && tells(&book, 1, 0));
     assert!(rt; gives(&mut book, 24, 8));
     assert!(rt; refuses(&mut book, 1, 0));
     assert!(rt; leaves(book, key_of(&LEVELS, 0x11)?, 32, 2, 0));
@@ -28,7 +28,7 @@ fn a_life_of_failed_writes(rt: HostRuntime) -> Result<(), Fail> {
 fn first_book_burns(alloc: Global, left: Left) -> Result<Book<MemoryStore>, Fail>
     ensures { IfOk result (λ book. book.history ≡ []) }
 {
-    let mut store = first_store(alloc)?;
+    let mut store = first_store(alloc, FIRST_SMALL)?;
     store.fail_replace(1, left);
     opened(alloc, store)
 }
@@ -37,12 +37,12 @@ fn first_book_burns(alloc: Global, left: Left) -> Result<Book<MemoryStore>, Fail
 fn version_1_is_replaced_by_the_first_write(rt: HostRuntime) -> Result<(), Fail> {
     let key = key_of(&LEVELS, 0x11)?;
     let mut book = first_book_burns(rt.alloc(), Left::New)?;
-    assert!(rt; counts(&book, 10, 10, 10) && says_lost(&book, 0, 0));
+    assert!(rt; counts(&book, 10, 10, 10) && tells(&book, 0, 0));
     assert!(rt; burns(&mut book, 5, 10));
-    assert!(rt; says_lost(&book, 0, 5));
+    assert!(rt; tells(&book, 0, 5));
     assert!(rt; gives(&mut book, 5, 15));
     let mut book = reopened(rt.alloc(), book)?;
-    assert!(rt; counts(&book, 20, 20, 20) && says_lost(&book, 1, 5));
+    assert!(rt; counts(&book, 20, 20, 20) && tells(&book, 1, 5));
     assert!(rt; gives(&mut book, 1, 20));
     assert!(rt; leaves(book, key, 21, 2, 5));
     Ok(())
@@ -55,32 +55,35 @@ fn a_failed_first_write_over_version_1(rt: HostRuntime) -> Result<(), Fail> {
         let mut book = first_book_burns(rt.alloc(), left)?;
         assert!(rt; burns(&mut book, 5, 10));
         let book = reopened(rt.alloc(), book)?;
-        assert!(rt; counts(&book, base, base, base) && says_lost(&book, openings, 0));
+        assert!(rt; counts(&book, base, base, base) && tells(&book, openings, 0));
     }
     Ok(())
 }
 
-/// The texts that a failed first write and the one after it leave.
 #[test]
-fn what_writes_over_version_1_leave(rt: HostRuntime) -> Result<(), Fail> {
-    let key = key_of(&LEVELS, 0x11)?;
+fn a_failed_first_write_may_leave_its_image(rt: HostRuntime) -> Result<(), Fail> {
     let mut book = first_book_burns(rt.alloc(), Left::New)?;
     assert!(rt; burns(&mut book, 5, 10));
-    assert!(rt; leaves(book, key, 15, 1, 0));
+    assert!(rt; leaves(book, key_of(&LEVELS, 0x11)?, 15, 1, 0));
+    Ok(())
+}
+
+#[test]
+fn a_write_after_a_failed_first_one(rt: HostRuntime) -> Result<(), Fail> {
     let mut book = first_book_burns(rt.alloc(), Left::Old)?;
     assert!(rt; burns(&mut book, 5, 10));
     assert!(rt; gives(&mut book, 5, 15));
-    assert!(rt; leaves(book, key, 20, 1, 5));
+    assert!(rt; leaves(book, key_of(&LEVELS, 0x11)?, 20, 1, 5));
     Ok(())
 }
 
 /// Opening alone writes nothing, and is not counted.
 #[test]
 fn an_opening_that_stores_nothing_is_not_counted(rt: HostRuntime) -> Result<(), Fail> {
-    let book = opened(rt.alloc(), first_store(rt.alloc())?)?;
+    let book = opened(rt.alloc(), first_store(rt.alloc(), FIRST_SMALL)?)?;
     let book = reopened(rt.alloc(), book)?;
-    assert!(rt; counts(&book, 10, 10, 10) && says_lost(&book, 0, 0));
-    assert!(rt; book.close().text() == first_store(rt.alloc())?.text());
+    assert!(rt; counts(&book, 10, 10, 10) && tells(&book, 0, 0));
+    assert!(rt; book.close().text() == first_store(rt.alloc(), FIRST_SMALL)?.text());
     Ok(())
 }
 
