@@ -13,3 +13,8 @@ returns-in_err-make_key-in-Keygen-clause-failed g c =
     let key = rw (c.deref.ensures, c.deref-in-Keygen.ensures, c.deref-in-Keygen-2.ensures) at c.in_ok-key-in-Keygen.ensures.key in
     let failed = rw (c.deref-in-Keygen-3.ensures, c.deref-in-Keygen-4.ensures) at c.in_err-make_key-in-Keygen.ensures.failed in
     rw c.in-Keygen.is (passed_up _ _ _ c.from_residual-in_err-make_key-in-Keygen.ensures.1 (inr (c.in_ok-key-in-Keygen.key, key, failed)))
+
+pub returns-in_err-sign_jobs-in-Batch-clause-failed : goal.returns-in_err-sign_jobs-in-Batch-clause-failed
+returns-in_err-sign_jobs-in-Batch-clause-failed g c =
+    let failed = rw (c.deref-in-Batch.ensures, c.deref-in-Batch-2.ensures) at c.in_err-sign_jobs-in-Batch.ensures.failed in
+    rw c.in-Batch.is (passed_up _ _ _ c.from_residual-in_err-sign_jobs-in-Batch.ensures.1 failed)
