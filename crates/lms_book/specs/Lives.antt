@@ -98,7 +98,7 @@ IsNumberedPast first second = GaveLease first → number_in first < number_in se
 abbrev pub OpeningsAreNumbered : Type 0
 OpeningsAreNumbered = (life : List Opening) → IsLife life → AllPairs IsNumberedPast life
 
--- what was reserved since a store was opened is an opening of which this law speaks, and what a stop now leaves is left by it
+-- what was reserved since a store was opened is an opening of which these laws speak, and what a stop now leaves is left by it
 pub record IsOpened (opening : Opening) (now : Texts) : Type 0 where
   pub lawful : IsOpening opening
   pub left : (text : List ℕ) → IsAmong now text → IsAmong (texts_left opening) text

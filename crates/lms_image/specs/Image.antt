@@ -1,5 +1,5 @@
 -- The text that a store keeps of a key, of how many of its indices are used, of how many openings stored something and of
--- how many indices were lost: the state image, in its two versions. Its numbers are big-endian. A text is a list of numbers
+-- how many indices were burnt: the state image, in its two versions. Its numbers are big-endian. A text is a list of numbers
 -- below 256.
 use Rattle.std.specs.Prelude.{ℕ, ◌≡◌, ◌⊎◌, ◌+◌, ◌-◌, ◌*◌, ◌^◌, ◌<◌, ◌≤◌, Bool, not, ◌||◌, ◌&&◌, ◌==◌, nat_lt, if◌then◌else◌, List, [], ◌∷◌, ◌++◌, length, map, take, drop, sum_by, find, All, Option, is_some, option_map, unwrap_or, codes, false}
 use Rattle.std.specs.List.{concat, list_all}
@@ -80,7 +80,7 @@ fields_of version key counter openings burnt = record {
 }
 
 -- the image of a key, of how many of its indices are used, of how many openings stored something, and of how many indices
--- were lost: version 2, which alone is written
+-- were burnt: version 2, which alone is written
 unfoldable pub image_of : KeyOfCode → ℕ → ℕ → ℕ → List ℕ
 image_of key counter openings burnt = sealed (body_text (fields_of Second key counter openings burnt))
 
@@ -88,13 +88,13 @@ image_of key counter openings burnt = sealed (body_text (fields_of Second key co
 unfoldable pub first_image_of : KeyOfCode → ℕ → List ℕ
 first_image_of key counter = sealed (body_text (fields_of First key counter 0 0))
 
--- the text is an image of these: version 2, or version 1, which counts no openings and no lost indices
+-- the text is an image of these: version 2, or version 1, which counts no openings and no burnt indices
 abbrev pub IsImage : List ℕ → KeyOfCode → ℕ → ℕ → ℕ → Type 0
 IsImage text key counter openings burnt =
     (text ≡ image_of key counter openings burnt) ⊎ ((text ≡ first_image_of key counter) × (openings ≡ 0) × (burnt ≡ 0))
 
 -- a key and numbers that have an image: the signer takes the levels, the seed has 32 bytes and the identifier 16, the counter
--- is at most the capacity, at which the key is exhausted, and neither more openings nor more lost indices are counted than
+-- is at most the capacity, at which the key is exhausted, and neither more openings nor more burnt indices are counted than
 -- used indices
 pub record HasImage (key : KeyOfCode) (counter openings burnt : ℕ) : Type 0 where
   pub admitted : IsAdmitted key.levels
@@ -138,7 +138,7 @@ counter_in text = number_at (60 + 8 * count_in text) 8 text
 abbrev pub later_number : ℕ → List ℕ → ℕ
 later_number k text = if version_in text == 1 then 0 else number_at k 8 text
 
--- the openings and the lost indices, which stand behind the counter
+-- the openings and the burnt indices, which stand behind the counter
 abbrev pub openings_in : List ℕ → ℕ
 openings_in text = later_number (68 + 8 * count_in text) text
 

@@ -20,7 +20,7 @@ ImagesAreFaultless =
     (text : List ℕ) (key : KeyOfCode) (counter openings burnt : ℕ) → HasImage key counter openings burnt
     → IsImage text key counter openings burnt → fault_of text ≡ None
 
--- an image is that of one key, with one counter, one number of openings and one of lost indices
+-- an image is that of one key, with one counter, one number of openings and one of burnt indices
 abbrev pub ImagesAreToldApart : Type 0
 ImagesAreToldApart =
     (text : List ℕ) (key other : KeyOfCode) (counter counter' openings openings' burnt burnt' : ℕ)

@@ -1,5 +1,5 @@
 //! The state image: the bytes in which a store keeps a key, how many of its indices are used, how many openings stored
-//! something, and how many indices were lost.
+//! something, and how many indices were burnt.
 ghost use Rattle.std.specs.Prelude.{◌≡◌, ◌+◌, ◌*◌, ◌≤◌, ◌<◌, ◌^◌, ◌≢◌, ◌++◌, length, map, take, None, Some, IfOk, IfErr, IfSome, IfNone, MatchResult, IsFalse};
 ghost use Rattle.std.specs.List.{list_all};
 ghost use Rattle.sha2.specs.Sha256.{sha256};
@@ -36,9 +36,9 @@ pub struct Image {
     pub key: HssKey,
     /// How many of its indices are used.
     pub counter: u64,
-    /// How many openings of its store stored something.
+    /// How many openings of its store stored an image of version 2.
     pub openings: u64,
-    /// How many of its indices were lost, since a write failed.
+    /// How many of its indices failed writes burnt before this image was written.
     pub burnt: u64,
 }
 

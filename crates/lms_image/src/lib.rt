@@ -1,5 +1,5 @@
 //! The state image: the bytes in which a store keeps a key, how many of its indices are used, how many openings stored
-//! something, and how many indices were lost.
+//! something, and how many indices were burnt.
 #![tactic(auto)]
 
 mod bytes;

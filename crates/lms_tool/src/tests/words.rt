@@ -51,7 +51,7 @@ Example:
   lms_tool info --state key.state
 
 Prints the levels, how many indices are used (counter), how many there are (capacity) and how many are left (left), how many
-times the state was opened for signing (openings), and how many indices were lost (burnt).
+openings of the state stored something (openings), and how many indices were burnt before its last write (burnt).
 ";
 
 const SIGN_HELP: &str = "Signs a message
