@@ -2,50 +2,39 @@
  * memory: SHA-256 takes the head of this key and signature, then the blocks, and the library judges by the hash. */
 #include "lms.h"
 #include "sha256.h"
+#include <err.h>
 #include <stdio.h>
-#include <stdlib.h>
 
-static uint8_t public_key[LMS_PUBLIC_KEY_LEN + 1], signature[LMS_LONGEST_SIGNATURE_LEN + 1];
+static uint8_t public_key[LMS_PUBLIC_KEY_LEN + 1], signature[LMS_LONGEST_SIGNATURE_LEN + 1], block[4096];
 
-static void fail(const char *name) {
-    perror(name);
-    exit(2);
-}
-
-/* Reads a whole file, of which at most `room` bytes are kept: a longer one is no key or no signature, as it stands cut. */
+/* Of a longer file `room` bytes are kept: as it stands cut it is no key and no signature. */
 static size_t read_file(const char *name, uint8_t *bytes, size_t room) {
     FILE *file = fopen(name, "rb");
     size_t len = file ? fread(bytes, 1, room, file) : 0;
-    if (!file || ferror(file)) fail(name);
+    if (!file || ferror(file)) err(2, "%s", name);
     fclose(file);
     return len;
 }
 
-static void hash_file(struct sha256 *hash, const char *name) {
-    static uint8_t block[4096];
+static void hash_message(const uint8_t *head, const char *name, uint8_t digest[LMS_HASH_LEN]) {
+    struct sha256 hash;
+    sha256_begin(&hash);
+    sha256_update(&hash, head, LMS_MESSAGE_HEAD_LEN);
     FILE *file = fopen(name, "rb");
-    for (size_t len; file && (len = fread(block, 1, sizeof block, file)) > 0;) sha256_update(hash, block, len);
-    if (!file || ferror(file)) fail(name);
+    for (size_t len; file && (len = fread(block, 1, sizeof block, file)) > 0;) sha256_update(&hash, block, len);
+    if (!file || ferror(file)) err(2, "%s", name);
     fclose(file);
+    sha256_finish(&hash, digest);
 }
 
 int main(int argc, char **argv) {
     uint8_t head[LMS_MESSAGE_HEAD_LEN], digest[LMS_HASH_LEN];
-    if (argc != 4) {
-        fputs("usage: verify PUBLIC MESSAGE SIGNATURE\n", stderr);
-        return 2;
-    }
+    if (argc != 4) errx(2, "usage: verify PUBLIC MESSAGE SIGNATURE");
     size_t key_len = read_file(argv[1], public_key, sizeof public_key);
     size_t signature_len = read_file(argv[3], signature, sizeof signature);
     bool valid = lms_message_head(public_key, key_len, signature, signature_len, head);
-    if (valid) {
-        struct sha256 hash;
-        sha256_begin(&hash);
-        sha256_update(&hash, head, sizeof head);
-        hash_file(&hash, argv[2]);
-        sha256_finish(&hash, digest);
-        valid = lms_verify_hash(public_key, key_len, signature, signature_len, digest);
-    }
-    if (puts(valid ? "valid" : "invalid") < 0 || fflush(stdout) != 0) fail("standard output");
+    if (valid) hash_message(head, argv[2], digest);
+    valid = valid && lms_verify_hash(public_key, key_len, signature, signature_len, digest);
+    if (puts(valid ? "valid" : "invalid") < 0 || fflush(stdout) != 0) err(2, "standard output");
     return !valid;
 }
