@@ -7,6 +7,7 @@ use std::alloc::Global;
 use std::fs;
 use std::io::ErrorKind;
 use std::os::unix::fs::symlink;
+use std::process::Abort;
 use std::rt::Files;
 use std::test::Fail;
 
@@ -68,15 +69,16 @@ fn goes_on(rt: &HostRuntime, store: &mut impl StateStore, left: &[u8]) -> Result
 }
 
 /// Whether after `k` operations a write stops, the file holds one of both texts whole, and the store goes on with it.
-fn stops_and_goes_on(rt: &HostRuntime, k: usize) -> Result<bool, Fail> {
-    empty_folder(rt, "file_store_steps")?;
-    let journal = Journal::new(rt.alloc())?;
-    let files = RecordingFiles::new(rt.alloc(), rt, &journal)?;
-    let mut store = FileStore::new(rt.alloc(), &files, STATE)?;
-    let stops = stops_after(rt, &mut store, &journal, k)?;
+fn stops_and_goes_on(
+    rt: &HostRuntime,
+    store: &mut impl StateStore,
+    journal: &Journal,
+    k: usize,
+) -> Result<bool, Fail> {
+    let stops = stops_after(rt, store, journal, k)?;
     journal.fail(usize::MAX, ErrorKind::Other)?;
     let left = if k < PLACED { b"old" } else { b"new" };
-    Ok(stops && goes_on(rt, &mut store, left)?)
+    Ok(stops && goes_on(rt, store, left)?)
 }
 
 /// A store writes `new` over `old`, where after `k` operations one alone fails. No operation follows the one that fails, the
@@ -84,7 +86,8 @@ fn stops_and_goes_on(rt: &HostRuntime, k: usize) -> Result<bool, Fail> {
 #[test]
 fn a_write_stops_where_a_step_fails(rt: HostRuntime) -> Result<(), Fail> {
     for k in 0..=STEPS.len() {
-        assert!(rt; stops_and_goes_on(&rt, k)?, "{k}");
+        empty_folder(&rt, "file_store_steps")?;
+        over_recorded_files(&rt, &rt, STATE, Scenario::Stops(k))?;
     }
     fs::remove_dir_all(&rt, "file_store_steps")?;
     Ok(())
@@ -134,18 +137,25 @@ fn knows_any_at_first(
     Ok(fails_to_take(store, journal, &[b"a"], 0)? && reads(rt, store, b"older"))
 }
 
+fn know_what_was_tried(
+    end: &impl Abort,
+    rt: &HostRuntime,
+    store: &mut impl StateStore,
+    journal: &Journal,
+) -> Result<(), Fail> {
+    assert!(end; knows_any_at_first(rt, store, journal)?);
+    assert!(end; knows_three(rt, store, journal)?);
+    assert!(end; takes(store, b"new") && reads(rt, store, b"new"));
+    fs::write(rt, TRIED, b"old".as_slice())?;
+    assert!(end; reads_none(rt, store, ReadFault::Device));
+    Ok(())
+}
+
 /// What a store knows after failed writes, and that a certain one begins anew.
 #[test]
 fn a_store_knows_what_it_tried(rt: HostRuntime) -> Result<(), Fail> {
     empty_folder(&rt, "file_store_tried")?;
-    let journal = Journal::new(rt.alloc())?;
-    let files = RecordingFiles::new(rt.alloc(), &rt, &journal)?;
-    let mut store = FileStore::new(rt.alloc(), &files, TRIED)?;
-    assert!(rt; knows_any_at_first(&rt, &mut store, &journal)?);
-    assert!(rt; knows_three(&rt, &mut store, &journal)?);
-    assert!(rt; takes(&mut store, b"new") && reads(&rt, &mut store, b"new"));
-    fs::write(&rt, TRIED, b"old".as_slice())?;
-    assert!(rt; reads_none(&rt, &mut store, ReadFault::Device));
+    over_recorded_files(&rt, &rt, TRIED, Scenario::Knows)?;
     fs::remove_dir_all(&rt, "file_store_tried")?;
     Ok(())
 }
@@ -166,18 +176,25 @@ fn meets_a_link(
     Ok(began && refuses(store, b"new") && holds(rt, WAY, b"old")?)
 }
 
+fn pass_a_link(
+    end: &impl Abort,
+    rt: &HostRuntime,
+    store: &mut impl StateStore,
+    journal: &Journal,
+) -> Result<(), Fail> {
+    assert!(end; meets_a_link(rt, store, journal)?);
+    assert!(end; takes(store, b"new"));
+    assert!(end; holds(rt, WAY, b"new")?);
+    assert!(end; holds(rt, OTHER, b"other")?);
+    Ok(())
+}
+
 /// Where a link comes to stand in the way of the new text after the older one was removed, nothing is written through it.
 #[test]
 fn a_link_in_the_way_is_not_followed(rt: HostRuntime) -> Result<(), Fail> {
     empty_folder(&rt, "file_store_way")?;
     fs::write(&rt, OTHER, b"other".as_slice())?;
-    let journal = Journal::new(rt.alloc())?;
-    let files = RecordingFiles::new(rt.alloc(), &rt, &journal)?;
-    let mut store = FileStore::new(rt.alloc(), &files, WAY)?;
-    assert!(rt; meets_a_link(&rt, &mut store, &journal)?);
-    assert!(rt; takes(&mut store, b"new"));
-    assert!(rt; holds(&rt, WAY, b"new")?);
-    assert!(rt; holds(&rt, OTHER, b"other")?);
+    over_recorded_files(&rt, &rt, WAY, Scenario::Link)?;
     fs::remove_dir_all(&rt, "file_store_way")?;
     Ok(())
 }
@@ -210,18 +227,25 @@ fn tells_both(
     Ok(device && tells(rt, store, journal, k, kind, fault)?)
 }
 
+fn fail_to_read(
+    end: &impl Abort,
+    rt: &HostRuntime,
+    store: &mut impl StateStore,
+    journal: &Journal,
+) -> Result<(), Fail> {
+    assert!(end; takes(store, b"old"));
+    for k in 0..READS {
+        assert!(end; tells_both(rt, store, journal, k)?, "{k}");
+    }
+    journal.fail(READS, ErrorKind::Other)?;
+    assert!(end; reads(rt, store, b"old"));
+    Ok(())
+}
+
 #[test]
 fn a_read_tells_want_of_memory(rt: HostRuntime) -> Result<(), Fail> {
     empty_folder(&rt, "file_store_wants")?;
-    let journal = Journal::new(rt.alloc())?;
-    let files = RecordingFiles::new(rt.alloc(), &rt, &journal)?;
-    let mut store = FileStore::new(rt.alloc(), &files, "file_store_wants/state")?;
-    assert!(rt; takes(&mut store, b"old"));
-    for k in 0..READS {
-        assert!(rt; tells_both(&rt, &mut store, &journal, k)?, "{k}");
-    }
-    journal.fail(READS, ErrorKind::Other)?;
-    assert!(rt; reads(&rt, &mut store, b"old"));
+    over_recorded_files(&rt, &rt, "file_store_wants/state", Scenario::Reads)?;
     fs::remove_dir_all(&rt, "file_store_wants")?;
     Ok(())
 }
@@ -241,19 +265,76 @@ where
     Ok(store_wants && lock_wants && lock(files, alloc, NAME)?.is_none())
 }
 
+/// What a store does whose name could not be resolved.
+fn reach_nothing(
+    end: &impl Abort,
+    rt: &HostRuntime,
+    store: &mut impl StateStore,
+) -> Result<(), Fail> {
+    assert!(end; reads_none(rt, store, ReadFault::Device));
+    assert!(end; refuses(store, b"new"));
+    assert!(end; holds(rt, NAME, b"old")?);
+    Ok(())
+}
+
 /// The same of the name, which is resolved first.
 #[test]
 fn a_name_tells_want_of_memory(rt: HostRuntime) -> Result<(), Fail> {
     empty_folder(&rt, "file_store_resolves")?;
     fs::write(&rt, NAME, b"old".as_slice())?;
-    let journal = Journal::new(rt.alloc())?;
-    let files = RecordingFiles::new(rt.alloc(), &rt, &journal)?;
-    assert!(rt; tells_of_a_name(rt.alloc(), &files, &journal)?);
-    journal.fail(0, ErrorKind::Other)?;
-    let mut store = FileStore::new(rt.alloc(), &files, NAME)?;
-    assert!(rt; reads_none(&rt, &mut store, ReadFault::Device));
-    assert!(rt; refuses(&mut store, b"new"));
-    assert!(rt; holds(&rt, NAME, b"old")?);
+    over_recorded_files(&rt, &rt, NAME, Scenario::Name)?;
     fs::remove_dir_all(&rt, "file_store_resolves")?;
     Ok(())
+}
+
+/// What is tried of a store over files that record what they are asked for.
+#[derive(Clone, Copy)]
+enum Scenario {
+    /// A write fails after so many operations.
+    Stops(usize),
+    /// Some writes fail, and reads tell what is known.
+    Knows,
+    /// A link comes to stand in the way.
+    Link,
+    /// Reads fail.
+    Reads,
+    /// The name can't be resolved.
+    Name,
+}
+
+/// Carries a scenario out.
+fn carry_out(
+    end: &impl Abort,
+    rt: &HostRuntime,
+    store: &mut impl StateStore,
+    journal: &Journal,
+    scenario: Scenario,
+) -> Result<(), Fail> {
+    match scenario {
+        Scenario::Stops(k) => {
+            assert!(end; stops_and_goes_on(rt, store, journal, k)?, "{k}");
+            Ok(())
+        }
+        Scenario::Knows => know_what_was_tried(end, rt, store, journal),
+        Scenario::Link => pass_a_link(end, rt, store, journal),
+        Scenario::Reads => fail_to_read(end, rt, store, journal),
+        Scenario::Name => reach_nothing(end, rt, store),
+    }
+}
+
+/// Carries a scenario out with a store of this name. That these files are files is shown in it alone.
+fn over_recorded_files(
+    end: &impl Abort,
+    rt: &HostRuntime,
+    name: &str,
+    scenario: Scenario,
+) -> Result<(), Fail> {
+    let journal = Journal::new(rt.alloc())?;
+    let files = RecordingFiles::new(rt.alloc(), rt, &journal)?;
+    if let Scenario::Name = scenario {
+        assert!(end; tells_of_a_name(rt.alloc(), &files, &journal)?);
+        journal.fail(0, ErrorKind::Other)?;
+    }
+    let mut store = FileStore::new(rt.alloc(), &files, name)?;
+    carry_out(end, rt, &mut store, &journal, scenario)
 }
