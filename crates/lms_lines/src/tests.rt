@@ -98,9 +98,26 @@ fn read_whole(alloc: Global, text: &[u8]) -> Result<Vec<Job>, JobsFault> {
     read_jobs(alloc, &mut rest)
 }
 
-/// How many jobs a text has, or its fault.
-fn count_of(alloc: Global, text: &[u8]) -> Result<usize, JobsFault> {
-    Ok(read_whole(alloc, text)?.len())
+/// Whether a text has so many jobs.
+fn has_count(alloc: Global, text: &[u8], count: usize) -> bool {
+    match read_whole(alloc, text) {
+        Ok(jobs) => jobs.len() == count,
+        Err(_) => false,
+    }
+}
+
+/// Whether what a reader gives has this fault.
+fn fails(alloc: Global, reader: &mut impl Read, fault: JobsFault) -> bool {
+    match read_jobs(alloc, reader) {
+        Ok(_) => false,
+        Err(found) => found == fault,
+    }
+}
+
+/// Whether a text has this fault.
+fn has_fault(alloc: Global, text: &[u8], fault: JobsFault) -> bool {
+    let mut rest = text;
+    fails(alloc, &mut rest, fault)
 }
 
 pub(crate) fn push_line(text: &mut Vec<u8>, message: &str, end: &str) -> Result<(), Fail> {
@@ -130,44 +147,64 @@ pub(crate) fn lines(alloc: Global, count: usize) -> Result<Vec<u8>, Fail> {
     Ok(text)
 }
 
+/// Whether a job has the randomizer 0, 1, .. 31.
+fn has_c(job: &Job) -> bool {
+    let mut is_right = true;
+    for (i, byte) in job.c.iter().enumerate() {
+        is_right = is_right && usize::from(*byte) == i;
+    }
+    is_right
+}
+
+/// Whether a text has two jobs, whose messages are ab ff and none.
+fn has_both(alloc: Global, text: &[u8]) -> bool {
+    let Ok(jobs) = read_whole(alloc, text) else {
+        return false;
+    };
+    match jobs.as_slice() {
+        [first, second] => {
+            has_c(first)
+                && has_c(second)
+                && first.message.as_slice() == [0xab, 0xff].as_slice()
+                && second.message.is_empty()
+        }
+        _ => false,
+    }
+}
+
 #[test]
 fn jobs_are_read(rt: HostRuntime) -> Result<(), Fail> {
     let alloc = rt.alloc();
-    assert_eq!(rt; count_of(alloc, b""), Ok(0));
+    assert!(rt; has_count(alloc, b"", 0));
     let mut text = Vec::new(alloc);
     push_line(&mut text, "aBFf", "\n")?;
     push_line(&mut text, "", "")?;
-    let jobs = read_whole(alloc, text.as_slice())?;
-    assert_eq!(rt; jobs.len(), 2);
-    for job in &jobs {
-        for (i, byte) in job.c.iter().enumerate() {
-            assert_eq!(rt; usize::from(*byte), i);
-        }
-    }
-    assert_eq!(rt; jobs[0].message.as_slice(), [0xab, 0xff].as_slice());
-    assert!(rt; jobs[1].message.is_empty());
+    assert!(rt; has_both(alloc, &text));
     text.push(b'\n')?;
-    assert_eq!(rt; count_of(alloc, text.as_slice()), Ok(2));
+    assert!(rt; has_count(alloc, &text, 2));
     Ok(())
+}
+
+/// Whether a text has one job, of 65,536 bytes 0x77.
+fn has_longest(alloc: Global, text: &[u8]) -> bool {
+    let Ok(jobs) = read_whole(alloc, text) else {
+        return false;
+    };
+    match jobs.as_slice() {
+        [job] => job.message.len() == 65_536 && job.message.iter().all(|byte| *byte == 0x77),
+        _ => false,
+    }
 }
 
 #[test]
 fn the_longest_message(rt: HostRuntime) -> Result<(), Fail> {
     let alloc = rt.alloc();
     let longest = line_of_digits(alloc, 131_072)?;
-    let jobs = read_whole(alloc, longest.as_slice())?;
-    assert_eq!(rt; jobs.len(), 1);
-    assert_eq!(rt; jobs[0].message.len(), 65_536);
-    assert!(rt; jobs[0].message.iter().all(|byte| *byte == 0x77));
+    assert!(rt; has_longest(alloc, &longest));
     let longer = line_of_digits(alloc, 131_074)?;
-    assert_eq!(rt;
-        count_of(alloc, longer.as_slice()),
-        Err(JobsFault::BadJob { line: 1 })
-    );
-    assert_eq!(rt;
-        read_jobs(alloc, &mut io::repeat(b'7')).is_err_and(|e| e == JobsFault::BadJob { line: 1 }),
-        true
-    );
+    let fault = JobsFault::BadJob { line: 1 };
+    assert!(rt; has_fault(alloc, &longer, fault));
+    assert!(rt; fails(alloc, &mut io::repeat(b'7'), fault));
     Ok(())
 }
 
@@ -204,11 +241,8 @@ fn bad_lines(rt: HostRuntime) -> Result<(), Fail> {
         push_line(&mut text, "", "\n")?;
         push_line(&mut text, message, "\n")?;
         let line = if message.starts_with("00\n") { 3 } else { 2 };
-        assert_eq!(rt;
-            count_of(alloc, text.as_slice()),
-            Err(JobsFault::BadJob { line }),
-            "after {message:?}"
-        );
+        let fault = JobsFault::BadJob { line };
+        assert!(rt; has_fault(alloc, &text, fault), "after {message:?}");
     }
     for start in [
         "\n",
@@ -216,39 +250,53 @@ fn bad_lines(rt: HostRuntime) -> Result<(), Fail> {
         "0 00\n",
         "g00102030405060708090a0B0c0D0e0f101112131415161718191A1b1C1d1E1f 00\n",
     ] {
-        let text = start.as_bytes();
-        assert_eq!(rt;
-            count_of(alloc, text),
-            Err(JobsFault::BadJob { line: 1 }),
-            "at {start:?}"
-        );
+        let fault = JobsFault::BadJob { line: 1 };
+        assert!(rt; has_fault(alloc, start.as_bytes(), fault), "at {start:?}");
     }
     Ok(())
+}
+
+/// Whether a third line that is empty is the fault of a text that has over 1024 lines behind it.
+fn has_third_fault(alloc: Global, more: &[u8]) -> Result<bool, Fail> {
+    let mut bad = lines(alloc, 2)?;
+    bad.push(b'\n')?;
+    bad.extend_from_slice(more)?;
+    Ok(has_fault(alloc, &bad, JobsFault::BadJob { line: 3 }))
 }
 
 #[test]
 fn too_many_lines(rt: HostRuntime) -> Result<(), Fail> {
     let alloc = rt.alloc();
     let mut text = lines(alloc, 1024)?;
-    assert_eq!(rt; count_of(alloc, text.as_slice()), Ok(1024));
+    assert!(rt; has_count(alloc, &text, 1024));
     text.push(b'?')?;
-    assert_eq!(rt;
-        count_of(alloc, text.as_slice()),
-        Err(JobsFault::TooManyJobs)
-    );
+    assert!(rt; has_fault(alloc, &text, JobsFault::TooManyJobs));
     text = lines(alloc, 1025)?;
-    assert_eq!(rt;
-        count_of(alloc, text.as_slice()),
-        Err(JobsFault::TooManyJobs)
-    );
-    let mut bad = lines(alloc, 2)?;
-    bad.push(b'\n')?;
-    bad.extend_from_slice(text.as_slice())?;
-    assert_eq!(rt;
-        count_of(alloc, bad.as_slice()),
-        Err(JobsFault::BadJob { line: 3 })
-    );
+    assert!(rt; has_fault(alloc, &text, JobsFault::TooManyJobs));
+    assert!(rt; has_third_fault(alloc, &text)?);
     Ok(())
+}
+
+/// A text that is read in pieces of so many bytes, and fails after so many reads.
+fn source_of(rest: &[u8], step: usize, reads: usize) -> Source<'_> {
+    Source {
+        rest,
+        step,
+        reads,
+        is_interrupted: false,
+    }
+}
+
+/// Whether five jobs are read of a text, in pieces of so many bytes, each with the message ab ff.
+fn reads_five(alloc: Global, text: &[u8], step: usize) -> bool {
+    let Ok(jobs) = read_jobs(alloc, &mut source_of(text, step, 1000)) else {
+        return false;
+    };
+    let mut is_right = jobs.len() == 5;
+    for job in &jobs {
+        is_right = is_right && job.message.as_slice() == [0xab, 0xff].as_slice();
+    }
+    is_right
 }
 
 #[test]
@@ -256,32 +304,16 @@ fn reads_of_any_size(rt: HostRuntime) -> Result<(), Fail> {
     let alloc = rt.alloc();
     let text = lines(alloc, 5)?;
     for step in [1, 2, 69, 70, 71, 1000] {
-        let mut source = Source {
-            rest: text.as_slice(),
-            step,
-            reads: 1000,
-            is_interrupted: false,
-        };
-        let jobs = read_jobs(alloc, &mut source)?;
-        assert_eq!(rt; jobs.len(), 5);
-        assert!(rt;
-            jobs.iter()
-                .all(|job| job.message.as_slice() == [0xab, 0xff].as_slice())
-        );
+        assert!(rt; reads_five(alloc, &text, step), "by {step}");
     }
     for reads in 0..6 {
-        let mut source = Source {
-            rest: text.as_slice(),
-            step: 70,
-            reads,
-            is_interrupted: false,
-        };
-        let is_fault = read_jobs(alloc, &mut source).is_err_and(|e| e == JobsFault::Read);
-        assert!(rt; is_fault, "at {reads}");
+        let mut source = source_of(&text, 70, reads);
+        assert!(rt; fails(alloc, &mut source, JobsFault::Read), "at {reads}");
     }
     Ok(())
 }
 
+/// A batch of three signatures.
 fn batch(alloc: Global) -> Result<Batch, Fail> {
     let mut signatures = Vec::new(alloc);
     for signature in [[1, 2].as_slice(), [].as_slice(), [0xff].as_slice()] {
@@ -293,37 +325,67 @@ fn batch(alloc: Global) -> Result<Batch, Fail> {
     })
 }
 
-#[test]
-fn answers_are_written(rt: HostRuntime) -> Result<(), Fail> {
-    let alloc = rt.alloc();
-    let mut text = Vec::new(alloc);
-    assert_eq!(rt; write_batch(&mut text, &batch(alloc)?), Ok(()));
-    assert_eq!(rt; text.as_slice(), b"9 0102\n10 \n11 ff\n".as_slice());
+/// A batch whose second signature is not there.
+fn partial_batch(alloc: Global) -> Result<Batch, Fail> {
     let mut slots = Vec::new(alloc);
     slots.push(Some([0xab].to_vec(alloc)?))?;
     slots.push(None)?;
     slots.push(Some([0].to_vec(alloc)?))?;
-    let partial = Batch::Partial {
+    Ok(Batch::Partial {
         start: u64::MAX,
         slots,
-    };
-    text.clear();
-    assert_eq!(rt; write_batch(&mut text, &partial), Ok(()));
-    assert_eq!(rt;
-        text.as_slice(),
-        b"18446744073709551615 ab\n18446744073709551617 00\n".as_slice()
-    );
+    })
+}
+
+/// A batch of one signature of 2644 zeros.
+fn long_batch(alloc: Global) -> Result<Batch, Fail> {
     let mut signatures = Vec::new(alloc);
     signatures.push(vec![in alloc; 0u8; 2644]?)?;
-    let long = Batch::Complete {
+    Ok(Batch::Complete {
         start: 30,
         signatures,
-    };
-    text.clear();
-    assert_eq!(rt; write_batch(&mut text, &long), Ok(()));
-    assert_eq!(rt; text.len(), 5292);
-    assert!(rt; text.starts_with(b"30 00"));
+    })
+}
+
+/// Whether a batch is written as this text.
+fn writes(alloc: Global, batch: &Batch, wanted: &[u8]) -> bool {
+    let mut text = Vec::new(alloc);
+    write_batch(&mut text, batch) == Ok(()) && text.as_slice() == wanted
+}
+
+/// Whether a batch is written as a text of this length that begins so.
+fn writes_long(alloc: Global, batch: &Batch, length: usize, front: &[u8]) -> bool {
+    let mut text = Vec::new(alloc);
+    write_batch(&mut text, batch) == Ok(()) && text.len() == length && text.starts_with(front)
+}
+
+#[test]
+fn answers_are_written(rt: HostRuntime) -> Result<(), Fail> {
+    let alloc = rt.alloc();
+    assert!(rt; writes(alloc, &batch(alloc)?, b"9 0102\n10 \n11 ff\n"));
+    let partial = b"18446744073709551615 ab\n18446744073709551617 00\n";
+    assert!(rt; writes(alloc, &partial_batch(alloc)?, partial));
+    assert!(rt; writes_long(alloc, &long_batch(alloc)?, 5292, b"30 00"));
     Ok(())
+}
+
+/// Whether a writer that takes so many bytes, one a write, gets as many of the 17 of a text, and a fault tells that they are not all.
+fn writes_a_beginning(alloc: Global, writes: usize, fails: bool) -> Result<bool, Fail> {
+    let batch = batch(alloc)?;
+    let mut sink = Sink {
+        taken: Vec::new(alloc),
+        most: 1,
+        writes,
+        fails,
+        is_interrupted: false,
+    };
+    let answer = write_batch(&mut sink, &batch);
+    let wanted = if writes < 17 { Err(WriteFault) } else { Ok(()) };
+    Ok(
+        answer == wanted
+            && b"9 0102\n10 \n11 ff\n".starts_with(&sink.taken)
+            && sink.taken.len() == writes.min(17),
+    )
 }
 
 #[test]
@@ -331,17 +393,7 @@ fn a_failed_writer_has_a_beginning(rt: HostRuntime) -> Result<(), Fail> {
     let alloc = rt.alloc();
     for fails in [false, true] {
         for writes in 0..30 {
-            let mut sink = Sink {
-                taken: Vec::new(alloc),
-                most: 1,
-                writes,
-                fails,
-                is_interrupted: false,
-            };
-            let wanted = if writes < 17 { Err(WriteFault) } else { Ok(()) };
-            assert_eq!(rt; write_batch(&mut sink, &batch(alloc)?), wanted);
-            assert!(rt; b"9 0102\n10 \n11 ff\n".starts_with(sink.taken.as_slice()));
-            assert_eq!(rt; sink.taken.len(), writes.min(17));
+            assert!(rt; writes_a_beginning(alloc, writes, fails)?, "{writes}");
         }
     }
     Ok(())

@@ -48,8 +48,9 @@ const CHEAP_WRITES: usize = 48;
 fn book(alloc: Global, levels: &[(LmsType, OtsType)]) -> Result<Book<MemoryStore>, Fail>
     ensures { IfOk result (λ book. book.history ≡ []) }
 {
-    let levels = Levels::new(levels);
-    let levels = levels.ok().ok_or("the signer takes the levels")?;
+    let Ok(levels) = Levels::new(levels) else {
+        return Err(Fail::from("the signer takes the levels"));
+    };
     let key = HssKey::new(levels, [0x11; 32], [0x22; 16]);
     if key.capacity() < 30 {
         return Err(Fail::from("a capacity of 1024"));
@@ -66,7 +67,10 @@ fn book(alloc: Global, levels: &[(LmsType, OtsType)]) -> Result<Book<MemoryStore
     };
     match Book::open(alloc, store) {
         Ok(book) => Ok(book),
-        Err((_, store)) => Ok(Book::open(alloc, store).ok().ok_or("the store opens")?),
+        Err((_, store)) => match Book::open(alloc, store) {
+            Ok(book) => Ok(book),
+            Err(_) => Err(Fail::from("the store opens")),
+        },
     }
 }
 
@@ -213,55 +217,95 @@ fn is_never_signed_unread<E: Tally, G: Tally, B: Tally>(
     Ok(is_right)
 }
 
+/// Whether more lines than the key has indices are refused, from index 46 on.
+fn refuses_too_many<E: Tally, G: Tally, B: Tally>(
+    rt: &(impl AllocGlobal + Threads + Wait + Sync),
+    service: &SigningService<MemoryStore, E, G, B>,
+    desk: &mut Desk<E, G, B>,
+) -> Result<bool, Fail> {
+    let many = lines(rt.alloc(), 1024)?;
+    let exhausted = LinesFault::Batch(BatchFault::Book(BookFault::Exhausted { left: 978 }));
+    Ok(refuses(rt, service, desk, &many, exhausted))
+}
+
 /// Signs lines from index 30 on.
 fn sign_batches<E: Tally, G: Tally, B: Tally>(
     rt: &(impl Abort + AllocGlobal + Threads + Wait + Sync),
-    service: SigningService<MemoryStore, E, G, B>,
-    desks: Vec<Desk<E, G, B>>,
+    service: &SigningService<MemoryStore, E, G, B>,
+    desk: &mut Desk<E, G, B>,
 ) -> Result<(), Fail> {
-    let mut desks = desks;
-    let desk = desks.first_mut().ok_or("a desk")?;
     let bad = LinesFault::Jobs(JobsFault::BadJob { line: 1 });
-    assert!(rt; refuses(rt, &service, desk, b"\n", bad));
-    assert!(rt; is_never_signed_unread(rt, &service, desk)?);
-    assert!(rt; writes_a_beginning(rt, &service, desk, 30, true)?);
-    assert!(rt; answers_four(rt, &service, desk, LINE, 34)?);
-    assert!(rt; writes_a_beginning(rt, &service, desk, 38, false)?);
-    assert!(rt; answers_four(rt, &service, desk, LINE, 42)?);
-    let many = lines(rt.alloc(), 1024)?;
-    let exhausted = LinesFault::Batch(BatchFault::Book(BookFault::Exhausted { left: 978 }));
-    assert!(rt; refuses(rt, &service, desk, &many, exhausted));
-    assert_eq!(rt; counts(desk), (4, 16, 0));
+    assert!(rt; refuses(rt, service, desk, b"\n", bad));
+    assert!(rt; is_never_signed_unread(rt, service, desk)?);
+    assert!(rt; writes_a_beginning(rt, service, desk, 30, true)?);
+    assert!(rt; answers_four(rt, service, desk, LINE, 34)?);
+    assert!(rt; writes_a_beginning(rt, service, desk, 38, false)?);
+    assert!(rt; answers_four(rt, service, desk, LINE, 42)?);
+    assert!(rt; refuses_too_many(rt, service, desk)?);
+    assert!(rt; counts(desk) == (4, 16, 0));
     Ok(())
+}
+
+/// Whether a writer that fails after so many writes, or takes nothing, has a beginning of the answers to four lines from index 30
+/// on, and all of them where it takes as many writes as they are.
+fn leaves_a_beginning<E: Tally, G: Tally, B: Tally>(
+    rt: &(impl AllocGlobal + Threads + Wait + Sync),
+    service: &SigningService<MemoryStore, E, G, B>,
+    desk: &mut Desk<E, G, B>,
+    writes: usize,
+    fails: bool,
+) -> Result<bool, Fail> {
+    let answers = memory::four_answers(rt, service.key())?;
+    let text = lines(rt.alloc(), 4)?;
+    let mut writer = sink(rt.alloc(), writes, fails);
+    writer.most = CHEAP_LINE;
+    let answer = signed(rt, service, desk, &text, &mut writer);
+    let is_as_wanted = if writes < CHEAP_WRITES {
+        answer == Err(LinesFault::Write)
+    } else {
+        answer.is_ok() && writer.taken.len() == answers.len()
+    };
+    Ok(is_as_wanted && answers.starts_with(&writer.taken))
 }
 
 /// Signs four lines from index 30 on to a writer that fails after so many writes, or takes nothing: it has a beginning of the
 /// answers, and the next four lines are answered from index 34 on.
 fn fail_to_write<E: Tally, G: Tally, B: Tally>(
     rt: &(impl Abort + AllocGlobal + Threads + Wait + Sync),
-    service: SigningService<MemoryStore, E, G, B>,
-    desks: Vec<Desk<E, G, B>>,
+    service: &SigningService<MemoryStore, E, G, B>,
+    desk: &mut Desk<E, G, B>,
     writes: usize,
     fails: bool,
 ) -> Result<(), Fail> {
-    let mut desks = desks;
-    let desk = desks.first_mut().ok_or("a desk")?;
-    let answers = memory::four_answers(rt, service.key())?;
-    let text = lines(rt.alloc(), 4)?;
-    let mut writer = sink(rt.alloc(), writes, fails);
-    writer.most = CHEAP_LINE;
-    let answer = signed(rt, &service, desk, &text, &mut writer);
-    assert!(rt; answers.starts_with(&writer.taken), "{writes}");
-    if writes < CHEAP_WRITES {
-        assert!(rt; answer == Err(LinesFault::Write), "{writes}");
-    } else {
-        assert!(rt; answer.is_ok() && writer.taken.len() == answers.len());
-    }
     assert!(rt;
-        answers_four(rt, &service, desk, CHEAP_LINE, 34)?,
+        leaves_a_beginning(rt, service, desk, writes, fails)?,
+        "{writes}"
+    );
+    assert!(rt;
+        answers_four(rt, service, desk, CHEAP_LINE, 34)?,
         "{writes}"
     );
     Ok(())
+}
+
+/// Carries a scenario out with the first of these desks.
+fn carry_on<E: Tally, G: Tally, B: Tally>(
+    rt: &(impl Abort + AllocGlobal + Threads + Wait + Sync),
+    service: SigningService<MemoryStore, E, G, B>,
+    desks: Vec<Desk<E, G, B>>,
+    scenario: Scenario,
+) -> Result<(), Fail> {
+    let mut desks = desks;
+    let Some(desk) = desks.first_mut() else {
+        return Err(Fail::from("a desk"));
+    };
+    match scenario {
+        Scenario::Batches => sign_batches(rt, &service, desk),
+        Scenario::RefusedMemory => memory::sign_four(rt, service, desks),
+        Scenario::FailedWriter { writes, fails } => {
+            fail_to_write(rt, &service, desk, writes, fails)
+        }
+    }
 }
 
 /// Shares a book, and carries the scenario out.
@@ -280,14 +324,9 @@ fn carried_out<E: Tally, G: Tally, B: Tally>(
         Err((_, book, blanks)) => SharedBook::share(rt.alloc(), book, blanks, 1),
         answer => answer,
     };
-    let (shared, desks) = shared.ok().ok_or("memory for a desk")?;
-    let service = SigningService::over(shared);
-    match scenario {
-        Scenario::Batches => sign_batches(rt, service, desks),
-        Scenario::RefusedMemory => memory::sign_four(rt, service, desks),
-        Scenario::FailedWriter { writes, fails } => {
-            fail_to_write(rt, service, desks, writes, fails)
-        }
+    match shared {
+        Ok((shared, desks)) => carry_on(rt, SigningService::over(shared), desks, scenario),
+        Err(_) => Err(Fail::from("memory for a desk")),
     }
 }
 

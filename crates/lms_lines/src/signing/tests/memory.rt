@@ -105,6 +105,50 @@ fn wanted(answer: Result<Done, LinesFault>) -> Option<(usize, u64)> {
     }
 }
 
+/// Signs four lines by four workers, and says how many answers were written, and how many indices it used.
+fn signed_by_four<E: Tally, G: Tally, B: Tally>(
+    rt: &(impl AllocGlobal + Threads + Wait + Sync),
+    service: &SigningService<MemoryStore, E, G, B>,
+    desk: &mut Desk<E, G, B>,
+    text: &mut Vec<u8>,
+) -> Result<Option<(usize, u64)>, Fail> {
+    let input = four_lines(rt.alloc())?;
+    let mut rest: &[u8] = &input;
+    let answer = sign_lines(rt, rt.alloc(), service, &mut rest, text, desk, 4);
+    Ok(wanted(answer))
+}
+
+/// Signs four lines from index 30 on: all are answered, or some, or none. Says how many indices it used.
+fn sign_from_30<E: Tally, G: Tally, B: Tally>(
+    rt: &(impl Abort + AllocGlobal + Threads + Wait + Sync),
+    service: &SigningService<MemoryStore, E, G, B>,
+    desk: &mut Desk<E, G, B>,
+) -> Result<u64, Fail> {
+    let whole = four_answers(rt, service.key())?;
+    assert!(rt; has_four_answers(&whole, CHEAP_LINE, 30));
+    let mut text = roomy(rt.alloc())?;
+    match signed_by_four(rt, service, desk, &mut text)? {
+        Some((signed, used)) => {
+            assert!(rt; answers_in(&text, &whole) == Some(signed));
+            assert!(rt; counts(desk) == (used / 4, used, 0));
+            Ok(used)
+        }
+        None => Err(Fail::from("an answer of those that are known")),
+    }
+}
+
+/// Whether all desks are there, and the book has used so many indices from index 30 on.
+fn has_used<E: Tally, G: Tally, B: Tally>(
+    service: SigningService<MemoryStore, E, G, B>,
+    desks: Vec<Desk<E, G, B>>,
+    used: u64,
+) -> bool {
+    match service.into_book().settle(desks) {
+        Ok(book) => book.counter() == 30_u64.saturating_add(used),
+        Err(_) => false,
+    }
+}
+
 /// Signs four lines from index 30 on by four workers: all are answered, or some, or none, with their indices used; or nothing is
 /// reserved.
 pub(super) fn sign_four<E: Tally, G: Tally, B: Tally>(
@@ -113,19 +157,11 @@ pub(super) fn sign_four<E: Tally, G: Tally, B: Tally>(
     desks: Vec<Desk<E, G, B>>,
 ) -> Result<(), Fail> {
     let mut desks = desks;
-    let desk = desks.first_mut().ok_or("a desk")?;
-    let whole = four_answers(rt, service.key())?;
-    assert!(rt; has_four_answers(&whole, CHEAP_LINE, 30));
-    let input = four_lines(rt.alloc())?;
-    let mut rest: &[u8] = &input;
-    let mut text = roomy(rt.alloc())?;
-    let answer = sign_lines(rt, rt.alloc(), &service, &mut rest, &mut text, desk, 4);
-    let (signed, used) = wanted(answer).ok_or("an answer of those that are known")?;
-    assert_eq!(rt; answers_in(&text, &whole), Some(signed));
-    assert_eq!(rt; counts(desk), (used / 4, used, 0));
-    let settled = service.into_book().settle(desks);
-    let book = settled.ok().ok_or("all desks are there")?;
-    assert_eq!(rt; book.counter(), 30_u64.saturating_add(used));
+    let Some(desk) = desks.first_mut() else {
+        return Err(Fail::from("a desk"));
+    };
+    let used = sign_from_30(rt, &service, desk)?;
+    assert!(rt; has_used(service, desks, used));
     Ok(())
 }
 
