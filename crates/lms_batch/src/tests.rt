@@ -1,11 +1,12 @@
-ghost use Rattle.std.specs.Prelude.{◌≡◌, ◌≤◌};
+ghost use Rattle.std.specs.Prelude.{◌≡◌, ◌≤◌, []};
+
+mod faults;
 
 use crate::fixtures::{CHEAP, LEVELS, job, key_of, opened, public_key};
-use crate::{Batch, BatchFault, Collector, Job, OpenLease, Receipt, SignFault, TakeFault};
-use lms_book::BookFault;
+use crate::{Batch, Collector, Job, OpenLease, Receipt, SignFault, TakeFault};
 use lms_hss::verify;
 use lms_params::{LmsType, OtsType, OutOfMemory};
-use lms_pool::{DrawSeat, IndexPass, MissingSeats, Tally};
+use lms_pool::{DrawSeat, IndexPass, MissingSeats};
 use lms_slow::{SlowKey, slow_sign};
 use std::alloc::Global;
 use std::test::Fail;
@@ -86,9 +87,13 @@ fn signed_with<'j>(lease: &OpenLease, pass: IndexPass, job: &'j Job) -> Result<R
 fn signed_again<'j>(lease: &OpenLease, pass: IndexPass, job: &'j Job) -> Result<Receipt<'j>, Fail>
     requires { pass.pool ≡ lease.now }
 {
-    let signed = lease.sign_with(pass, job);
-    let signed = signed.map_err(|(_, pass)| pass.burn());
-    Ok(signed.ok().ok_or("memory for a signature")?)
+    match lease.sign_with(pass, job) {
+        Ok(receipt) => Ok(receipt),
+        Err((_, pass)) => {
+            pass.burn();
+            Err(Fail::from("memory for a signature"))
+        }
+    }
 }
 
 /// Whether no place is left to sign a job at.
@@ -135,31 +140,51 @@ fn signs_twice(
     Ok(is_at(alloc, &first, job, 0, start)? && is_at(alloc, &second, job, 1, start + 1)?)
 }
 
-/// Ends a lease whose one seat is there.
-fn finished(alloc: Global, lease: OpenLease, seat: DrawSeat) -> Result<Tally, Fail>
+/// Ends a lease whose one seat is there, and answers how many places were claimed, stopped and left.
+fn finished(alloc: Global, lease: OpenLease, seat: DrawSeat) -> Result<(u64, u64, u64), Fail>
     requires { seat.pool ≡ lease }
 {
-    let none = Vec::new(alloc);
-    let Err((missing, lease, mut seats)) = lease.finish(none) else {
-        return Err(Fail::from("the seat is missing"));
-    };
-    if missing != (MissingSeats { present: 0 }) {
-        return Err(Fail::from("no seat is there"));
+    match lease.finish(Vec::new(alloc)) {
+        Ok(_) => Err(Fail::from("the seat is missing")),
+        Err((MissingSeats { present: 0 }, lease, seats)) => finished_with(lease, seats, seat),
+        Err(_) => Err(Fail::from("no seat is there")),
     }
+}
+
+/// Ends a lease with its one seat.
+fn finished_with(
+    lease: OpenLease,
+    seats: Vec<DrawSeat>,
+    seat: DrawSeat,
+) -> Result<(u64, u64, u64), Fail>
+    requires none { seats.items ≡ [] }
+    requires own { seat.pool ≡ lease }
+{
+    let mut seats = seats;
     seats.push(seat)?;
-    Ok(lease.finish(seats).ok().ok_or("the seat is there")?)
+    match lease.finish(seats) {
+        Ok(tally) => Ok((tally.claimed, tally.stopped, tally.left)),
+        Err(_) => Err(Fail::from("the seat is there")),
+    }
+}
+
+/// How many places are gone, how many a stop burns, and whether no place is left then.
+fn stopped(lease: &OpenLease, seat: &mut DrawSeat, job: &Job) -> (u64, u64, bool)
+    requires { seat.old.pool ≡ lease.now }
+    ensures { seat.new.pool ≡ lease.now }
+{
+    let gone = lease.look(seat);
+    let burnt = lease.stop(seat);
+    (gone, burnt, has_ended(lease, seat, job))
 }
 
 #[test]
 fn signs_without_a_wait(rt: HostRuntime) -> Result<(), Fail> {
-    let (lease, mut seat) = opened(&rt, &LEVELS, 0x11, 31, 4)?;
     let job = job(rt.alloc(), b"abc")?;
+    let (lease, mut seat) = opened(&rt, &LEVELS, 0x11, 31, 4)?;
     assert!(rt; signs_twice(rt.alloc(), &lease, &mut seat, &job, 31)?);
-    assert_eq!(rt; lease.look(&mut seat), 2);
-    assert_eq!(rt; lease.stop(&mut seat), 2);
-    assert!(rt; has_ended(&lease, &mut seat, &job));
-    let tally = finished(rt.alloc(), lease, seat)?;
-    assert_eq!(rt; (tally.claimed, tally.stopped, tally.left), (2, 2, 0));
+    assert!(rt; stopped(&lease, &mut seat, &job) == (2, 2, true));
+    assert!(rt; finished(rt.alloc(), lease, seat)? == (2, 2, 0));
     Ok(())
 }
 
@@ -185,26 +210,28 @@ fn after_claims(lease: &OpenLease, seat: DrawSeat, claims: u64) -> DrawSeat
     seat
 }
 
-/// Why the receipt of a job is not taken that another book of a key of this seed signed, at a place of a lease from `start` on.
-fn refusal_of_another<'j>(
+/// The receipt of a job that another book of a key of this seed signed, at a place of a lease from `start` on.
+fn receipt_of_another<'j>(
     rt: &(impl AllocGlobal + Threads + Sync),
-    collector: &mut Collector<'j>,
     seed: u8,
     start: u64,
     place: u64,
     job: &'j Job,
-) -> Result<Option<TakeFault>, Fail>
-    requires { place ≤ 8 }
-{
+) -> Result<Receipt<'j>, Fail> {
+    if place > 8 {
+        return Err(Fail::from("a place past 8"));
+    }
     let (lease, seat) = opened(rt, &LEVELS, seed, start, place + 1)?;
     let mut seat = after_claims(&lease, seat, place);
-    let receipt = signed(&lease, &mut seat, job)?;
-    Ok(refusal(collector, receipt))
+    signed(&lease, &mut seat, job)
 }
 
-/// Receipts of another book: the seed of its key, where its lease begins, the place of the lease, which of two jobs, and why it is
-/// not taken, one after another.
-const RECEIPTS: [(u8, u64, u64, usize, Option<TakeFault>); 7] = [
+/// A receipt of another book: the seed of its key, where its lease begins, the place of the lease, which of two jobs, and why it is
+/// not taken.
+type Row = (u8, u64, u64, usize, Option<TakeFault>);
+
+/// Receipts of another book, one after another.
+const RECEIPTS: [Row; 7] = [
     (0x11, 30, 0, 0, None),
     (0x11, 30, 0, 0, Some(TakeFault::Twice)),
     (0x12, 30, 0, 0, Some(TakeFault::Stranger)),
@@ -213,6 +240,23 @@ const RECEIPTS: [(u8, u64, u64, usize, Option<TakeFault>); 7] = [
     (0x11, 30, 2, 1, Some(TakeFault::Stranger)),
     (0x11, 30, 1, 0, Some(TakeFault::Stranger)),
 ];
+
+/// Whether the receipt of a row is taken or refused as the row says.
+fn is_refused_so<'j>(
+    rt: &(impl AllocGlobal + Threads + Sync),
+    collector: &mut Collector<'j>,
+    row: Row,
+    jobs: &'j [Job],
+) -> Result<bool, Fail> {
+    let (seed, start, place, of, expected) = row;
+    match jobs.get(of) {
+        Some(job) => {
+            let receipt = receipt_of_another(rt, seed, start, place, job)?;
+            Ok(refusal(collector, receipt) == expected)
+        }
+        None => Err(Fail::from("one of two jobs")),
+    }
+}
 
 /// Whether a batch begins with index 30 and has the slow signer's signature of its first job alone.
 fn has_the_first_alone(alloc: Global, batch: &Batch, first: &Job) -> Result<bool, Fail> {
@@ -223,17 +267,38 @@ fn has_the_first_alone(alloc: Global, batch: &Batch, first: &Job) -> Result<bool
     Ok(*start == 30 && slots.as_slice() == expected.as_slice())
 }
 
+/// Two jobs of these messages.
+fn two_jobs(alloc: Global, first: &[u8], second: &[u8]) -> Result<[Job; 2], Fail> {
+    let first = job(alloc, first)?;
+    let second = job(alloc, second)?;
+    Ok([first, second])
+}
+
 #[test]
 fn a_place_takes_its_receipt_once(rt: HostRuntime) -> Result<(), Fail> {
-    let jobs = [job(rt.alloc(), b"abc")?, job(rt.alloc(), b"")?];
+    let jobs = two_jobs(rt.alloc(), b"abc", b"")?;
     let mut collector = Collector::new(rt.alloc(), key_of(&LEVELS, 0x11)?, 30, &jobs)?;
-    for (seed, start, place, of, expected) in RECEIPTS {
-        let job = jobs.get(of).ok_or("one of two jobs")?;
-        let found = refusal_of_another(&rt, &mut collector, seed, start, place, job)?;
-        assert_eq!(rt; found, expected, "{seed} {start} {place} {of}");
+    for row in RECEIPTS {
+        let (seed, start, place, of, _) = row;
+        assert!(rt;
+            is_refused_so(&rt, &mut collector, row, &jobs)?,
+            "{seed} {start} {place} {of}"
+        );
     }
     assert!(rt; has_the_first_alone(rt.alloc(), &collector.finish(), &jobs[0])?);
     Ok(())
+}
+
+/// Whether a signature is the slow signer's of a job by an index, and the verifier accepts it.
+fn is_signed_so(
+    alloc: Global,
+    public: &[u8],
+    g: u64,
+    job: &Job,
+    signature: &[u8],
+) -> Result<bool, Fail> {
+    let slow = slow(alloc, &LEVELS, g, job)?;
+    Ok(signature == slow.as_slice() && verify(public, &job.message, signature))
 }
 
 /// Whether a batch is complete, from this index on, with the slow signer's signatures of these jobs, which the verifier accepts.
@@ -251,21 +316,34 @@ pub(crate) fn is_complete(
     let public = public_key(rt, key_of(&LEVELS, 0x11)?)?;
     let mut is_right = *start == first && signatures.len() == jobs.len();
     for ((signature, job), g) in signatures.iter().zip(jobs).zip(first..1024) {
-        let slow = slow(rt.alloc(), &LEVELS, g, job)?;
-        is_right = is_right && *signature == slow && verify(&public, &job.message, signature);
+        is_right = is_right && is_signed_so(rt.alloc(), &public, g, job, signature)?;
     }
     Ok(is_right)
 }
 
-#[test]
-fn a_batch_is_in_the_order_of_its_jobs(rt: HostRuntime) -> Result<(), Fail> {
-    let jobs = [job(rt.alloc(), b"a")?, job(rt.alloc(), b"b")?];
-    let (lease, mut seat) = opened(&rt, &LEVELS, 0x11, 31, 2)?;
-    let mut collector = Collector::new(rt.alloc(), key_of(&LEVELS, 0x11)?, 31, &jobs)?;
+/// Whether a collector takes two receipts, one after the other.
+fn takes_both<'j>(collector: &mut Collector<'j>, first: Receipt<'j>, second: Receipt<'j>) -> bool {
+    let is_taken = refusal(collector, first).is_none();
+    refusal(collector, second).is_none() && is_taken
+}
+
+/// Receipts of two jobs, by indices 31 and 32.
+fn two_receipts<'j>(
+    rt: &(impl AllocGlobal + Threads + Sync),
+    jobs: &'j [Job; 2],
+) -> Result<(Receipt<'j>, Receipt<'j>), Fail> {
+    let (lease, mut seat) = opened(rt, &LEVELS, 0x11, 31, 2)?;
     let first = signed(&lease, &mut seat, &jobs[0])?;
     let second = signed(&lease, &mut seat, &jobs[1])?;
-    assert_eq!(rt; refusal(&mut collector, second), None);
-    assert_eq!(rt; refusal(&mut collector, first), None);
+    Ok((first, second))
+}
+
+#[test]
+fn a_batch_is_in_the_order_of_its_jobs(rt: HostRuntime) -> Result<(), Fail> {
+    let jobs = two_jobs(rt.alloc(), b"a", b"b")?;
+    let mut collector = Collector::new(rt.alloc(), key_of(&LEVELS, 0x11)?, 31, &jobs)?;
+    let (first, second) = two_receipts(&rt, &jobs)?;
+    assert!(rt; takes_both(&mut collector, second, first));
     assert!(rt; is_complete(&rt, &collector.finish(), 31, &jobs)?);
     Ok(())
 }
@@ -279,48 +357,41 @@ fn collector_of(alloc: Global, jobs: &[Job]) -> Result<Collector<'_>, Fail> {
     }
 }
 
+/// Receipts of two jobs, by indices 5 and 6 of 5/2,5/2, where any request for memory may be refused.
+fn receipts_at_last<'j>(
+    rt: &(impl AllocGlobal + Threads + Sync),
+    jobs: &'j [Job; 2],
+) -> Result<(Receipt<'j>, Receipt<'j>), Fail> {
+    let (lease, mut seat) = opened(rt, &CHEAP, 0x11, 5, 2)?;
+    let first = signed_at_last(&lease, &mut seat, &jobs[0])?;
+    let second = signed_after_claim(&lease, &mut seat, &jobs[1])?;
+    Ok((first, second))
+}
+
+/// Whether a receipt is of this place and index.
+fn is_of(receipt: &Receipt, place: u64, index: u64) -> bool {
+    receipt.place() == place && receipt.index() == index
+}
+
+/// Whether a batch is complete, from this index on.
+fn is_complete_from(batch: &Batch, first: u64) -> bool {
+    match batch {
+        Batch::Complete {
+            start,
+            signatures: _,
+        } => *start == first,
+        Batch::Partial { .. } => false,
+    }
+}
+
 /// `tests/refused` refuses each request for memory in turn.
 #[test]
 fn a_lease_signs_after_refused_memory(rt: HostRuntime) -> Result<(), Fail> {
-    let jobs = [job(rt.alloc(), b"abc")?, job(rt.alloc(), b"")?];
-    let (lease, mut seat) = opened(&rt, &CHEAP, 0x11, 5, 2)?;
-    let first = signed_at_last(&lease, &mut seat, &jobs[0])?;
-    assert_eq!(rt; (first.place(), first.index()), (0, 5));
-    let second = signed_after_claim(&lease, &mut seat, &jobs[1])?;
-    assert_eq!(rt; (second.place(), second.index()), (1, 6));
+    let jobs = two_jobs(rt.alloc(), b"abc", b"")?;
     let mut collector = collector_of(rt.alloc(), &jobs)?;
-    assert_eq!(rt; refusal(&mut collector, first), None);
-    assert_eq!(rt; refusal(&mut collector, second), None);
-    assert!(rt;
-        matches!(
-            collector.finish(),
-            Batch::Complete {
-                start: 5,
-                signatures: _
-            }
-        )
-    );
-    Ok(())
-}
-
-#[test]
-fn faults_say_what_failed(rt: HostRuntime) -> Result<(), Fail> {
-    let said = [
-        TakeFault::Stranger.to_string(rt.alloc())?,
-        TakeFault::Twice.to_string(rt.alloc())?,
-        BatchFault::TooMany.to_string(rt.alloc())?,
-        BatchFault::Book(BookFault::Exhausted { left: 3 }).to_string(rt.alloc())?,
-        BatchFault::OutOfMemory { burnt: 4 }.to_string(rt.alloc())?,
-    ];
-    let expected = [
-        "the receipt is not of this batch",
-        "the place has a signature",
-        "too many jobs",
-        "exhausted: 3 left",
-        "out of memory: 4 burnt",
-    ];
-    for (said, expected) in said.iter().zip(expected) {
-        assert_eq!(rt; said.as_str(), expected);
-    }
+    let (first, second) = receipts_at_last(&rt, &jobs)?;
+    assert!(rt; is_of(&first, 0, 5) && is_of(&second, 1, 6));
+    assert!(rt; takes_both(&mut collector, first, second));
+    assert!(rt; is_complete_from(&collector.finish(), 5));
     Ok(())
 }

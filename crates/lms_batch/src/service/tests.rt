@@ -1,52 +1,147 @@
-ghost use Rattle.std.specs.Prelude.{◌≡◌, ◌≤◌, []};
+ghost use Rattle.std.specs.Prelude.{◌≡◌, ◌≤◌};
 ghost use Rattle.lms_shared_book.specs.Desks.{BlankFits};
 
 mod gates;
 mod memory;
+mod outcome;
 
 use super::{BatchFault, SigningService};
 use crate::fixtures::{LEVELS, book_of, job, public_key, store_at};
-use crate::tests::is_complete;
-use crate::{Batch, Job, OpenGate};
+use crate::{Gate, Job, OpenGate};
 use gates::Meeting;
 use lms_book::{Book, BookFault, Entry, Left, MemoryStore};
-use lms_hss::verify;
+use lms_params::OutOfMemory;
 use lms_shared_book::{Blanks, Desk, SharedBook, Tally};
+use outcome::{Answer, Outcome, starts_of};
 use std::alloc::{AllocGlobal, Global};
 use std::marker::Brand;
-use std::process::Abort;
 use std::sync::Wait;
 use std::sync::ledger::Blank;
 use std::test::Fail;
 use std::thread;
 use std::thread::Threads;
 
-/// What is done with a service that has four desks.
-#[derive(Clone, Copy)]
-enum Scenario {
-    /// Four jobs by so many workers.
-    FourJobs { workers: usize },
-    /// No job, and more than are signed at once.
-    TooFewAndTooMany,
-    /// A batch whose write fails, and another one.
-    FailedWrite,
-    /// Two batches by each of four threads.
-    AtOnce,
-    /// As many jobs as the key has indices, by as many workers as there may be.
-    AllIndices,
-    /// Four jobs by one to four workers, where any request for memory may be refused.
-    RefusedMemory { workers: usize },
-    /// Two jobs by one to three workers, each signature of which waits a while until the other one has begun.
-    Meeting { workers: usize },
+/// What is asked of a service that has four desks: batches one after another at the first desk, of the first so many jobs each.
+#[derive(Drop)]
+struct Asked<'a, W> {
+    jobs: &'a [Job],
+    lengths: &'a [usize],
+    workers: usize,
+    gate: &'a W,
+    /// Whether each of the four desks asks for them, in a thread of its own.
+    at_once: bool,
 }
 
-/// Shares a book, and carries the scenario out.
-fn carried_out<E: Tally + Send + Sync, G: Tally + Send + Sync, B: Tally + Send + Sync>(
-    rt: &(impl Abort + AllocGlobal + Threads + Wait + Sync),
+/// What a desk counted: entries, received, burnt.
+fn counts<E: Tally, G: Tally, B: Tally>(desk: &Desk<E, G, B>) -> (u64, u64, u64) {
+    (desk.entries(), desk.received(), desk.burnt())
+}
+
+/// Asks for a batch of so many of the jobs, by 1 to 64 workers.
+fn answer_at<E: Tally, G: Tally, B: Tally, W: Gate>(
+    rt: &(impl AllocGlobal + Threads + Wait + Sync),
+    service: &SigningService<MemoryStore, E, G, B>,
+    desk: &mut Desk<E, G, B>,
+    asked: &Asked<W>,
+    length: usize,
+) -> Answer {
+    let length = length.min(asked.jobs.len());
+    let workers = asked.workers.clamp(1, 64);
+    let jobs = &asked.jobs[..length];
+    let batch = service.sign_batch(rt, rt.alloc(), desk, jobs, workers, asked.gate);
+    Answer {
+        batch,
+        counts: counts(desk),
+    }
+}
+
+/// Room for so many answers. Memory that is refused once is asked for again.
+fn room(alloc: Global, count: usize) -> Result<Vec<Answer>, OutOfMemory> {
+    match Vec::with_capacity(alloc, count) {
+        Ok(room) => Ok(room),
+        Err(_) => Ok(Vec::with_capacity(alloc, count)?),
+    }
+}
+
+/// Asks for the batches at a desk.
+fn answers_at<E: Tally, G: Tally, B: Tally, W: Gate>(
+    rt: &(impl AllocGlobal + Threads + Wait + Sync),
+    service: &SigningService<MemoryStore, E, G, B>,
+    desk: &mut Desk<E, G, B>,
+    asked: &Asked<W>,
+) -> Result<Vec<Answer>, OutOfMemory> {
+    let mut answers = room(rt.alloc(), asked.lengths.len())?;
+    for length in asked.lengths {
+        answers.push(answer_at(rt, service, desk, asked, *length))?;
+    }
+    Ok(answers)
+}
+
+/// The same, by a thread that hands the desk back.
+fn visited<E: Tally, G: Tally, B: Tally, W: Gate>(
+    rt: &(impl AllocGlobal + Threads + Wait + Sync),
+    service: &SigningService<MemoryStore, E, G, B>,
+    desk: Desk<E, G, B>,
+    asked: &Asked<W>,
+) -> (Desk<E, G, B>, Result<Vec<Answer>, OutOfMemory>) {
+    let mut desk = desk;
+    let answers = answers_at(rt, service, &mut desk, asked);
+    (desk, answers)
+}
+
+/// The desks that the threads hand back, and the answers that they got.
+fn gathered<E: Tally, G: Tally, B: Tally>(
+    alloc: Global,
+    visits: Vec<(Desk<E, G, B>, Result<Vec<Answer>, OutOfMemory>)>,
+) -> Result<(Vec<Desk<E, G, B>>, Vec<Answer>), OutOfMemory> {
+    let mut desks = Vec::new(alloc);
+    let mut answers = Vec::new(alloc);
+    for (desk, found) in visits {
+        desks.push(desk)?;
+        answers.append(&mut found?)?;
+    }
+    Ok((desks, answers))
+}
+
+/// Asks for the batches at the first desk, or at all desks at once.
+fn asked_for<E: Tally + Send + Sync, G: Tally + Send + Sync, B: Tally + Send + Sync, W: Gate>(
+    rt: &(impl AllocGlobal + Threads + Wait + Sync),
+    service: &SigningService<MemoryStore, E, G, B>,
+    desks: Vec<Desk<E, G, B>>,
+    asked: &Asked<W>,
+) -> Result<(Vec<Desk<E, G, B>>, Vec<Answer>), Fail> {
+    if asked.at_once {
+        let visits = thread::map_vec(rt, desks, &|desk| visited(rt, service, desk, asked))?;
+        return Ok(gathered(rt.alloc(), visits)?);
+    }
+    let mut desks = desks;
+    let desk = desks.first_mut().ok_or("a desk")?;
+    let answers = answers_at(rt, service, desk, asked)?;
+    Ok((desks, answers))
+}
+
+/// Asks a service for the batches, and settles then with all desks.
+fn settled<E: Tally + Send + Sync, G: Tally + Send + Sync, B: Tally + Send + Sync, W: Gate>(
+    rt: &(impl AllocGlobal + Threads + Wait + Sync),
+    service: SigningService<MemoryStore, E, G, B>,
+    desks: Vec<Desk<E, G, B>>,
+    asked: &Asked<W>,
+) -> Result<Outcome, Fail> {
+    let key = service.key();
+    let (desks, answers) = asked_for(rt, &service, desks, asked)?;
+    match service.into_book().settle(desks) {
+        Ok(book) => Ok(Outcome { key, answers, book }),
+        Err(_) => Err(Fail::from("all desks are there")),
+    }
+}
+
+/// Shares a book, and asks a service over it for the batches.
+fn carried_out<E: Tally + Send + Sync, G: Tally + Send + Sync, B: Tally + Send + Sync, W: Gate>(
+    rt: &(impl AllocGlobal + Threads + Wait + Sync),
     book: Book<MemoryStore>,
     blanks: Blanks,
-    scenario: Scenario,
-) -> Result<(), Fail>
+    asked: &Asked<W>,
+) -> Result<Outcome, Fail>
     requires same { book ≡ E.book }
     requires entries { BlankFits blanks.entries E.name E.parts 5 }
     requires given { BlankFits blanks.given G.name G.parts 5 }
@@ -56,32 +151,25 @@ fn carried_out<E: Tally + Send + Sync, G: Tally + Send + Sync, B: Tally + Send +
         Err((_, book, blanks)) => SharedBook::share(rt.alloc(), book, blanks, 4),
         answer => answer,
     };
-    let (shared, desks) = shared.ok().ok_or("memory for desks")?;
-    let service = SigningService::over(shared);
-    match scenario {
-        Scenario::FourJobs { workers } => four_jobs(rt, service, desks, workers),
-        Scenario::TooFewAndTooMany => too_few_and_too_many(rt, service, desks),
-        Scenario::FailedWrite => failed_write(rt, service, desks),
-        Scenario::AtOnce => at_once(rt, service, desks),
-        Scenario::AllIndices => all_indices(rt, service, desks),
-        Scenario::RefusedMemory { workers } => memory::sign_four(rt, service, desks, workers),
-        Scenario::Meeting { workers } => meet(rt, service, desks, workers),
+    match shared {
+        Ok((shared, desks)) => settled(rt, SigningService::over(shared), desks, asked),
+        Err(_) => Err(Fail::from("memory for desks")),
     }
 }
 
-/// Carries a scenario out with the book of this store.
-fn carry_out(
-    rt: &(impl Abort + AllocGlobal + Threads + Wait + Sync),
+/// Asks a service over the book of this store for the batches.
+fn carry_out<W: Gate>(
+    rt: &(impl AllocGlobal + Threads + Wait + Sync),
     store: MemoryStore,
-    scenario: Scenario,
-) -> Result<(), Fail> {
+    asked: &Asked<W>,
+) -> Result<Outcome, Fail> {
     let book = book_of(rt.alloc(), store)?;
     let blanks = Blanks {
         entries: Blank::new(5),
         given: Blank::new(5),
         burnt: Blank::new(5),
     };
-    carried_out::<Brand, Brand, Brand>(rt, book, blanks, scenario)
+    carried_out::<Brand, Brand, Brand, W>(rt, book, blanks, asked)
 }
 
 /// As many jobs, whose messages are the numbers from 0 on, and whose randomizers begin with them.
@@ -99,233 +187,166 @@ fn jobs_of(alloc: Global, count: usize) -> Result<Vec<Job>, Fail> {
     Ok(jobs)
 }
 
-/// What a desk counted: entries, received, burnt.
-fn counts<E: Tally, G: Tally, B: Tally>(desk: &Desk<E, G, B>) -> (u64, u64, u64) {
-    (desk.entries(), desk.received(), desk.burnt())
-}
-
-/// Settles with all desks, and compares history and counter.
-fn settled<E: Tally, G: Tally, B: Tally>(
-    rt: &impl Abort,
-    service: SigningService<MemoryStore, E, G, B>,
-    desks: Vec<Desk<E, G, B>>,
-    history: &[Entry],
-    counter: u64,
-) -> Result<(), Fail> {
-    let settled = service.into_book().settle(desks);
-    let book = settled.ok().ok_or("all desks are there")?;
-    assert_eq!(rt; book.history(), history);
-    assert_eq!(rt; book.counter(), counter);
-    Ok(())
-}
-
-/// Signs four jobs from index 30 on, by 1 to 64 workers.
-fn four_jobs<E: Tally, G: Tally, B: Tally>(
-    rt: &(impl Abort + AllocGlobal + Threads + Wait + Sync),
-    service: SigningService<MemoryStore, E, G, B>,
-    desks: Vec<Desk<E, G, B>>,
+/// Signs jobs at the open gate, over a store whose next index is this one.
+fn signed_from(
+    rt: &(impl AllocGlobal + Threads + Wait + Sync),
+    start: u64,
+    jobs: &[Job],
+    lengths: &[usize],
     workers: usize,
-) -> Result<(), Fail> {
-    let mut desks = desks;
-    let desk = desks.first_mut().ok_or("a desk")?;
-    let jobs = jobs_of(rt.alloc(), 4)?;
-    let workers = workers.clamp(1, 64);
-    let batch = service.sign_batch(rt, rt.alloc(), desk, &jobs, workers, &OpenGate);
-    let batch = batch.ok().ok_or("a batch")?;
-    assert!(rt; is_complete(rt, &batch, 30, &jobs)?, "{workers}");
-    assert_eq!(rt; counts(desk), (1, 4, 0), "{workers}");
-    settled(rt, service, desks, &[Entry::Given { len: 4 }], 34)
+) -> Result<Outcome, Fail> {
+    let store = store_at(rt.alloc(), &LEVELS, 0x11, start)?;
+    let asked = Asked {
+        jobs,
+        lengths,
+        workers,
+        gate: &OpenGate,
+        at_once: false,
+    };
+    carry_out(rt, store, &asked)
 }
 
 #[test]
 fn four_jobs_are_signed_by_each_number_of_workers(rt: HostRuntime) -> Result<(), Fail> {
+    let jobs = jobs_of(rt.alloc(), 4)?;
     for workers in [1, 4, 64] {
-        let store = store_at(rt.alloc(), &LEVELS, 0x11, 30)?;
-        carry_out(&rt, store, Scenario::FourJobs { workers })?;
+        let outcome = signed_from(&rt, 30, &jobs, &[4], workers)?;
+        assert!(rt; outcome.is_complete(&rt, 0, 30, &jobs)?, "{workers}");
+        assert!(rt; outcome.has_counted(0, (1, 4, 0)), "{workers}");
+        assert!(rt; outcome.has_ended(&[Entry::Given { len: 4 }], 34));
     }
     Ok(())
 }
 
-/// Whether a batch is complete and has no signatures, from 0 on.
-fn is_of_none(batch: &Batch) -> bool {
-    match batch {
-        Batch::Complete { start, signatures } => *start == 0 && signatures.is_empty(),
-        Batch::Partial { .. } => false,
-    }
-}
-
 /// No job makes a batch of none; 1025 jobs are refused, and 1024 where 994 indices are left. Nothing is reserved.
-fn too_few_and_too_many<E: Tally, G: Tally, B: Tally>(
-    rt: &(impl Abort + AllocGlobal + Threads + Wait + Sync),
-    service: SigningService<MemoryStore, E, G, B>,
-    desks: Vec<Desk<E, G, B>>,
-) -> Result<(), Fail> {
-    let mut desks = desks;
-    let desk = desks.first_mut().ok_or("a desk")?;
-    let none = service.sign_batch(rt, rt.alloc(), desk, &[], 1, &OpenGate);
-    assert!(rt; is_of_none(&none.ok().ok_or("no jobs make a batch")?));
-    let mut jobs = jobs_of(rt.alloc(), 1025)?;
-    let many = service.sign_batch(rt, rt.alloc(), desk, &jobs, 1, &OpenGate);
-    assert_eq!(rt; many.err(), Some(BatchFault::TooMany));
-    jobs.pop();
-    let refused = service.sign_batch(rt, rt.alloc(), desk, &jobs, 1, &OpenGate);
-    let exhausted = BatchFault::Book(BookFault::Exhausted { left: 994 });
-    assert_eq!(rt; refused.err(), Some(exhausted));
-    assert_eq!(rt; counts(desk), (0, 0, 0));
-    settled(rt, service, desks, &[], 30)
-}
-
 #[test]
 fn too_few_and_too_many_jobs_reserve_nothing(rt: HostRuntime) -> Result<(), Fail> {
-    let store = store_at(rt.alloc(), &LEVELS, 0x11, 30)?;
-    carry_out(&rt, store, Scenario::TooFewAndTooMany)
+    let jobs = jobs_of(rt.alloc(), 1025)?;
+    let outcome = signed_from(&rt, 30, &jobs, &[0, 1025, 1024], 1)?;
+    assert!(rt; outcome.is_of_none(0));
+    assert!(rt; outcome.has_fault(1, BatchFault::TooMany));
+    assert!(rt; outcome.has_fault(2, BatchFault::Book(BookFault::Exhausted { left: 994 })));
+    assert!(rt; outcome.has_counted(2, (0, 0, 0)));
+    assert!(rt; outcome.has_ended(&[], 30));
+    Ok(())
+}
+
+/// Two batches of the jobs by two workers at a store whose first write fails.
+fn signed_past_a_failed_write(
+    rt: &(impl AllocGlobal + Threads + Wait + Sync),
+    jobs: &[Job],
+) -> Result<Outcome, Fail> {
+    let mut store = store_at(rt.alloc(), &LEVELS, 0x11, 0)?;
+    store.fail_replace(1, Left::Old);
+    let asked = Asked {
+        jobs,
+        lengths: &[4, 4],
+        workers: 2,
+        gate: &OpenGate,
+        at_once: false,
+    };
+    carry_out(rt, store, &asked)
 }
 
 /// A batch of four whose write fails burns its indices, and the next one goes on after them.
-fn failed_write<E: Tally, G: Tally, B: Tally>(
-    rt: &(impl Abort + AllocGlobal + Threads + Wait + Sync),
-    service: SigningService<MemoryStore, E, G, B>,
-    desks: Vec<Desk<E, G, B>>,
-) -> Result<(), Fail> {
-    let mut desks = desks;
-    let desk = desks.first_mut().ok_or("a desk")?;
-    let jobs = jobs_of(rt.alloc(), 4)?;
-    let refused = service.sign_batch(rt, rt.alloc(), desk, &jobs, 2, &OpenGate);
-    let burnt = BatchFault::Book(BookFault::Store { start: 0, len: 4 });
-    assert_eq!(rt; refused.err(), Some(burnt));
-    assert_eq!(rt; counts(desk), (1, 0, 4));
-    let batch = service.sign_batch(rt, rt.alloc(), desk, &jobs, 2, &OpenGate);
-    assert!(rt; is_complete(rt, &batch.ok().ok_or("a batch")?, 4, &jobs)?);
-    assert_eq!(rt; counts(desk), (2, 4, 4));
-    let history = [Entry::Burnt { len: 4 }, Entry::Given { len: 4 }];
-    settled(rt, service, desks, &history, 8)
-}
-
 #[test]
 fn a_failed_write_burns_a_batch(rt: HostRuntime) -> Result<(), Fail> {
-    let mut store = store_at(rt.alloc(), &LEVELS, 0x11, 0)?;
-    store.fail_replace(1, Left::Old);
-    carry_out(&rt, store, Scenario::FailedWrite)
+    let jobs = jobs_of(rt.alloc(), 4)?;
+    let outcome = signed_past_a_failed_write(&rt, &jobs)?;
+    assert!(rt; outcome.has_fault(0, BatchFault::Book(BookFault::Store { start: 0, len: 4 })));
+    assert!(rt; outcome.has_counted(0, (1, 0, 4)));
+    assert!(rt; outcome.is_complete(&rt, 1, 4, &jobs)?);
+    assert!(rt; outcome.has_counted(1, (2, 4, 4)));
+    assert!(rt; outcome.has_ended(&[Entry::Burnt { len: 4 }, Entry::Given { len: 4 }], 8));
+    Ok(())
 }
 
-/// The first index of a batch that is complete, with signatures of the jobs that are accepted.
-fn start_of_valid(public: &[u8], batch: &Batch, jobs: &[Job]) -> Option<u64> {
-    let Batch::Complete { start, signatures } = batch else {
-        return None;
-    };
-    let mut is_valid = signatures.len() == jobs.len();
-    for (signature, job) in signatures.iter().zip(jobs) {
-        is_valid = is_valid && verify(public, &job.message, signature);
-    }
-    if is_valid { Some(*start) } else { None }
-}
-
-/// Two batches of the jobs by two workers at a desk: the first index of each that is valid.
-fn two_batches<E: Tally, G: Tally, B: Tally>(
+/// Two batches of the jobs by two workers, at each of four desks at once.
+fn signed_at_once(
     rt: &(impl AllocGlobal + Threads + Wait + Sync),
-    service: &SigningService<MemoryStore, E, G, B>,
-    desk: Desk<E, G, B>,
-    public: &[u8],
     jobs: &[Job],
-) -> (Desk<E, G, B>, [Option<u64>; 2]) {
-    let mut desk = desk;
-    let mut starts = [None; 2];
-    for start in starts.iter_mut() {
-        if let Ok(batch) = service.sign_batch(rt, rt.alloc(), &mut desk, jobs, 2, &OpenGate) {
-            *start = start_of_valid(public, &batch, jobs);
-        }
-    }
-    (desk, starts)
+) -> Result<Outcome, Fail> {
+    let store = store_at(rt.alloc(), &LEVELS, 0x11, 0)?;
+    let asked = Asked {
+        jobs,
+        lengths: &[8, 8],
+        workers: 2,
+        gate: &OpenGate,
+        at_once: true,
+    };
+    carry_out(rt, store, &asked)
 }
 
-/// The desks of four threads, where their batches begin at the multiples of 8 up to 56, each once.
-fn gathered<E: Tally, G: Tally, B: Tally>(
-    rt: &(impl Abort + AllocGlobal),
-    visits: Vec<(Desk<E, G, B>, [Option<u64>; 2])>,
-) -> Result<Vec<Desk<E, G, B>>, Fail> {
-    let mut desks = Vec::new(rt.alloc());
-    let mut starts = Vec::new(rt.alloc());
-    for (desk, [first, second]) in visits {
-        assert_eq!(rt; counts(&desk), (2, 16, 0));
-        desks.push(desk)?;
-        starts.push(first)?;
-        starts.push(second)?;
-    }
-    starts.sort_unstable();
-    let multiples = [0, 8, 16, 24, 32, 40, 48, 56].map(|start: u64| Some(start));
-    assert_eq!(rt; starts.as_slice(), multiples.as_slice());
-    Ok(desks)
+/// Whether the batches begin at the multiples of 8 up to 56, each once.
+fn are_at_multiples(starts: &[Option<u64>]) -> bool {
+    let multiples = [
+        Some(0),
+        Some(8),
+        Some(16),
+        Some(24),
+        Some(32),
+        Some(40),
+        Some(48),
+        Some(56),
+    ];
+    starts == multiples.as_slice()
 }
 
 /// Four threads sign two batches of eight jobs each.
-fn at_once<E: Tally + Send + Sync, G: Tally + Send + Sync, B: Tally + Send + Sync>(
-    rt: &(impl Abort + AllocGlobal + Threads + Wait + Sync),
-    service: SigningService<MemoryStore, E, G, B>,
-    desks: Vec<Desk<E, G, B>>,
-) -> Result<(), Fail> {
-    let jobs = jobs_of(rt.alloc(), 8)?;
-    let public = public_key(rt, service.key())?;
-    let (lent, jobs) = (&service, jobs.as_slice());
-    let visits = thread::map_vec(
-        rt,
-        desks,
-        &|desk| two_batches(rt, lent, desk, &public, jobs),
-    )?;
-    let desks = gathered(rt, visits)?;
-    settled(rt, service, desks, &[Entry::Given { len: 8 }; 8], 64)
-}
-
 #[test]
 fn batches_at_once(rt: HostRuntime) -> Result<(), Fail> {
-    let store = store_at(rt.alloc(), &LEVELS, 0x11, 0)?;
-    carry_out(&rt, store, Scenario::AtOnce)
+    let jobs = jobs_of(rt.alloc(), 8)?;
+    let outcome = signed_at_once(&rt, &jobs)?;
+    for last in [1, 3, 5, 7] {
+        assert!(rt; outcome.has_counted(last, (2, 16, 0)));
+    }
+    let public = public_key(&rt, outcome.key)?;
+    let starts = starts_of(rt.alloc(), &public, &outcome, &jobs)?;
+    assert!(rt; are_at_multiples(&starts));
+    assert!(rt; outcome.has_ended(&[Entry::Given { len: 8 }; 8], 64));
+    Ok(())
 }
 
-/// Signs 1024 jobs by 64 workers.
-fn all_indices<E: Tally, G: Tally, B: Tally>(
-    rt: &(impl Abort + AllocGlobal + Threads + Wait + Sync),
-    service: SigningService<MemoryStore, E, G, B>,
-    desks: Vec<Desk<E, G, B>>,
-) -> Result<(), Fail> {
-    let mut desks = desks;
-    let desk = desks.first_mut().ok_or("a desk")?;
-    let jobs = jobs_of(rt.alloc(), 1024)?;
-    let public = public_key(rt, service.key())?;
-    let batch = service.sign_batch(rt, rt.alloc(), desk, &jobs, 64, &OpenGate);
-    let batch = batch.ok().ok_or("a batch")?;
-    assert!(rt; start_of_valid(&public, &batch, &jobs) == Some(0));
-    settled(rt, service, desks, &[Entry::Given { len: 1024 }], 1024)
-}
-
+/// 1024 jobs are signed by 64 workers.
 #[test]
 fn all_indices_are_signed_by_as_many_workers_as_may_be(rt: HostRuntime) -> Result<(), Fail> {
-    let store = store_at(rt.alloc(), &LEVELS, 0x11, 0)?;
-    carry_out(&rt, store, Scenario::AllIndices)
+    let jobs = jobs_of(rt.alloc(), 1024)?;
+    let outcome = signed_from(&rt, 0, &jobs, &[1024], 64)?;
+    let public = public_key(&rt, outcome.key)?;
+    assert!(rt; outcome.start_of(0, &public, &jobs) == Some(0));
+    assert!(rt; outcome.has_ended(&[Entry::Given { len: 1024 }], 1024));
+    Ok(())
 }
 
-/// Signs two jobs by one to three workers, where one alone waits in vain for another, and a third finds no job.
-fn meet<E: Tally, G: Tally, B: Tally>(
-    rt: &(impl Abort + AllocGlobal + Threads + Wait + Sync),
-    service: SigningService<MemoryStore, E, G, B>,
-    desks: Vec<Desk<E, G, B>>,
+/// Signs the jobs from index 30 on at a gate.
+fn signed_at<W: Gate>(
+    rt: &(impl AllocGlobal + Threads + Wait + Sync),
+    jobs: &[Job],
     workers: usize,
-) -> Result<(), Fail> {
-    let mut desks = desks;
-    let desk = desks.first_mut().ok_or("a desk")?;
-    let jobs = jobs_of(rt.alloc(), 2)?;
-    let gate = Meeting::new();
-    let workers = workers.clamp(1, 3);
-    let batch = service.sign_batch(rt, rt.alloc(), desk, &jobs, workers, &gate);
-    assert!(rt; is_complete(rt, &batch.ok().ok_or("a batch")?, 30, &jobs)?);
-    assert!(rt; gate.is_missed() == (workers == 1) && gate.is_called_in_turn());
-    settled(rt, service, desks, &[Entry::Given { len: 2 }], 32)
+    gate: &W,
+) -> Result<Outcome, Fail> {
+    let store = store_at(rt.alloc(), &LEVELS, 0x11, 30)?;
+    let asked = Asked {
+        jobs,
+        lengths: &[2],
+        workers,
+        gate,
+        at_once: false,
+    };
+    carry_out(rt, store, &asked)
 }
 
+/// Two jobs by one to three workers, each signature of which waits a while until the other one has begun: one worker alone waits
+/// in vain for another, and a third finds no job.
 #[test]
 fn two_workers_sign_at_once(rt: HostRuntime) -> Result<(), Fail> {
+    let jobs = jobs_of(rt.alloc(), 2)?;
     for workers in [3, 2, 1] {
-        let store = store_at(rt.alloc(), &LEVELS, 0x11, 30)?;
-        carry_out(&rt, store, Scenario::Meeting { workers })?;
+        let gate = Meeting::new();
+        let outcome = signed_at(&rt, &jobs, workers, &gate)?;
+        assert!(rt; outcome.is_complete(&rt, 0, 30, &jobs)?);
+        assert!(rt; gate.is_missed() == (workers == 1) && gate.is_called_in_turn());
+        assert!(rt; outcome.has_ended(&[Entry::Given { len: 2 }], 32));
     }
     Ok(())
 }

@@ -1,12 +1,13 @@
 //! Batches where a request for memory is refused.
 use super::gates::Notes;
-use super::{Scenario, carry_out, counts, jobs_of, settled};
+use super::outcome::Outcome;
+use super::{Asked, carry_out, jobs_of};
 use crate::fixtures::{CHEAP, key_of, store_at};
 use crate::tests::slow;
-use crate::{Batch, BatchFault, Job, SigningService};
-use lms_book::{BookFault, Entry, MemoryStore};
+use crate::{Batch, BatchFault, Job};
+use lms_book::{BookFault, Entry};
 use lms_hss::{Forest, HssKey};
-use lms_shared_book::{Desk, Tally};
+use std::alloc::Global;
 use std::process::Abort;
 use std::sync::Wait;
 use std::test::Fail;
@@ -51,17 +52,23 @@ fn signatures_of(
     Ok(signatures)
 }
 
+/// How many of these signatures are the slow signer's of these jobs, from index 30 on.
+fn slow_ones(alloc: Global, jobs: &[Job], signatures: &[Vec<u8>]) -> Result<u64, Fail> {
+    let mut count = 0_u64;
+    for ((job, signature), g) in jobs.iter().zip(signatures).zip(30..34) {
+        if *signature == slow(alloc, &CHEAP, g, job)? {
+            count = count.saturating_add(1);
+        }
+    }
+    Ok(count)
+}
+
 /// What batches are held against below is what the slow signer makes.
 #[test]
 fn four_signatures_are_the_slow_ones(rt: HostRuntime) -> Result<(), Fail> {
     let jobs = jobs_of(rt.alloc(), 4)?;
     let signatures = signatures_of(&rt, key_of(&CHEAP, 0x11)?, &jobs)?;
-    let mut count = 0_u64;
-    for ((job, signature), g) in jobs.iter().zip(&signatures).zip(30..34) {
-        assert!(rt; *signature == slow(rt.alloc(), &CHEAP, g, job)?);
-        count = count.saturating_add(1);
-    }
-    assert_eq!(rt; count, 4);
+    assert_eq!(rt; slow_ones(rt.alloc(), &jobs, &signatures)?, 4);
     Ok(())
 }
 
@@ -88,45 +95,64 @@ fn is_of(batch: &Batch, expected: &[Vec<u8>]) -> bool {
     }
 }
 
-/// All jobs are signed, or some, or none, with their indices used; or nothing is reserved. The gate is told accordingly.
-pub(super) fn sign_four<E: Tally, G: Tally, B: Tally>(
+/// A batch of these four jobs from index 30 on, by so many workers at a gate.
+fn signed_four(
+    rt: &(impl AllocGlobal + Threads + Wait + Sync),
+    jobs: &[Job],
+    workers: usize,
+    notes: &Notes,
+) -> Result<Outcome, Fail> {
+    let store = store_at(rt.alloc(), &CHEAP, 0x11, 30)?;
+    let asked = Asked {
+        jobs,
+        lengths: &[4],
+        workers,
+        gate: notes,
+        at_once: false,
+    };
+    carry_out(rt, store, &asked)
+}
+
+/// Whether the batch has these signatures, or some of them, or none, and the gate was told accordingly.
+fn is_as_told(outcome: &Outcome, expected: &[Vec<u8>], notes: &Notes, workers: usize) -> bool {
+    if let Some(batch) = outcome.batch(0) {
+        return is_of(batch, expected) && notes.is_of(batch, workers);
+    }
+    let is_refused = outcome.has_fault(0, BatchFault::OutOfMemory { burnt: 4 })
+        || outcome.has_fault(0, BatchFault::Book(BookFault::OutOfMemory));
+    is_refused && notes.is_blank()
+}
+
+/// Whether the indices are used, or nothing is reserved where the book was refused memory.
+fn is_counted(outcome: &Outcome) -> bool {
+    if outcome.has_fault(0, BatchFault::Book(BookFault::OutOfMemory)) {
+        return outcome.has_counted(0, (0, 0, 0)) && outcome.has_ended(&[], 30);
+    }
+    outcome.has_counted(0, (1, 4, 0)) && outcome.has_ended(&[Entry::Given { len: 4 }], 34)
+}
+
+/// Whether all jobs are signed, or some, or none, with their indices used; or nothing is reserved. The gate is told accordingly.
+fn sign_four(
     rt: &(impl Abort + AllocGlobal + Threads + Wait + Sync),
-    service: SigningService<MemoryStore, E, G, B>,
-    desks: Vec<Desk<E, G, B>>,
     workers: usize,
 ) -> Result<(), Fail> {
-    let mut desks = desks;
-    let desk = desks.first_mut().ok_or("a desk")?;
     let jobs = jobs_of(rt.alloc(), 4)?;
-    let expected = signatures_of(rt, service.key(), &jobs)?;
     let notes = Notes::new();
-    let workers = workers.clamp(1, 4);
-    let answer = service.sign_batch(rt, rt.alloc(), desk, &jobs, workers, &notes);
-    let used = match answer {
-        Ok(batch) => is_of(&batch, &expected) && notes.is_of(&batch, workers),
-        Err(BatchFault::OutOfMemory { burnt }) => burnt == 4 && notes.is_blank(),
-        Err(fault) => {
-            assert_eq!(rt; fault, BatchFault::Book(BookFault::OutOfMemory));
-            assert!(rt; notes.is_blank());
-            assert_eq!(rt; counts(desk), (0, 0, 0));
-            return settled(rt, service, desks, &[], 30);
-        }
-    };
-    assert!(rt; used);
-    assert_eq!(rt; counts(desk), (1, 4, 0));
-    settled(rt, service, desks, &[Entry::Given { len: 4 }], 34)
+    let outcome = signed_four(rt, &jobs, workers, &notes)?;
+    let expected = signatures_of(rt, outcome.key, &jobs)?;
+    assert!(rt; is_as_told(&outcome, &expected, &notes, workers));
+    assert!(rt; is_counted(&outcome));
+    Ok(())
 }
 
 /// `tests/refused` refuses each request for memory in turn.
 #[test]
 fn four_workers_after_refused_memory(rt: HostRuntime) -> Result<(), Fail> {
-    let store = store_at(rt.alloc(), &CHEAP, 0x11, 30)?;
-    carry_out(&rt, store, Scenario::RefusedMemory { workers: 4 })
+    sign_four(&rt, 4)
 }
 
 /// The same by one worker.
 #[test]
 fn one_worker_after_refused_memory(rt: HostRuntime) -> Result<(), Fail> {
-    let store = store_at(rt.alloc(), &CHEAP, 0x11, 30)?;
-    carry_out(&rt, store, Scenario::RefusedMemory { workers: 1 })
+    sign_four(&rt, 1)
 }
