@@ -327,23 +327,23 @@ fn takes_both<'j>(collector: &mut Collector<'j>, first: Receipt<'j>, second: Rec
     refusal(collector, second).is_none() && is_taken
 }
 
-/// Receipts of two jobs, by indices 31 and 32.
-fn two_receipts<'j>(
+/// Whether a collector takes receipts of its two jobs, by indices 31 and 32, the second one first.
+fn takes_the_second_first<'j>(
     rt: &(impl AllocGlobal + Threads + Sync),
+    collector: &mut Collector<'j>,
     jobs: &'j [Job; 2],
-) -> Result<(Receipt<'j>, Receipt<'j>), Fail> {
+) -> Result<bool, Fail> {
     let (lease, mut seat) = opened(rt, &LEVELS, 0x11, 31, 2)?;
     let first = signed(&lease, &mut seat, &jobs[0])?;
     let second = signed(&lease, &mut seat, &jobs[1])?;
-    Ok((first, second))
+    Ok(takes_both(collector, second, first))
 }
 
 #[test]
 fn a_batch_is_in_the_order_of_its_jobs(rt: HostRuntime) -> Result<(), Fail> {
     let jobs = two_jobs(rt.alloc(), b"a", b"b")?;
     let mut collector = Collector::new(rt.alloc(), key_of(&LEVELS, 0x11)?, 31, &jobs)?;
-    let (first, second) = two_receipts(&rt, &jobs)?;
-    assert!(rt; takes_both(&mut collector, second, first));
+    assert!(rt; takes_the_second_first(&rt, &mut collector, &jobs)?);
     assert!(rt; is_complete(&rt, &collector.finish(), 31, &jobs)?);
     Ok(())
 }
@@ -357,20 +357,22 @@ fn collector_of(alloc: Global, jobs: &[Job]) -> Result<Collector<'_>, Fail> {
     }
 }
 
-/// Receipts of two jobs, by indices 5 and 6 of 5/2,5/2, where any request for memory may be refused.
-fn receipts_at_last<'j>(
-    rt: &(impl AllocGlobal + Threads + Sync),
-    jobs: &'j [Job; 2],
-) -> Result<(Receipt<'j>, Receipt<'j>), Fail> {
-    let (lease, mut seat) = opened(rt, &CHEAP, 0x11, 5, 2)?;
-    let first = signed_at_last(&lease, &mut seat, &jobs[0])?;
-    let second = signed_after_claim(&lease, &mut seat, &jobs[1])?;
-    Ok((first, second))
-}
-
 /// Whether a receipt is of this place and index.
 fn is_of(receipt: &Receipt, place: u64, index: u64) -> bool {
     receipt.place() == place && receipt.index() == index
+}
+
+/// Whether a collector takes receipts of its two jobs, by indices 5 and 6 of 5/2,5/2, where any request for memory may be refused.
+fn takes_at_last<'j>(
+    rt: &(impl AllocGlobal + Threads + Sync),
+    collector: &mut Collector<'j>,
+    jobs: &'j [Job; 2],
+) -> Result<bool, Fail> {
+    let (lease, mut seat) = opened(rt, &CHEAP, 0x11, 5, 2)?;
+    let first = signed_at_last(&lease, &mut seat, &jobs[0])?;
+    let second = signed_after_claim(&lease, &mut seat, &jobs[1])?;
+    let are_there = is_of(&first, 0, 5) && is_of(&second, 1, 6);
+    Ok(takes_both(collector, first, second) && are_there)
 }
 
 /// Whether a batch is complete, from this index on.
@@ -389,9 +391,7 @@ fn is_complete_from(batch: &Batch, first: u64) -> bool {
 fn a_lease_signs_after_refused_memory(rt: HostRuntime) -> Result<(), Fail> {
     let jobs = two_jobs(rt.alloc(), b"abc", b"")?;
     let mut collector = collector_of(rt.alloc(), &jobs)?;
-    let (first, second) = receipts_at_last(&rt, &jobs)?;
-    assert!(rt; is_of(&first, 0, 5) && is_of(&second, 1, 6));
-    assert!(rt; takes_both(&mut collector, first, second));
+    assert!(rt; takes_at_last(&rt, &mut collector, &jobs)?);
     assert!(rt; is_complete_from(&collector.finish(), 5));
     Ok(())
 }

@@ -89,6 +89,16 @@ fn visited<E: Tally, G: Tally, B: Tally, W: Gate>(
     (desk, answers)
 }
 
+/// Puts what a thread got behind the answers.
+fn keep(
+    answers: &mut Vec<Answer>,
+    found: Result<Vec<Answer>, OutOfMemory>,
+) -> Result<(), OutOfMemory> {
+    let mut found = found?;
+    answers.append(&mut found)?;
+    Ok(())
+}
+
 /// The desks that the threads hand back, and the answers that they got.
 fn gathered<E: Tally, G: Tally, B: Tally>(
     alloc: Global,
@@ -98,7 +108,7 @@ fn gathered<E: Tally, G: Tally, B: Tally>(
     let mut answers = Vec::new(alloc);
     for (desk, found) in visits {
         desks.push(desk)?;
-        answers.append(&mut found?)?;
+        keep(&mut answers, found)?;
     }
     Ok((desks, answers))
 }
@@ -206,14 +216,23 @@ fn signed_from(
     carry_out(rt, store, &asked)
 }
 
+/// Whether so many workers sign four jobs.
+fn four_are_signed(
+    rt: &(impl AllocGlobal + Threads + Wait + Sync),
+    jobs: &[Job],
+    workers: usize,
+) -> Result<bool, Fail> {
+    let outcome = signed_from(rt, 30, jobs, &[4], workers)?;
+    let is_counted = outcome.has_counted(0, (1, 4, 0));
+    let has_ended = outcome.has_ended(&[Entry::Given { len: 4 }], 34);
+    Ok(is_counted && has_ended && outcome.is_complete(rt, 0, 30, jobs)?)
+}
+
 #[test]
 fn four_jobs_are_signed_by_each_number_of_workers(rt: HostRuntime) -> Result<(), Fail> {
     let jobs = jobs_of(rt.alloc(), 4)?;
     for workers in [1, 4, 64] {
-        let outcome = signed_from(&rt, 30, &jobs, &[4], workers)?;
-        assert!(rt; outcome.is_complete(&rt, 0, 30, &jobs)?, "{workers}");
-        assert!(rt; outcome.has_counted(0, (1, 4, 0)), "{workers}");
-        assert!(rt; outcome.has_ended(&[Entry::Given { len: 4 }], 34));
+        assert!(rt; four_are_signed(&rt, &jobs, workers)?, "{workers}");
     }
     Ok(())
 }
@@ -277,8 +296,21 @@ fn signed_at_once(
     carry_out(rt, store, &asked)
 }
 
-/// Whether the batches begin at the multiples of 8 up to 56, each once.
-fn are_at_multiples(starts: &[Option<u64>]) -> bool {
+/// Whether each of four desks counted two batches of eight in the end.
+fn are_counted(outcome: &Outcome) -> bool {
+    let mut is_right = true;
+    for last in [1, 3, 5, 7] {
+        is_right = is_right && outcome.has_counted(last, (2, 16, 0));
+    }
+    is_right
+}
+
+/// Whether the batches are valid, and begin at the multiples of 8 up to 56, each once.
+fn are_at_multiples(
+    rt: &(impl AllocGlobal + Threads + Sync),
+    outcome: &Outcome,
+    jobs: &[Job],
+) -> Result<bool, Fail> {
     let multiples = [
         Some(0),
         Some(8),
@@ -289,7 +321,9 @@ fn are_at_multiples(starts: &[Option<u64>]) -> bool {
         Some(48),
         Some(56),
     ];
-    starts == multiples.as_slice()
+    let public = public_key(rt, outcome.key)?;
+    let starts = starts_of(rt.alloc(), &public, outcome, jobs)?;
+    Ok(starts.as_slice() == multiples.as_slice())
 }
 
 /// Four threads sign two batches of eight jobs each.
@@ -297,12 +331,8 @@ fn are_at_multiples(starts: &[Option<u64>]) -> bool {
 fn batches_at_once(rt: HostRuntime) -> Result<(), Fail> {
     let jobs = jobs_of(rt.alloc(), 8)?;
     let outcome = signed_at_once(&rt, &jobs)?;
-    for last in [1, 3, 5, 7] {
-        assert!(rt; outcome.has_counted(last, (2, 16, 0)));
-    }
-    let public = public_key(&rt, outcome.key)?;
-    let starts = starts_of(rt.alloc(), &public, &outcome, &jobs)?;
-    assert!(rt; are_at_multiples(&starts));
+    assert!(rt; are_counted(&outcome));
+    assert!(rt; are_at_multiples(&rt, &outcome, &jobs)?);
     assert!(rt; outcome.has_ended(&[Entry::Given { len: 8 }; 8], 64));
     Ok(())
 }
@@ -336,17 +366,25 @@ fn signed_at<W: Gate>(
     carry_out(rt, store, &asked)
 }
 
-/// Two jobs by one to three workers, each signature of which waits a while until the other one has begun: one worker alone waits
-/// in vain for another, and a third finds no job.
+/// Whether so many workers sign two jobs, where one alone waits in vain for another.
+fn two_are_signed(
+    rt: &(impl AllocGlobal + Threads + Wait + Sync),
+    jobs: &[Job],
+    workers: usize,
+) -> Result<bool, Fail> {
+    let gate = Meeting::new();
+    let outcome = signed_at(rt, jobs, workers, &gate)?;
+    let is_met = gate.is_missed() == (workers == 1) && gate.is_called_in_turn();
+    let has_ended = outcome.has_ended(&[Entry::Given { len: 2 }], 32);
+    Ok(is_met && has_ended && outcome.is_complete(rt, 0, 30, jobs)?)
+}
+
+/// Each signature waits a while until the other one has begun. A third worker finds no job.
 #[test]
 fn two_workers_sign_at_once(rt: HostRuntime) -> Result<(), Fail> {
     let jobs = jobs_of(rt.alloc(), 2)?;
     for workers in [3, 2, 1] {
-        let gate = Meeting::new();
-        let outcome = signed_at(&rt, &jobs, workers, &gate)?;
-        assert!(rt; outcome.is_complete(&rt, 0, 30, &jobs)?);
-        assert!(rt; gate.is_missed() == (workers == 1) && gate.is_called_in_turn());
-        assert!(rt; outcome.has_ended(&[Entry::Given { len: 2 }], 32));
+        assert!(rt; two_are_signed(&rt, &jobs, workers)?, "{workers}");
     }
     Ok(())
 }
