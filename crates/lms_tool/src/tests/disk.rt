@@ -140,6 +140,11 @@ fn state_has(rt: &HostRuntime, bytes: u64) -> Result<bool, Fail> {
     Ok(fs::metadata(rt, "program_files/key.state")?.len() == bytes)
 }
 
+/// Whether the state is a file of these bytes.
+fn state_is(rt: &HostRuntime, bytes: &[u8]) -> Result<bool, Fail> {
+    Ok(fs::read(rt, "program_files/key.state")?.as_slice() == bytes)
+}
+
 /// A state that version 1 wrote is described as it is, and turned by its first signature.
 #[test]
 fn opens_a_state_of_version_1(rt: HostRuntime) -> Result<(), Fail> {
@@ -148,7 +153,7 @@ fn opens_a_state_of_version_1(rt: HostRuntime) -> Result<(), Fail> {
     fs::write(&rt, "program_files/key.state", first.as_slice())?;
     let lines = "levels 5/8\ncounter 10\ncapacity 32\nleft 22\nopenings 0\nburnt 0\n";
     assert!(rt; says(&rt, &rt, &INFO, 0, lines));
-    assert!(rt; fs::read(&rt, rt.alloc(), "program_files/key.state")? == first);
+    assert!(rt; state_is(&rt, &first)?);
     assert!(rt; says(&rt, &rt, &SIGN, 0, "index 10\n"));
     assert!(rt; state_has(&rt, 124)?);
     let lines = "levels 5/8\ncounter 11\ncapacity 32\nleft 21\nopenings 1\nburnt 0\n";
