@@ -68,6 +68,17 @@ above-to key k g n there to =
 pub top-number : (key : HssKey) (g : ℕ) → g < capacity_of key → tree_number key g 0 ≡ 0
 top-number key g low = div-eq_of_lt low
 
+-- the tree of level 0 is the key's top tree
+pub top-is : (key : HssKey) (start last : ℕ) (level : LevelTrees) (tree : SignedTree) → HoldsLevel key 0 start last level → start ≤ last
+    → last < capacity_of key → tree ≡ get_or level.trees.items (0 - level.first) tree → tree_of tree.tree.key ≡ tree_at key 0 0
+top-is key start last level tree held order within found =
+    let zero = top-number key start (omega arith) in
+    let here : tree ≡ get_or level.trees.items (tree_number key start 0 - level.first) tree
+    = found ∙ ap (λ n. get_or level.trees.items (n - level.first) tree) (sym zero) in
+    let is = held.held start tree (omega arith) order (omega (arith, held.first))
+    (omega (arith, held.count, number-order key 0 start last order)) in
+    (subst (IsSignedTree key start 0) (sym here) is).tree
+
 -- the tree that stands below a leaf
 tree-below : (key : HssKey) (g k : ℕ) → tree_at key g (k + 1) ≡ child (tree_at key g k) (leaf_at key g k) (level_at key (k + 1))
 tree-below key g k =

@@ -36,5 +36,5 @@ trees_are_shared = struct_sync (shape level_trees.the_type) (search sendable dep
 pub forest_is_shared : IsSync forest.the_row
 forest_is_shared =
     let fields : IsSync (Struct (shape inside.the_type)) = struct_sync (shape inside.the_type)
-    (key_is_shared, (search sendable depth 20, (search sendable depth 20, (trees_are_shared, (search (sendable, crosses) depth 20, tt))))) in
+    (key_is_shared, (search sendable depth 20, (search sendable depth 20, (search sendable depth 20, (trees_are_shared, (search (sendable, crosses) depth 20, tt)))))) in
     view_sync inside.the_row _ _ _ _ (recorded_sync (Struct (shape inside.the_type)) inside.the_type.D inside.the_type.to inside.the_type.to_one fields)

@@ -1,15 +1,15 @@
 -- What a list of levels means, and which lists the signer takes.
-use Rattle.std.specs.Prelude.{ℕ, ◌≡◌, ◌-◌, ◌<◌, ◌≤◌, List, ◌++◌, length, map, take, All, replicate, Result}
+use Rattle.std.specs.Prelude.{ℕ, ◌≡◌, ◌-◌, ◌<◌, ◌≤◌, List, ◌++◌, length, map, take, replicate, Result}
 use Rattle.std.specs.Prelude.Result.{Ok, Err}
 use Rattle.lms_spec.specs.Hss.{Level, height_of, most_levels}
-use Rattle.lms_params.specs.LmsType.{lms_set_of, IsSigned}
+use Rattle.lms_params.specs.LmsType.{lms_set_of}
 use Rattle.lms_params.specs.OtsType.{ots_set_of}
 use Rattle.lms_params.specs.declared.lms_type.LmsType.{LmsType}
 use Rattle.lms_params.specs.declared.ots_type.OtsType.{OtsType}
 use Rattle.lms_params.specs.declared.lms_type.LmsType.TheVariants.{H5}
 use Rattle.lms_params.specs.declared.ots_type.OtsType.TheVariants.{W1}
 use Rattle.lms_hss.specs.declared.levels.KeyFault.{KeyFault}
-use Rattle.lms_hss.specs.declared.levels.KeyFault.TheVariants.{NoLevels, TooManyLevels, HeightNotSigned, TooTall}
+use Rattle.lms_hss.specs.declared.levels.KeyFault.TheVariants.{NoLevels, TooManyLevels, TooTall}
 
 -- the sets of a level
 abbrev pub level_of : LmsType × OtsType → Level
@@ -31,7 +31,6 @@ padded levels = levels ++ replicate (most_levels - length levels) (H5, W1)
 pub record IsAdmitted (levels : List (LmsType × OtsType)) : Type 0 where
   pub some_level : 1 ≤ length levels
   pub eight_at_most : length levels ≤ most_levels
-  pub signed : All (λ l. IsSigned l.0) levels
   pub not_too_tall : height_of (levels_of levels) ≤ most_height
 
 -- levels in the first places of eight
@@ -45,6 +44,5 @@ abbrev pub JudgesLevels : List (LmsType × OtsType) → Result (List (LmsType ×
 JudgesLevels levels (Ok taken) = (taken ≡ levels) × IsAdmitted levels
 JudgesLevels levels (Err NoLevels) = length levels ≡ 0
 JudgesLevels levels (Err TooManyLevels) = most_levels < length levels
-JudgesLevels levels (Err HeightNotSigned) = (1 ≤ length levels) × (length levels ≤ most_levels) × ¬ All (λ l. IsSigned l.0) levels
 JudgesLevels levels (Err TooTall) =
-    (1 ≤ length levels) × (length levels ≤ most_levels) × All (λ l. IsSigned l.0) levels × (most_height < height_of (levels_of levels))
+    (1 ≤ length levels) × (length levels ≤ most_levels) × (most_height < height_of (levels_of levels))

@@ -15,13 +15,14 @@ use std::marker::Model;
 use std::thread::Threads;
 
 /// All that is needed to sign with a range of a key's indices: the trees of the bottom level that these go through, with the
-/// nodes that their signatures need, and the signatures of the levels above, each made once. Contracts see the key and the
-/// range.
+/// nodes that their signatures need, and the signatures of the levels above, each made once; and the public key. Contracts
+/// see the key and the range.
 #[derive(Drop)]
 pub struct Forest {
     key: HssKey,
     start: u64,
     len: u64,
+    public: [u8; 60],
     bottom: LevelTrees,
     alloc: Global,
 }
@@ -31,11 +32,14 @@ impl Model for Forest {
 
     ghost Value = { Covered };
 
+    ghost use Rattle.std.specs.Prelude.{◌≡◌};
+    ghost use Rattle.lms_spec.specs.Profile.{hss_public_key};
+    ghost use Rattle.lms_hss.specs.Keys.{hss_key_of};
     ghost use Rattle.lms_hss.specs.Forests.{HoldsBottom};
 
     ghost view = { λ a. record { key = a.key; start = a.start; len = a.len } };
 
-    ghost invariant = { λ a. HoldsBottom a.key a.start a.len a.bottom };
+    ghost invariant = { λ a. HoldsBottom a.key a.start a.len a.bottom × (a.public ≡ hss_public_key (hss_key_of a.key)) };
 }
 
 impl Forest {
@@ -57,6 +61,7 @@ impl Forest {
         let below_top = key.levels.as_slice().len() - 1;
         let last = start + (len - 1);
         let mut trees = LevelTrees::top(rt, alloc, &key, start, last)?;
+        let public = trees.tree(0).public_key(&key);
         for k in 0..below_top {
             trees = trees.below(rt, alloc, &key, k, start, last)?;
         }
@@ -64,9 +69,17 @@ impl Forest {
             key,
             start,
             len,
+            public,
             bottom: trees,
             alloc,
         })
+    }
+
+    /// The public key, 60 bytes (RFC 8554, 6.1), of the top tree that the forest was made from. No tree is worked out again.
+    pub fn public(&self) -> [u8; 60]
+        ensures { result ≡ hss_public_key (hss_key_of self.now.key) }
+    {
+        self.public
     }
 
     /// Whether index g is in the range.

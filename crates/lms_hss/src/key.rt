@@ -87,8 +87,16 @@ impl HssKey {
         ensures { IfOk result (λ text. text ≡ hss_public_key (hss_key_of self.now)) }
     {
         let tree = BandTree::build(rt, alloc, self.top_tree(), 0, 0)?;
+        Ok(self.public_key_over(&tree))
+    }
+
+    /// The public key by the tree of level 0.
+    pub(crate) fn public_key_over(&self, top: &BandTree) -> [u8; 60]
+        requires { tree_of top.now.key ≡ tree_at (hss_key_of self.now) 0 0 }
+        ensures { result ≡ hss_public_key (hss_key_of self.now) }
+    {
         let levels = self.levels.as_slice().len();
-        Ok(public_key_bytes(levels as u32, &public_bytes(&tree)))
+        public_key_bytes(levels as u32, &public_bytes(top))
     }
 
     /// The tree of level 0.

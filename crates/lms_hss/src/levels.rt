@@ -1,6 +1,5 @@
 //! The levels of a key that signs.
-ghost use Rattle.std.specs.Prelude.{◌≡◌, ◌≤◌, ◌↔◌, IsTrue, All, length, drop};
-ghost use Rattle.lms_params.specs.LmsType.{IsSigned};
+ghost use Rattle.std.specs.Prelude.{◌≡◌, ◌≤◌, length, drop};
 ghost use Rattle.lms_spec.specs.Hss.{height_of, most_levels};
 ghost use Rattle.lms_hss.specs.Levels.{levels_of, padded as padded_of, most_height, IsAdmitted, JudgesLevels};
 
@@ -24,14 +23,12 @@ pub enum KeyFault {
     NoLevels,
     #[error("too many levels")]
     TooManyLevels,
-    #[error("height not signed")]
-    HeightNotSigned,
     #[error("too tall")]
     TooTall,
 }
 
-/// The levels of a key that signs, from the top: the LMS set and the LM-OTS set of each. There are 1 to 8, of heights 5,
-/// 10 and 15, which sum to at most 60. Contracts see the list.
+/// The levels of a key that signs, from the top: the LMS set and the LM-OTS set of each. There are 1 to 8, whose heights sum to
+/// at most 60. Contracts see the list.
 #[derive(Clone, Copy, PartialEq, Eq)]
 pub struct Levels {
     sets: [(LmsType, OtsType); MOST_LEVELS],
@@ -59,7 +56,7 @@ impl Model for Levels {
 
 impl Levels {
     /// Takes a list of levels, from the top. The first of these faults is answered: `NoLevels`, `TooManyLevels` for more
-    /// than 8, `HeightNotSigned` for a height of 20 or 25, `TooTall` for heights that sum to over 60.
+    /// than 8, `TooTall` for heights that sum to over 60.
     pub fn new(sets: &[(LmsType, OtsType)]) -> Result<Self, KeyFault>
         ensures { JudgesLevels sets.now result }
     {
@@ -68,9 +65,6 @@ impl Levels {
         }
         if sets.len() > MOST_LEVELS {
             return Err(KeyFault::TooManyLevels);
-        }
-        if !all_signed(sets) {
-            return Err(KeyFault::HeightNotSigned);
         }
         if height(sets) > MOST_HEIGHT {
             return Err(KeyFault::TooTall);
@@ -107,13 +101,6 @@ fn padded(sets: &[(LmsType, OtsType)]) -> [(LmsType, OtsType); MOST_LEVELS]
     let mut padded = NO_SETS;
     padded[..sets.len()].copy_from_slice(sets);
     padded
-}
-
-/// Whether the signer takes all of these heights.
-fn all_signed(sets: &[(LmsType, OtsType)]) -> bool
-    ensures { IsTrue result ↔ All (λ s. IsSigned s.0) sets.now }
-{
-    sets.iter().all(|(lms, _)| lms.is_signed())
 }
 
 /// The heights of these levels, added up.

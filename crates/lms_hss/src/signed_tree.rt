@@ -2,7 +2,7 @@
 ghost use Rattle.std.specs.Prelude.{ℕ, ◌≡◌, ◌+◌, ◌≤◌, ◌++◌, length, IfOk};
 ghost use Rattle.lms_spec.specs.Tree.{lms_signature};
 ghost use Rattle.lms_spec.specs.Hss.{level};
-ghost use Rattle.lms_spec.specs.Profile.{leaf_at};
+ghost use Rattle.lms_spec.specs.Profile.{hss_public_key, leaf_at, tree_at};
 ghost use Rattle.lms_tree.specs.TreeKey.{tree_of, signature_length_under};
 ghost use Rattle.lms_hss.specs.Keys.{hss_key_of};
 ghost use Rattle.lms_hss.specs.Forests.{AreLeaves, IsChild, IsSignedTree};
@@ -69,6 +69,14 @@ impl SignedTree {
         )?;
         self.sign_key_into(q, &randomizer(&key, q), &public_bytes(&tree), &mut head);
         Ok(SignedTree { tree, head })
+    }
+
+    /// The public key of the HSS key whose tree of level 0 this is.
+    pub(crate) fn public_key(&self, key: &HssKey) -> [u8; 60]
+        requires { tree_of self.now.tree.key ≡ tree_at (hss_key_of key.now) 0 0 }
+        ensures { result ≡ hss_public_key (hss_key_of key.now) }
+    {
+        key.public_key_over(&self.tree)
     }
 
     /// The head and the LMS signature of a message by leaf q, which is served, under the randomizer `c`.

@@ -1,5 +1,4 @@
 -- What an `LmsType` means.
-use Rattle.std.specs.Prelude.{◌≡◌, Bool, true, nat_le}
 use Rattle.lms_spec.specs.Parameters.{LmsSet, lms_h5, lms_h10, lms_h15, lms_h20, lms_h25}
 use Rattle.lms_params.specs.declared.lms_type.LmsType.{LmsType}
 use Rattle.lms_params.specs.declared.lms_type.LmsType.TheVariants.{H5, H10, H15, H20, H25}
@@ -11,10 +10,3 @@ lms_set_of H10 = lms_h10
 lms_set_of H15 = lms_h15
 lms_set_of H20 = lms_h20
 lms_set_of H25 = lms_h25
-
--- the signer takes trees of these heights
-abbrev pub is_signed_set : LmsSet → Bool
-is_signed_set set = nat_le set.h 15
-
-abbrev pub IsSigned : LmsType → Type 0
-IsSigned t = is_signed_set (lms_set_of t) ≡ true

@@ -1,7 +1,7 @@
 //! LMS parameter sets (RFC 8554, 5.1).
-ghost use Rattle.std.specs.Prelude.{◌≡◌, ◌↔◌, IsTrue, option_map};
+ghost use Rattle.std.specs.Prelude.{◌≡◌, option_map};
 ghost use Rattle.lms_spec.specs.Parameters.{lms_set, lms_signature_length};
-ghost use Rattle.lms_params.specs.LmsType.{lms_set_of, IsSigned};
+ghost use Rattle.lms_params.specs.LmsType.{lms_set_of};
 ghost use Rattle.lms_params.specs.OtsType.{ots_set_of};
 
 use crate::ots_type::OtsType;
@@ -55,13 +55,6 @@ impl LmsType {
             LmsType::H20 => 20,
             LmsType::H25 => 25,
         }
-    }
-
-    /// Whether the signer takes trees of this height: 5, 10 and 15. All heights are verified.
-    pub fn is_signed(self) -> bool
-        ensures { IsTrue result ↔ IsSigned self }
-    {
-        matches!(self, LmsType::H5 | LmsType::H10 | LmsType::H15)
     }
 }
 

@@ -64,15 +64,14 @@ fn has_the_rows_of_the_tables(rt: HostRuntime) {
         assert!(rt; ots.ls() == ls && ots.sig_len() == sig_len, "{ots:?}");
     }
     let heights = [
-        (LmsType::H5, 5, true),
-        (LmsType::H10, 10, true),
-        (LmsType::H15, 15, true),
-        (LmsType::H20, 20, false),
-        (LmsType::H25, 25, false),
+        (LmsType::H5, 5),
+        (LmsType::H10, 10),
+        (LmsType::H15, 15),
+        (LmsType::H20, 20),
+        (LmsType::H25, 25),
     ];
-    for (lms, height, signed) in heights {
+    for (lms, height) in heights {
         assert!(rt; lms.height() == height, "{lms:?}");
-        assert!(rt; lms.is_signed() == signed, "{lms:?}");
     }
 }
 

@@ -48,6 +48,10 @@ kept_nodes h first last = 2 ^ (h - bottom_height h + 1) - 1 + subtrees h first l
 abbrev pub most_kept : ℕ
 most_kept = 69629
 
+-- and in a tree of height 20 or less
+abbrev pub most_kept_of_20 : ℕ
+most_kept_of_20 = 6141
+
 -- what serves the leaves from `first` to `last`
 pub record HoldsBands (first last : ℕ) (upper lower : RowsOf) : Type 0 where
   pub order : first ≤ last

@@ -106,7 +106,8 @@ fn check_length(
     Ok(())
 }
 
-/// Some indices are covered, and the first and the last of them sign, with signatures of this length.
+/// Some indices are covered, and the first and the last of them sign, with signatures of this length, under the public key that
+/// the forest has, too.
 fn check_ends(
     rt: &(impl Abort + AllocGlobal + Threads + Sync),
     key: HssKey,
@@ -116,6 +117,7 @@ fn check_ends(
 ) -> Result<Forest, Fail> {
     let public = key.public_key(rt, rt.alloc())?;
     let forest = cover(rt, key, start, len)?;
+    assert!(rt; forest.public() == public);
     check_length(rt, &public, &forest, start, length)?;
     let last = start.saturating_add(len).saturating_sub(1);
     check_length(rt, &public, &forest, last, length)?;

@@ -7,22 +7,18 @@ use std::test::Fail;
 
 const TALL: (LmsType, OtsType) = (LmsType::H15, OtsType::W8);
 
-const NOT_SIGNED: (LmsType, OtsType) = (LmsType::H20, OtsType::W8);
+const TALLER: (LmsType, OtsType) = (LmsType::H20, OtsType::W8);
+
+const TALLEST: (LmsType, OtsType) = (LmsType::H25, OtsType::W8);
 
 /// Lists of levels that are refused, where two faults hold the first.
 const REFUSED: [(&[(LmsType, OtsType)], KeyFault); 6] = [
     (&[], KeyFault::NoLevels),
-    (&[NOT_SIGNED; 9], KeyFault::TooManyLevels),
-    (&[NOT_SIGNED], KeyFault::HeightNotSigned),
-    (
-        &[LEVEL, (LmsType::H25, OtsType::W1)],
-        KeyFault::HeightNotSigned,
-    ),
-    (
-        &[TALL, TALL, TALL, TALL, NOT_SIGNED],
-        KeyFault::HeightNotSigned,
-    ),
+    (&[TALLER; 9], KeyFault::TooManyLevels),
     (&[TALL, TALL, TALL, TALL, LEVEL], KeyFault::TooTall),
+    (&[TALLEST, TALLEST, TALL], KeyFault::TooTall),
+    (&[TALLER, TALLER, TALLER, LEVEL], KeyFault::TooTall),
+    (&[TALLEST; 8], KeyFault::TooTall),
 ];
 
 #[test]
@@ -44,7 +40,7 @@ fn prints_levels(rt: HostRuntime) -> Result<(), Fail> {
 }
 
 /// Levels, the capacity of a key and the bytes of its signatures.
-const SIZES: [(&[(LmsType, OtsType)], u64, usize); 6] = [
+const SIZES: [(&[(LmsType, OtsType)], u64, usize); 10] = [
     (&[LEVEL], 32, 1296),
     (&[LEVEL; 2], 1024, 2644),
     (&[LEVEL, (LmsType::H10, OtsType::W4), LEVEL], 1048576, 5208),
@@ -60,6 +56,14 @@ const SIZES: [(&[(LmsType, OtsType)], u64, usize); 6] = [
         1048576,
         16956,
     ),
+    (&[TALLER], 1048576, 1776),
+    (&[TALLEST; 2], 1125899906842624, 3924),
+    (
+        &[TALLEST, TALLEST, (LmsType::H10, OtsType::W8)],
+        1152921504606846976,
+        5432,
+    ),
+    (&[TALLER; 3], 1152921504606846976, 5444),
 ];
 
 #[test]
@@ -74,7 +78,7 @@ fn knows_capacities_and_lengths(rt: HostRuntime) -> Result<(), Fail> {
 }
 
 /// Levels, an index and the leaves that it goes through.
-const PLACES: [(&[(LmsType, OtsType)], u64, [u32; 8]); 7] = [
+const PLACES: [(&[(LmsType, OtsType)], u64, [u32; 8]); 11] = [
     (&[LEVEL], 5, [5, 0, 0, 0, 0, 0, 0, 0]),
     (&[LEVEL; 2], 31, [0, 31, 0, 0, 0, 0, 0, 0]),
     (&[LEVEL; 2], 32, [1, 0, 0, 0, 0, 0, 0, 0]),
@@ -86,6 +90,14 @@ const PLACES: [(&[(LmsType, OtsType)], u64, [u32; 8]); 7] = [
     ),
     (&[LEVEL; 8], 34359738367, [0, 31, 31, 31, 31, 31, 31, 31]),
     (&[LEVEL; 8], 34359738368, [1, 0, 0, 0, 0, 0, 0, 0]),
+    (&[TALLER], 1048575, [1048575, 0, 0, 0, 0, 0, 0, 0]),
+    (&[TALLEST; 2], 33554431, [0, 33554431, 0, 0, 0, 0, 0, 0]),
+    (&[TALLEST; 2], 33554432, [1, 0, 0, 0, 0, 0, 0, 0]),
+    (
+        &[TALLEST; 2],
+        1125899906842623,
+        [33554431, 33554431, 0, 0, 0, 0, 0, 0],
+    ),
 ];
 
 #[test]

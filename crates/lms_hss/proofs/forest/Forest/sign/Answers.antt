@@ -39,7 +39,7 @@ returns-clause-accepted c =
     let key = ap (λ v. v.key) c.self.view_is in
     let whole = c.args.self.now.key in
     let admitted = subst (λ (key : HssKey). IsAdmitted key.levels) key c.as_slice.ensures.admitted in
-    let sixteen = ap (λ (key : HssKey). length key.i) (sym key) ∙ c.self.invariant.id_length in
+    let sixteen = ap (λ (key : HssKey). length key.i) (sym key) ∙ c.self.invariant.0.id_length in
     IfOk-weaker c.signed.result _ _
     (λ text is. subst (HssAccepts (hss_public_key (hss_key_of whole)) c.args.msg.now) (sym is)
     (key-accepts whole c.args.g c.args.c.now c.args.msg.now admitted sixteen c.told-c)) (returns-clause-signature c)

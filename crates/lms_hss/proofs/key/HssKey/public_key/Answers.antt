@@ -1,17 +1,7 @@
-use Rattle.std.proofs.Common.{◌++◌, length, sym, ◌∙◌, ap, ap₂}
-use Rattle.std.proofs.lemmas.List.{length-map}
-use Rattle.lms_spec.specs.Bytes.{u32str}
-use Rattle.lms_spec.specs.Tree.{public_key_of}
-use Rattle.lms_spec.specs.Profile.{hss_public_key}
+use Rattle.std.proofs.Common.{◌∙◌, ap}
 use Rattle.lms_tree.specs.Bands.{ServedLeaves}
 use Rattle.lms_tree.specs.TreeKey.{tree_of}
-use Rattle.lms_hss.specs.Levels.{level_of}
 use Rattle.lms_hss.proofs.key.HssKey.public_key.Goals as goal
 
-pub returns : goal.returns
-unfolding hss_public_key
-returns g c =
-    let levels = ap length c.as_slice-levels.ensures.levels ∙ sym (length-map c.args.self.now.levels level_of) in
-    let tree = ap (λ (t : ServedLeaves). tree_of t.key) c.in_ok-tree.ensures ∙ c.top_tree.ensures in
-    c.public_key_bytes.ensures
-    ∙ ap₂ (λ n text. u32str n ++ text) levels (c.public_bytes.ensures ∙ ap public_key_of tree)
+pub public_key_over-requires : goal.public_key_over-requires
+public_key_over-requires g c = ap (λ (t : ServedLeaves). tree_of t.key) c.in_ok-tree.ensures ∙ c.top_tree.ensures
