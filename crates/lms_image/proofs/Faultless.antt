@@ -1,6 +1,5 @@
 -- A text of bytes without a fault is an image of some key and its numbers.
-use Rattle.std.proofs.Common.{ℕ, ◌≡◌, ◌+◌, ◌*◌, ◌^◌, ◌<◌, ◌≤◌, List, [], ◌∷◌, ◌++◌, length, map, take, drop, get_or, All, Bool, true, false, cond, Option, Some, None, ◌==◌, ◌||◌, nat_lt, option_map, is_some, sum_by, refl, sym, ◌∙◌, ap, ap₂, arith, ⊎_elim, length-drop, take-append-drop}
-use Rattle.std.specs.Prelude.{unwrap_or}
+use Rattle.std.proofs.Common.{ℕ, ◌≡◌, ◌+◌, ◌*◌, ◌^◌, ◌<◌, ◌≤◌, List, [], ◌∷◌, ◌++◌, length, map, take, drop, get_or, All, Bool, true, false, cond, Option, Some, None, ◌==◌, ◌||◌, nat_lt, is_some, sum_by, refl, sym, ◌∙◌, ap, ap₂, arith, ⊎_elim, length-drop, take-append-drop}
 use Rattle.std.specs.List.{list_all}
 use Rattle.std.specs.Simd.{first_chunks}
 use Rattle.std.specs.Int.{w32, w64, from_be_bytes}
@@ -15,7 +14,7 @@ use Rattle.lms_spec.specs.Bytes.{u32str}
 use Rattle.lms_spec.specs.Hss.{height_of, capacity_of}
 use Rattle.lms_spec.proofs.Sets.{by_ots_set, by_lms_set}
 use Rattle.lms_spec.proofs.FirstNumber.{number-and-rest}
-use Rattle.lms_params.specs.LmsType.{lms_set_of, is_signed_set}
+use Rattle.lms_params.specs.LmsType.{lms_set_of}
 use Rattle.lms_params.specs.OtsType.{ots_set_of}
 use Rattle.lms_params.specs.declared.lms_type.LmsType.{LmsType}
 use Rattle.lms_params.specs.declared.ots_type.OtsType.{OtsType}
@@ -32,7 +31,7 @@ use Rattle.lms_image.specs.Image.{Fields, magic, code_of, level_text, is_level, 
 use Rattle.lms_image.specs.Reading.{IsHeaded, IsCut, ReadsLater, later_length}
 use Rattle.lms_image.specs.Laws.{IsText, FaultlessAreImages}
 use Rattle.lms_image.proofs.Fields.{u32-at}
-use Rattle.lms_image.proofs.LevelTexts.{Is8, level-read, signed-of-texts, heights-of-texts}
+use Rattle.lms_image.proofs.LevelTexts.{Is8, level-read, heights-of-texts}
 use Rattle.lms_image.proofs.Faults.{first_among, fault-of}
 use Rattle.lms_image.proofs.Parts.{laid-out, whole, length-by-code}
 use Rattle.lms_image.proofs.Cuts.{IsBytes, bytes-take, bytes-drop, four-fit, eight-fit, number-back, chunks-are-bytes, eight-and-rest, reads-later, cut-parts}
@@ -40,8 +39,7 @@ use Rattle.lms_image.proofs.Images.{read-image, read-counted, image-has-no-fault
 
 -- ---- levels
 
-from_lms : (a : ℕ) (set : Option LmsSet) → lms_set a ≡ set → unwrap_or (option_map is_signed_set set) false ≡ true
-    → (t : LmsType) × (lms_set a ≡ Some (lms_set_of t))
+from_lms : (a : ℕ) (set : Option LmsSet) → lms_set a ≡ set → is_some set ≡ true → (t : LmsType) × (lms_set a ≡ Some (lms_set_of t))
 from_lms a None e known = absurd (false≢true known)
 from_lms a (Some m) e known =
     by_lms_set (λ m. lms_set a ≡ Some m → (t : LmsType) × (lms_set a ≡ Some (lms_set_of t)))
@@ -53,7 +51,7 @@ from_ots b (Some s) e known =
     by_ots_set (λ s. ots_set b ≡ Some s → (t : OtsType) × (ots_set b ≡ Some (ots_set_of t)))
     (λ e. (W1, e)) (λ e. (W2, e)) (λ e. (W4, e)) (λ e. (W8, e)) b s e e
 
-named-lms : (a : ℕ) → unwrap_or (option_map is_signed_set (lms_set a)) false ≡ true → (t : LmsType) × (lms_set a ≡ Some (lms_set_of t))
+named-lms : (a : ℕ) → is_some (lms_set a) ≡ true → (t : LmsType) × (lms_set a ≡ Some (lms_set_of t))
 named-lms a known = from_lms a (lms_set a) refl known
 
 named-ots : (b : ℕ) → is_some (ots_set b) ≡ true → (t : OtsType) × (ots_set b ≡ Some (ots_set_of t))
@@ -74,7 +72,7 @@ named-level text eight small known =
     let at_a : number_at 0 4 text ≡ a = u32-at 0 a text [] rest refl fa first in
     let at_b : number_at 4 4 text ≡ b = u32-at 4 b text (u32str a) (drop 4 rest) refl fb (first ∙ ap (λ x. u32str a ++ x) second) in
     let both = and_parts _ _ known in
-    let lms = named-lms a (sym (ap (λ code. unwrap_or (option_map is_signed_set (lms_set code)) false) at_a) ∙ both.0) in
+    let lms = named-lms a (sym (ap (λ code. is_some (lms_set code)) at_a) ∙ both.0) in
     let ots = named-ots b (sym (ap (λ code. is_some (ots_set code)) at_b) ∙ both.1) in
     ((lms.0, ots.0), level-read text rest (drop 4 rest) a b lms.0 ots.0 eight first second lms.1 ots.1)
 
@@ -242,7 +240,6 @@ admitted-of text texts levels is same counted e =
     record {
       some_level = omega (arith, length-map levels level_text);
       eight_at_most = omega (arith, length-map levels level_text);
-      signed = signed-of-texts levels (ap (list_all is_level) (e ∙ sym same) ∙ is.types);
       not_too_tall = omega arith;
     }
 

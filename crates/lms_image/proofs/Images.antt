@@ -133,7 +133,7 @@ pub keyed : (f : Fields) (levels : List (LmsType × OtsType)) → map level_text
 keyed f levels e admitted =
     let heights : sum_by height_in f.levels ≡ height_of (levels_of levels) = ap (sum_by height_in) (sym e) ∙ heights-of-texts levels in
     let low = admitted.not_too_tall in
-    record { known = sym (ap (list_all is_level) e) ∙ levels-of-texts levels admitted.signed; low = omega arith }
+    record { known = sym (ap (list_all is_level) e) ∙ levels-of-texts levels; low = omega arith }
 
 power-of : (f : Fields) (key : KeyOfCode) (levels : List (LmsType × OtsType)) → map level_text levels ≡ f.levels → key.levels ≡ levels
     → 2 ^ sum_by height_in f.levels ≡ capacity_of (hss_key_of key)

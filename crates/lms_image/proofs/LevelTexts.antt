@@ -3,16 +3,16 @@ use Rattle.std.proofs.Common.{ℕ, ◌≡◌, ◌+◌, ◌*◌, ◌^◌, ◌<◌
 use Rattle.std.specs.Prelude.{unwrap_or, slice_set}
 use Rattle.std.specs.Prelude.Result.{Err}
 use Rattle.std.specs.List.{concat, list_all}
-use Rattle.std.proofs.lemmas.Bool.{and_from, and_left, and_right, and_parts, false_from_ne_true}
+use Rattle.std.proofs.lemmas.Bool.{and_from, and_left, and_right}
 use Rattle.std.proofs.lemmas.List.{take_more, take_more_set, take_all, append-nil, map-append, nil_from_length, length-map}
 use Rattle.std.proofs.lemmas.List.Folds.{concat-append}
-use Rattle.std.proofs.lemmas.List.Elements.{All-head, All-tail, All-map, All-nil, All-cons}
+use Rattle.std.proofs.lemmas.List.Elements.{All-head, All-tail, All-map}
 use Rattle.std.proofs.lemmas.List.Sums.{sum_by-cons}
 use Rattle.lms_spec.specs.Parameters.{ots_set, lms_set}
 use Rattle.lms_spec.specs.Bytes.{u32str}
 use Rattle.lms_spec.specs.Hss.{Level, height_of}
 use Rattle.lms_spec.proofs.Sets.{small-ots_code, small-lms_code, code-ots_set, code-lms_set}
-use Rattle.lms_params.specs.LmsType.{lms_set_of, is_signed_set, IsSigned}
+use Rattle.lms_params.specs.LmsType.{lms_set_of}
 use Rattle.lms_params.specs.OtsType.{ots_set_of}
 use Rattle.lms_params.specs.declared.lms_type.LmsType.{LmsType}
 use Rattle.lms_params.specs.declared.ots_type.OtsType.{OtsType}
@@ -21,7 +21,7 @@ use Rattle.lms_params.specs.declared.ots_type.OtsType.TheVariants.{W1, W2, W4, W
 use Rattle.lms_params.proofs.KnownSets.{known_lms_set, known_ots_set}
 use Rattle.lms_hss.specs.Levels.{level_of, levels_of, JudgesLevels}
 use Rattle.lms_hss.specs.declared.levels.KeyFault.{KeyFault}
-use Rattle.lms_hss.specs.declared.levels.KeyFault.TheVariants.{NoLevels, TooManyLevels, HeightNotSigned, TooTall}
+use Rattle.lms_hss.specs.declared.levels.KeyFault.TheVariants.{NoLevels, TooManyLevels, TooTall}
 use Rattle.lms_image.specs.declared.version.Version.{Version}
 use Rattle.lms_image.specs.Image.{magic, code_of, head_text, level_text, is_level, height_in, number_at}
 use Rattle.lms_image.specs.Reading.{ReadsLevels, refused_as}
@@ -56,13 +56,11 @@ height-of-text sets =
     ap (λ code. unwrap_or (option_map (λ m. m.h) (lms_set code)) 0) (lms-code sets)
     ∙ ap (λ set. unwrap_or (option_map (λ m. m.h) set) 0) (known_lms_set sets.0)
 
-pub level-of-text : (sets : LmsType × OtsType) → IsSigned sets.0 → is_level (level_text sets) ≡ true
+pub level-of-text : (sets : LmsType × OtsType) → is_level (level_text sets) ≡ true
 unfolding is_level
-level-of-text sets signed =
+level-of-text sets =
     and_from _ _
-    (ap (λ code. unwrap_or (option_map is_signed_set (lms_set code)) false) (lms-code sets)
-    ∙ ap (λ set. unwrap_or (option_map is_signed_set set) false) (known_lms_set sets.0)
-    ∙ signed)
+    (ap (λ code. is_some (lms_set code)) (lms-code sets) ∙ ap is_some (known_lms_set sets.0))
     (ap (λ code. is_some (ots_set code)) (ots-code sets) ∙ ap is_some (known_ots_set sets.1))
 
 -- the types of typecodes
@@ -106,10 +104,9 @@ pub levels-same : (levels others : List (LmsType × OtsType)) → map level_text
 levels-same levels others e = sym (levels-back levels) ∙ (ap (map level_back) e ∙ levels-back others)
 
 -- of several levels
-pub levels-of-texts : (levels : List (LmsType × OtsType)) → All (λ l. IsSigned l.0) levels → list_all is_level (map level_text levels) ≡ true
-levels-of-texts [] signed = refl
-levels-of-texts (l ∷ levels) signed =
-    and_from _ _ (level-of-text l (All-head (λ l. IsSigned l.0) l levels signed)) (levels-of-texts levels (All-tail (λ l. IsSigned l.0) l levels signed))
+pub levels-of-texts : (levels : List (LmsType × OtsType)) → list_all is_level (map level_text levels) ≡ true
+levels-of-texts [] = refl
+levels-of-texts (l ∷ levels) = and_from _ _ (level-of-text l) (levels-of-texts levels)
 
 pub heights-of-texts : (levels : List (LmsType × OtsType)) → sum_by height_in (map level_text levels) ≡ height_of (levels_of levels)
 heights-of-texts [] = refl
@@ -165,8 +162,7 @@ pub unknown-lms : (text rest : List ℕ) (a : ℕ) → a < 2 ^ 32 → text ≡ u
 unfolding is_level
 unknown-lms text rest a small e none =
     and_left _ _
-    (ap (λ code. unwrap_or (option_map is_signed_set (lms_set code)) false) (u32-at 0 a text [] rest refl small e)
-    ∙ ap (λ set. unwrap_or (option_map is_signed_set set) false) (sym none))
+    (ap (λ code. is_some (lms_set code)) (u32-at 0 a text [] rest refl small e) ∙ ap is_some (sym none))
 
 pub unknown-ots : (text rest last : List ℕ) (a b : ℕ) → b < 2 ^ 32 → text ≡ u32str a ++ rest → rest ≡ u32str b ++ last → None ≡ ots_set b
     → is_level text ≡ false
@@ -187,20 +183,6 @@ level-read text rest last a b lms ots eight e e' el eo =
 
 -- ---- texts that are read
 
-signed-of-text : (sets : LmsType × OtsType) → is_level (level_text sets) ≡ true → IsSigned sets.0
-unfolding is_level
-signed-of-text sets known =
-    let test : unwrap_or (option_map is_signed_set (lms_set (number_at 0 4 (level_text sets)))) false ≡ is_signed_set (lms_set_of sets.0)
-    = ap (λ code. unwrap_or (option_map is_signed_set (lms_set code)) false) (lms-code sets)
-    ∙ ap (λ set. unwrap_or (option_map is_signed_set set) false) (known_lms_set sets.0) in
-    sym test ∙ (and_parts _ _ known).0
-
-pub signed-of-texts : (levels : List (LmsType × OtsType)) → list_all is_level (map level_text levels) ≡ true → All (λ l. IsSigned l.0) levels
-signed-of-texts [] known = All-nil (λ (l : LmsType × OtsType). IsSigned l.0)
-signed-of-texts (l ∷ levels) known =
-    let both = and_parts (is_level (level_text l)) (list_all is_level (map level_text levels)) known in
-    All-cons (λ (l : LmsType × OtsType). IsSigned l.0) l levels (signed-of-text l both.0) (signed-of-texts levels both.1)
-
 -- one level more is read
 pub sets-more : (sets : List (LmsType × OtsType)) (texts : List (List ℕ)) (k : ℕ) (s : LmsType × OtsType) → k < length sets → k < length texts
     → map level_text (take k sets) ≡ take k texts → level_text s ≡ get_or texts k []
@@ -215,10 +197,7 @@ pub refused-reads : (levels : List (LmsType × OtsType)) (texts : List (List ℕ
     → (fault : KeyFault) → JudgesLevels levels (Err fault) → ReadsLevels texts (Err (refused_as fault))
 refused-reads levels texts e some most NoLevels judged = absurd (omega (arith, ap length e, length-map levels level_text))
 refused-reads levels texts e some most TooManyLevels judged = absurd (omega (arith, ap length e, length-map levels level_text))
-refused-reads levels texts e some most HeightNotSigned judged =
-    false_from_ne_true (list_all is_level texts) (λ (known : list_all is_level texts ≡ true).
-    judged.2 (signed-of-texts levels (ap (list_all is_level) e ∙ known)))
 refused-reads levels texts e some most TooTall judged = (
-  sym (ap (list_all is_level) e) ∙ levels-of-texts levels judged.2,
-  omega (arith, judged.3, heights-of-texts levels, ap (sum_by height_in) e),
+  sym (ap (list_all is_level) e) ∙ levels-of-texts levels,
+  omega (arith, judged.2, heights-of-texts levels, ap (sum_by height_in) e),
 )

@@ -1,7 +1,7 @@
 -- The text that a store keeps of a key, of how many of its indices are used, of how many openings stored something and of
 -- how many indices were burnt: the state image, in its two versions. Its numbers are big-endian. A text is a list of numbers
 -- below 256.
-use Rattle.std.specs.Prelude.{ℕ, ◌≡◌, ◌⊎◌, ◌+◌, ◌-◌, ◌*◌, ◌^◌, ◌<◌, ◌≤◌, Bool, not, ◌||◌, ◌&&◌, ◌==◌, nat_lt, if◌then◌else◌, List, [], ◌∷◌, ◌++◌, length, map, take, drop, sum_by, find, All, Option, is_some, option_map, unwrap_or, codes, false}
+use Rattle.std.specs.Prelude.{ℕ, ◌≡◌, ◌⊎◌, ◌+◌, ◌-◌, ◌*◌, ◌^◌, ◌<◌, ◌≤◌, Bool, not, ◌||◌, ◌&&◌, ◌==◌, nat_lt, if◌then◌else◌, List, [], ◌∷◌, ◌++◌, length, map, take, drop, sum_by, find, All, Option, is_some, option_map, unwrap_or, codes}
 use Rattle.std.specs.List.{concat, list_all}
 use Rattle.std.specs.Str.{bytes_eq}
 use Rattle.std.specs.Int.{w64, to_be_bytes}
@@ -10,7 +10,7 @@ use Rattle.sha2.specs.Sha256.{sha256}
 use Rattle.lms_spec.specs.Parameters.{ots_set, lms_set}
 use Rattle.lms_spec.specs.Bytes.{u32str, number_of}
 use Rattle.lms_spec.specs.Hss.{capacity_of}
-use Rattle.lms_params.specs.LmsType.{lms_set_of, is_signed_set}
+use Rattle.lms_params.specs.LmsType.{lms_set_of}
 use Rattle.lms_params.specs.OtsType.{ots_set_of}
 use Rattle.lms_params.specs.declared.lms_type.LmsType.{LmsType}
 use Rattle.lms_params.specs.declared.ots_type.OtsType.{OtsType}
@@ -156,10 +156,9 @@ body_in text = take (length text - 32) text
 abbrev pub digest_in : List ℕ → List ℕ
 digest_in text = drop (length text - 32) text
 
--- both typecodes of a level are known, and the signer takes its height
+-- both typecodes of a level are known
 unfoldable pub is_level : List ℕ → Bool
-is_level level =
-    unwrap_or (option_map is_signed_set (lms_set (number_at 0 4 level))) false && is_some (ots_set (number_at 4 4 level))
+is_level level = is_some (lms_set (number_at 0 4 level)) && is_some (ots_set (number_at 4 4 level))
 
 -- the height that a level's first typecode names, 0 where none is known
 unfoldable pub height_in : List ℕ → ℕ

@@ -7,7 +7,7 @@ use Rattle.lms_params.specs.declared.lms_type.LmsType.{LmsType}
 use Rattle.lms_params.specs.declared.ots_type.OtsType.{OtsType}
 use Rattle.lms_hss.specs.Levels.{IsAdmitted}
 use Rattle.lms_hss.specs.declared.levels.KeyFault.{KeyFault}
-use Rattle.lms_hss.specs.declared.levels.KeyFault.TheVariants.{NoLevels, TooManyLevels, HeightNotSigned, TooTall as TallLevels}
+use Rattle.lms_hss.specs.declared.levels.KeyFault.TheVariants.{NoLevels, TooManyLevels, TooTall as TallLevels}
 use Rattle.lms_image.specs.declared.image.ImageFault.{ImageFault}
 use Rattle.lms_image.specs.declared.image.ImageFault.TheVariants.{BadType, TooTall}
 use Rattle.lms_image.specs.declared.version.Version.{Version}
@@ -54,7 +54,6 @@ abbrev pub refused_as : KeyFault → ImageFault
 refused_as TallLevels = TooTall
 refused_as NoLevels = BadType
 refused_as TooManyLevels = BadType
-refused_as HeightNotSigned = BadType
 
 -- the levels that these bytes name, or the fault of the bytes
 abbrev pub ReadsLevels : List (List ℕ) → Result (List (LmsType × OtsType)) ImageFault → Type 0

@@ -57,7 +57,7 @@ pub enum ImageFault {
     WrongLength,
     /// The last 32 bytes aren't the digest of those before.
     Damaged,
-    /// A typecode is unknown, or the signer doesn't take its height.
+    /// A typecode is unknown.
     BadType,
     /// The heights sum to over 60.
     TooTall,
@@ -283,9 +283,7 @@ fn refused(fault: KeyFault) -> ImageFault
 {
     match fault {
         KeyFault::TooTall => ImageFault::TooTall,
-        KeyFault::NoLevels | KeyFault::TooManyLevels | KeyFault::HeightNotSigned => {
-            ImageFault::BadType
-        }
+        KeyFault::NoLevels | KeyFault::TooManyLevels => ImageFault::BadType,
     }
 }
 

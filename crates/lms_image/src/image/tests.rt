@@ -18,6 +18,8 @@ const H10_W4: (LmsType, OtsType) = (LmsType::H10, OtsType::W4);
 
 const H15_W8: (LmsType, OtsType) = (LmsType::H15, OtsType::W8);
 
+const H25_W8: (LmsType, OtsType) = (LmsType::H25, OtsType::W8);
+
 /// The image of 5/8 with counter 5, 2 openings and 1 burnt index, by a Python program.
 const ONE_LEVEL: &str = "4853534b0000000200000001000000050000000411111111111111111111111111111111\
     111111111111111111111111111111112222222222222222222222222222222200000000000000050000\
@@ -126,12 +128,14 @@ fn reads_version_1(rt: HostRuntime) -> Result<(), Fail> {
 #[test]
 fn reads_what_was_written(rt: HostRuntime) {
     let tallest = [H15_W8; 4];
+    let tall = [H25_W8, H25_W8, (LmsType::H10, OtsType::W8)];
     let eight = [H5_W8; 8];
     let rows = [
         (&[H5_W8][..], 0, 0, 0, 124),
         (&[H5_W8], 32, 32, 32, 124),
         (&[H5_W8, H10_W4], 258, 0, 258, 132),
         (&tallest, 1 << 60, 1 << 60, 0, 148),
+        (&tall, 1 << 60, 0, 1 << 60, 140),
         (&eight, (1 << 40) - 1, 1, 2, 180),
     ];
     for (sets, counter, openings, burnt, length) in rows {
@@ -240,6 +244,20 @@ fn names_the_fault_of_a_text_with_its_digest(rt: HostRuntime) -> Result<(), Fail
         let second = fields.in_version_2().text(rt.alloc())?;
         assert_eq!(rt; fault(&second), expected);
     }
+    Ok(())
+}
+
+/// The image of 5/8 with counter 5, where the level's tree is one of height 20.
+#[test]
+fn opens_a_tall_tree(rt: HostRuntime) -> Result<(), Fail> {
+    let fields = Fields {
+        codes: &[(8, 4)],
+        ..SOUND
+    };
+    let text = fields.text(rt.alloc())?;
+    let image = decode_image(&text).expect(&rt, "an image");
+    assert!(rt; image.counter == 5);
+    assert!(rt; image.key.capacity() == 1048576);
     Ok(())
 }
 

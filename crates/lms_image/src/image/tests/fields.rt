@@ -78,7 +78,7 @@ pub(super) const SOUND_NOW: Fields = Fields {
 };
 
 /// Texts with their digest, where two faults hold for the first.
-const WITH_THEIR_DIGEST: [(Fields, Option<ImageFault>); 16] = [
+const WITH_THEIR_DIGEST: [(Fields, Option<ImageFault>); 20] = [
     (
         Fields {
             start: *b"HSSL",
@@ -114,13 +114,6 @@ const WITH_THEIR_DIGEST: [(Fields, Option<ImageFault>); 16] = [
     ),
     (
         Fields {
-            codes: &[(8, 4)],
-            ..SOUND
-        },
-        Some(ImageFault::BadType),
-    ),
-    (
-        Fields {
             codes: &[(10, 4)],
             ..SOUND
         },
@@ -144,7 +137,7 @@ const WITH_THEIR_DIGEST: [(Fields, Option<ImageFault>); 16] = [
     (
         Fields {
             count: 5,
-            codes: &[(7, 4), (7, 4), (7, 4), (7, 4), (8, 4)],
+            codes: &[(7, 4), (7, 4), (7, 4), (7, 4), (8, 5)],
             ..SOUND
         },
         Some(ImageFault::BadType),
@@ -157,6 +150,45 @@ const WITH_THEIR_DIGEST: [(Fields, Option<ImageFault>); 16] = [
             ..SOUND
         },
         Some(ImageFault::TooTall),
+    ),
+    (
+        Fields {
+            count: 3,
+            codes: &[(9, 4), (9, 4), (7, 4)],
+            ..SOUND
+        },
+        Some(ImageFault::TooTall),
+    ),
+    (
+        Fields {
+            codes: &[(8, 4)],
+            ..SOUND
+        },
+        None,
+    ),
+    (
+        Fields {
+            codes: &[(8, 4)],
+            counter: 1048577,
+            ..SOUND
+        },
+        Some(ImageFault::CounterTooHigh),
+    ),
+    (
+        Fields {
+            codes: &[(9, 4)],
+            counter: 33554432,
+            ..SOUND
+        },
+        None,
+    ),
+    (
+        Fields {
+            codes: &[(9, 4)],
+            counter: 33554433,
+            ..SOUND
+        },
+        Some(ImageFault::CounterTooHigh),
     ),
     (
         Fields {
@@ -192,6 +224,6 @@ const WITH_THEIR_DIGEST: [(Fields, Option<ImageFault>); 16] = [
     ),
 ];
 
-pub(super) fn with_their_digest() -> [(Fields, Option<ImageFault>); 16] {
+pub(super) fn with_their_digest() -> [(Fields, Option<ImageFault>); 20] {
     WITH_THEIR_DIGEST
 }
