@@ -15,7 +15,7 @@ use Rattle.lms_lines.specs.declared.fault.JobsFault.TheVariants as jobs
 use Rattle.lms_lines.specs.declared.signing.LinesFault.{LinesFault}
 use Rattle.lms_lines.specs.declared.signing.LinesFault.TheVariants as lines
 use Rattle.lms_commands.specs.declared.fault.Fault.{Fault}
-use Rattle.lms_commands.specs.declared.fault.Fault.TheVariants.{BadLevels, TooManyLevels, HeightNotSigned, TooTall, BadSeed, BadId, BadRandom, BadWorkers, BadJob, TooManyJobs, StateExists, StateInUse, ReadState, BadState, WriteState, WriteStateBurnt, Exhausted, OutOfMemory, OutOfMemoryBurnt, Partial, Input, Output}
+use Rattle.lms_commands.specs.declared.fault.Fault.TheVariants.{BadLevels, TooManyLevels, TooTall, BadSeed, BadId, BadRandom, BadWorkers, BadJob, TooManyJobs, StateExists, StateInUse, ReadState, BadState, WriteState, WriteStateBurnt, Exhausted, OutOfMemory, OutOfMemoryBurnt, Partial, Input, Output}
 use Rattle.lms_commands.specs.declared.options.LevelsTextFault.{LevelsTextFault}
 use Rattle.lms_commands.specs.declared.options.LevelsTextFault.TheVariants as unread
 use Rattle.lms_commands.specs.declared.signing.SignFault.{SignFault}
@@ -26,7 +26,6 @@ use Rattle.lms_commands.specs.declared.status.Status.TheVariants as status
 abbrev pub text_of : Fault → List ℕ
 text_of BadLevels = codes "bad levels"
 text_of TooManyLevels = codes "too many levels"
-text_of HeightNotSigned = codes "height not signed"
 text_of TooTall = codes "too tall"
 text_of BadSeed = codes "bad seed"
 text_of BadId = codes "bad id"
@@ -54,7 +53,6 @@ fault_line fault = codes "error: " ++ text_of fault ++ codes "\n"
 abbrev pub status_of : Fault → Status
 status_of BadLevels = status.Usage
 status_of TooManyLevels = status.Usage
-status_of HeightNotSigned = status.Usage
 status_of TooTall = status.Usage
 status_of BadSeed = status.Usage
 status_of BadId = status.Usage
@@ -88,7 +86,6 @@ code_of status.Stream = 6
 abbrev pub of_key : KeyFault → Fault
 of_key key.NoLevels = BadLevels
 of_key key.TooManyLevels = TooManyLevels
-of_key key.HeightNotSigned = HeightNotSigned
 of_key key.TooTall = TooTall
 
 -- the fault that an unread list of levels is

@@ -16,7 +16,7 @@ use Rattle.lms_commands.specs.Descriptions.{number_line}
 use Rattle.lms_world.specs.Known.{Exists, IsOldOr, IsPrintedLast, Known, Stays, Text}
 use Rattle.lms_commands.specs.Options.{IsLevelsText}
 use Rattle.lms_commands.specs.declared.fault.Fault.{Fault}
-use Rattle.lms_commands.specs.declared.fault.Fault.TheVariants.{BadLevels, TooManyLevels, HeightNotSigned, TooTall, BadSeed, BadId, StateExists, StateInUse, WriteState, OutOfMemory, Output}
+use Rattle.lms_commands.specs.declared.fault.Fault.TheVariants.{BadLevels, TooManyLevels, TooTall, BadSeed, BadId, StateExists, StateInUse, WriteState, OutOfMemory, Output}
 
 -- the text is n bytes in hexadecimal
 abbrev pub IsHexOf : ℕ → Text → Type 0
@@ -47,7 +47,6 @@ AreTaken text = (levels : List (LmsType × OtsType)) × IsLevelsText text levels
 abbrev pub IsNoKey : Text → Text → Text → Fault → Type 0
 IsNoKey levels seed id BadLevels = (pairs : List (LmsType × OtsType)) → ¬ IsLevelsText levels pairs
 IsNoKey levels seed id TooManyLevels = AreRefused levels refused.TooManyLevels
-IsNoKey levels seed id HeightNotSigned = AreRefused levels refused.HeightNotSigned
 IsNoKey levels seed id TooTall = AreRefused levels refused.TooTall
 IsNoKey levels seed id BadSeed = AreTaken levels × ¬ IsHexOf 32 seed
 IsNoKey levels seed id BadId = AreTaken levels × IsHexOf 32 seed × ¬ IsHexOf 16 id

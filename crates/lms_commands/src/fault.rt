@@ -23,8 +23,6 @@ pub enum Fault {
     BadLevels,
     /// There are more than 8 levels.
     TooManyLevels,
-    /// A level is of a height that the signer doesn't take.
-    HeightNotSigned,
     /// The levels' heights sum to over 60.
     TooTall,
     /// The seed is not 64 hexadecimal digits.
@@ -73,7 +71,6 @@ impl Fault {
         match self {
             Fault::BadLevels
             | Fault::TooManyLevels
-            | Fault::HeightNotSigned
             | Fault::TooTall
             | Fault::BadSeed
             | Fault::BadId
@@ -102,7 +99,6 @@ impl fmt::Display for Fault {
         match *self {
             Fault::BadLevels => f.write_str("bad levels"),
             Fault::TooManyLevels => f.write_str("too many levels"),
-            Fault::HeightNotSigned => f.write_str("height not signed"),
             Fault::TooTall => f.write_str("too tall"),
             Fault::BadSeed => f.write_str("bad seed"),
             Fault::BadId => f.write_str("bad id"),
@@ -137,7 +133,6 @@ impl From<KeyFault> for Fault {
         match fault {
             KeyFault::NoLevels => Fault::BadLevels,
             KeyFault::TooManyLevels => Fault::TooManyLevels,
-            KeyFault::HeightNotSigned => Fault::HeightNotSigned,
             KeyFault::TooTall => Fault::TooTall,
         }
     }

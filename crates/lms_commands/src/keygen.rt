@@ -21,8 +21,8 @@ use std::thread::Threads;
 
 /// The key of these levels, of this seed of 64 hexadecimal digits and of this identifier of 32.
 ///
-/// The first of these faults: `BadLevels`, `TooManyLevels`, `HeightNotSigned`, `TooTall`, `BadSeed`, `BadId`; or
-/// `OutOfMemory` where memory for the levels was refused.
+/// The first of these faults: `BadLevels`, `TooManyLevels`, `TooTall`, `BadSeed`, `BadId`; or `OutOfMemory` where memory for
+/// the levels was refused.
 pub fn key_from(alloc: Global, levels: &str, seed: &str, id: &str) -> Result<HssKey, Fault>
     ensures key { IfOk result (IsKeyOf levels.now seed.now id.now) }
     ensures refused { IfErr result (IsNoKey levels.now seed.now id.now) }
