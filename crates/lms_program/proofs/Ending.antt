@@ -9,7 +9,7 @@ use Rattle.lms_program.specs.Runs.{AsksToRead, Ends, Fails, FailsToObey, Moment,
 use Rattle.lms_program.specs.declared.command.types.Command.{Command}
 use Rattle.lms_program.specs.declared.command.types.Command.TheVariants.{Batch, Info, Keygen, Sign, Verify}
 use Rattle.lms_commands.specs.declared.fault.Fault.{Fault}
-use Rattle.lms_commands.specs.declared.fault.Fault.TheVariants.{BadLevels, TooManyLevels, HeightNotSigned, TooTall, BadSeed, BadId, BadRandom, BadWorkers, BadJob, TooManyJobs, StateExists, StateInUse, ReadState, BadState, WriteState, WriteStateBurnt, Exhausted, OutOfMemory, OutOfMemoryBurnt, Partial, Input, Output}
+use Rattle.lms_commands.specs.declared.fault.Fault.TheVariants.{BadLevels, TooManyLevels, TooTall, BadSeed, BadId, BadRandom, BadWorkers, BadJob, TooManyJobs, StateExists, StateInUse, ReadState, BadState, WriteState, WriteStateBurnt, Exhausted, OutOfMemory, OutOfMemoryBurnt, Partial, Input, Output}
 use Rattle.lms_commands.specs.declared.status.Status.{Status}
 use Rattle.lms_commands.specs.declared.status.Status.TheVariants as status
 use Rattle.lms_commands.specs.declared.status.Status.TheVariants.{Negative}
@@ -30,7 +30,6 @@ pub command_fails : (old new : Moment) (words : List Text) (command : Command) �
     → (fault : Fault) → FailsToObey old new command fault → (IsSilent fault → new.output ≡ old.output) → Fails old new words fault
 command_fails old new words command reads BadLevels is silent = (silent tt, (command, reads, is))
 command_fails old new words command reads TooManyLevels is silent = (silent tt, (command, reads, is))
-command_fails old new words command reads HeightNotSigned is silent = (silent tt, (command, reads, is))
 command_fails old new words command reads TooTall is silent = (silent tt, (command, reads, is))
 command_fails old new words command reads BadSeed is silent = (silent tt, (command, reads, is))
 command_fails old new words command reads BadId is silent = (silent tt, (command, reads, is))
@@ -56,7 +55,6 @@ pub ends_at : (old new : Moment) (words : List Text) (fault : Fault)
     → Fails old new words fault → Ends old new words (status_of fault)
 ends_at old new words BadLevels is = inr (BadLevels, refl, is)
 ends_at old new words TooManyLevels is = inr (TooManyLevels, refl, is)
-ends_at old new words HeightNotSigned is = inr (HeightNotSigned, refl, is)
 ends_at old new words TooTall is = inr (TooTall, refl, is)
 ends_at old new words BadSeed is = inr (BadSeed, refl, is)
 ends_at old new words BadId is = inr (BadId, refl, is)
@@ -100,7 +98,6 @@ pub speaks : (old new : Moment) (words : List Text) (fault : Fault) → code_of 
 speaks old new words (Partial signed asked) low (command, reads, is) = (refl, (command, reads, partly_done old new command signed asked is))
 speaks old new words BadLevels low is = absurd (omega (arith, low))
 speaks old new words TooManyLevels low is = absurd (omega (arith, low))
-speaks old new words HeightNotSigned low is = absurd (omega (arith, low))
 speaks old new words TooTall low is = absurd (omega (arith, low))
 speaks old new words BadSeed low is = absurd (omega (arith, low))
 speaks old new words BadId low is = absurd (omega (arith, low))

@@ -15,7 +15,7 @@ use std::convert::AsStr;
 pub use types::{Command, CommandFault};
 
 const LEVELS_HELP: &str =
-    "Height/width of each level, top first, as 10/8,10/8: 1 to 8 levels; heights 5, 10 or 15, together at most 60; widths 1, 2, 4 or 8";
+    "Height/width of each level, top first, as 10/8,10/8: 1 to 8 levels; heights 5, 10, 15, 20 or 25, together at most 60; widths 1, 2, 4 or 8";
 
 const KEYGEN_NOTE: &str = "Example:
   lms_tool keygen --levels 10/8,10/8 --seed \"$(openssl rand -hex 32)\" --id \"$(openssl rand -hex 16)\" \\
