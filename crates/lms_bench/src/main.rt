@@ -7,7 +7,8 @@
 //! digests; what share they are of what such a thread on each processor makes; and how long it takes to start and join
 //! threads that do nothing. For places of pools that threads claim at once it prints the claims a second beside bare
 //! additions to one word; for batches the signatures a second that one worker and several make; and how fast job lines are
-//! read and answers written. Last come the bytes that a forest holds. With the argument `cover` it makes one such forest.
+//! read and answers written. Last come the bytes that a forest holds. With the argument `cover` it makes one such forest, and with
+//! `tall` it works out a tree of height 20 and signs by it.
 #![tactic(auto)]
 
 mod batches;
@@ -25,6 +26,7 @@ mod measure;
 mod measure_batches;
 mod signed_level;
 mod stopwatch;
+mod tall;
 mod workers;
 
 use crate::batches::{Batches, SMALL};
@@ -38,6 +40,7 @@ use crate::hierarchy::{COVERED, VERIFIED};
 use crate::hss_bench::{Signing, Verification};
 use crate::lines::{ANSWERING, Lines, answered};
 use crate::measure::measure;
+use crate::tall::sign_tall;
 use crate::workers::WORKERS;
 use anyhow::{Result, bail};
 use std::env;
@@ -51,7 +54,8 @@ fn main(rt: HostRuntime) -> Result<()> {
         [] | [_] => run_once(&rt),
         [_, word] if word.as_str() == "measure" => measure(&rt),
         [_, word] if word.as_str() == "cover" => cover(&rt),
-        _ => bail!("usage: lms_bench [measure|cover]"),
+        [_, word] if word.as_str() == "tall" => sign_tall(&rt),
+        _ => bail!("usage: lms_bench [measure|cover|tall]"),
     }
 }
 
