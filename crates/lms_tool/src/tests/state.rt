@@ -168,7 +168,7 @@ fn makes_no_key(
 
 #[test]
 fn refuses_bad_options(rt: HostRuntime) {
-    let rows: [(&str, &str, &str, &str); 9] = [
+    let rows: [(&str, &str, &str, &str); 11] = [
         ("5/3", "", "", "error: bad levels\n"),
         (
             "20/8,20/8,20/8,20/8,20/8,20/8,20/8,20/8,20/8",
@@ -176,8 +176,10 @@ fn refuses_bad_options(rt: HostRuntime) {
             "",
             "error: too many levels\n",
         ),
-        ("20/8", "", "", "error: height not signed\n"),
         ("15/8,15/8,15/8,15/8,5/8", "", "", "error: too tall\n"),
+        ("25/8,25/8,15/8", "", "", "error: too tall\n"),
+        ("20/8", "", "", "error: bad seed\n"),
+        ("25/8,25/8,10/8", SEED, "2", "error: bad id\n"),
         ("5/8", "11", "", "error: bad seed\n"),
         ("5/8", ID, ID, "error: bad seed\n"),
         ("5/8", SEED, "2", "error: bad id\n"),

@@ -25,7 +25,7 @@ const KEYGEN_HELP: &str = "Makes a key from a seed
 Usage: lms_tool keygen --levels <LEVELS> --seed <HEX> --id <HEX> --state <FILE> --public <FILE>
 
 Options:
-      --levels <LEVELS>  Height/width of each level, top first, as 10/8,10/8: 1 to 8 levels; heights 5, 10 or 15, together at most 60; widths 1, 2, 4 or 8
+      --levels <LEVELS>  Height/width of each level, top first, as 10/8,10/8: 1 to 8 levels; heights 5, 10, 15, 20 or 25, together at most 60; widths 1, 2, 4 or 8
       --seed <HEX>       64 hexadecimal digits, random and secret
       --id <HEX>         32 hexadecimal digits, random
       --state <FILE>     The key's state, a new file
