@@ -2,13 +2,14 @@
 use Rattle.std.specs.Prelude.{◌≡◌, ℕ, ◌<◌, List, map}
 use Rattle.lms_spec.specs.Hss.{capacity_of, HssAccepts}
 use Rattle.lms_spec.specs.Profile.{hss_signature, hss_public_key}
+use Rattle.lms_hss.specs.Covered.{longest_lease}
 use Rattle.lms_hss.specs.Keys.{hss_key_of}
 use Rattle.lms_hss.specs.declared.key.HssKey.{HssKey as KeyOfCode}
 use Rattle.lms_batch.specs.declared.job.Job.{Job}
 
 -- the most jobs of a batch
 abbrev pub most_jobs : ℕ
-most_jobs = 1024
+most_jobs = longest_lease
 
 -- a randomizer and a message
 pub record JobText : Type 0 where

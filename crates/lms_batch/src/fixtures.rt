@@ -1,5 +1,6 @@
 //! Keys, leases and jobs of the tests. Memory that is refused once is asked for again.
 ghost use Rattle.std.specs.Prelude.{◌≡◌, ◌≤◌, [], IfOk};
+ghost use Rattle.lms_hss.specs.Covered.{longest_lease};
 
 use crate::{Job, OpenLease};
 use lms_book::{Book, Lease, MemoryStore};
@@ -81,7 +82,7 @@ pub(crate) fn lease(
     len: u64,
 ) -> Result<Lease, Fail>
     requires some { 1 ≤ len }
-    requires at_most { len ≤ 1024 }
+    requires at_most { len ≤ longest_lease }
     ensures { IfOk result (λ lease. lease.len ≡ len) }
 {
     let mut book = book_of(alloc, store_at(alloc, levels, seed, start)?)?;
@@ -101,7 +102,7 @@ pub(crate) fn opened(
     len: u64,
 ) -> Result<(OpenLease, DrawSeat), Fail>
     requires some { 1 ≤ len }
-    requires at_most { len ≤ 1024 }
+    requires at_most { len ≤ longest_lease }
     ensures { IfOk result (λ r. r.1.pool ≡ r.0) }
 {
     let lease = lease(rt.alloc(), levels, seed, start, len)?;

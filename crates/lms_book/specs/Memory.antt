@@ -8,7 +8,7 @@ use Rattle.lms_book.specs.declared.plans.Plan.{Plan}
 use Rattle.lms_book.specs.declared.store.ReadFault.{ReadFault}
 use Rattle.lms_book.specs.declared.store.ReadFault.TheVariants.{Device, OutOfMemory}
 use Rattle.lms_book.specs.declared.store.StoreFault.{StoreFault}
-use Rattle.lms_book.specs.Stops.{Texts, StoreView, only, raised}
+use Rattle.lms_book.specs.Stops.{Texts, StoreView, longest_text, only, raised}
 
 pub record MemoryState : Type 0 where
   -- what it held before each write
@@ -78,7 +78,7 @@ past_read store = record store { reads = drop 1 store.reads ++ false ∷ [] }
 pub record Takes (store : MemoryState) (text : List ℕ) : Type 0 where
   pub running : store.stopped ≡ false
   pub room_left : length store.past < store.room
-  pub short : length text ≤ 256
+  pub short : length text ≤ longest_text
 
 -- what a failed write leaves
 abbrev pub left_by : Left → MemoryState → List ℕ → MemoryState

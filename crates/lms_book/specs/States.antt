@@ -2,6 +2,7 @@
 use Rattle.std.specs.Prelude.{◌≡◌, ℕ, ◌+◌, ◌≤◌, List}
 use Rattle.std.specs.List.{AllByRecursion}
 use Rattle.lms_spec.specs.Hss.{capacity_of}
+use Rattle.lms_hss.specs.Covered.{longest_lease}
 use Rattle.lms_hss.specs.Keys.{hss_key_of}
 use Rattle.lms_hss.specs.declared.key.HssKey.{HssKey as KeyOfCode}
 use Rattle.lms_book.specs.declared.history.Entry.{Entry}
@@ -41,7 +42,7 @@ pub record LeaseState : Type 0 where
 -- what a lease holds: 1 to 1024 of the key's indices
 pub record IsLease (key : KeyOfCode) (start len : ℕ) : Type 0 where
   pub some : 1 ≤ len
-  pub at_most : len ≤ 1024
+  pub at_most : len ≤ longest_lease
   pub within : start + len ≤ capacity_of (hss_key_of key)
 
 -- each text that a stop now could leave is an image of the key with this number of openings, and with a counter at or past the end

@@ -5,6 +5,10 @@ use Rattle.std.specs.Global.{Vec}
 use Rattle.lms_book.specs.declared.store.ReadFault.{ReadFault}
 use Rattle.lms_book.specs.declared.store.ReadFault.TheVariants.{Device, OutOfMemory}
 
+-- the most bytes of a text that a store keeps without taking memory
+abbrev pub longest_text : ℕ
+longest_text = 256
+
 -- the texts of which a stop leaves one, and none where there is none; `None` where it may be any text
 abbrev pub Texts : Type 0
 Texts = Option (List (List ℕ))

@@ -1,6 +1,7 @@
 //! Reservations one after another, each stored before its lease is given.
 ghost use Rattle.std.specs.Prelude.{◌≡◌, ◌+◌, ◌≤◌, ◌↔◌, [], IfOk, IfErr, IsTrue, Contains};
 ghost use Rattle.lms_spec.specs.Hss.{capacity_of};
+ghost use Rattle.lms_hss.specs.Covered.{longest_lease};
 ghost use Rattle.lms_hss.specs.Keys.{hss_key_of};
 
 use crate::history::is_given;
@@ -51,7 +52,7 @@ impl Lease {
     pub fn len(&self) -> u64
         ensures len { result ≡ self.now.len }
         ensures some { 1 ≤ result }
-        ensures at_most { result ≤ 1024 }
+        ensures at_most { result ≤ longest_lease }
     {
         self.len
     }
@@ -161,7 +162,7 @@ impl<S: StateStore> Book<S> {
     /// image or what it could leave before.
     pub fn reserve(&mut self, n: u64) -> Result<Lease, BookFault>
         requires some { 1 ≤ n }
-        requires at_most { n ≤ 1024 }
+        requires at_most { n ≤ longest_lease }
         ensures key { self.new.key ≡ self.old.key }
         ensures base { self.new.base ≡ self.old.base }
         ensures openings { self.new.openings ≡ self.old.openings }

@@ -25,3 +25,4 @@ pub use crate::plans::Left;
 pub use crate::refusals::{BookFault, OpenFault};
 pub use crate::reservations::Reservations;
 pub use crate::store::{ReadFault, StateStore, StoreFault};
+pub use crate::text::Text;

@@ -1,6 +1,7 @@
 //! A store in memory, for tests. It keeps a record of the texts that it held, and fails where it is told to.
 ghost use Rattle.std.specs.Prelude.{◌≡◌, ◌⊎◌, ◌-◌, ◌<◌, ◌≤◌, [], ◌∷◌, ◌++◌, length, Some, None, true, false, ◌↔◌, IsTrue, IfOk, MatchOption, OnOk, OnErr};
 ghost use Rattle.std.proofs.Math.ListN.{set};
+ghost use Rattle.lms_book.specs.Stops.{longest_text};
 ghost use Rattle.lms_book.specs.Memory.{IsFresh, Takes, holding, failed, planning, next_write, past_write, next_read, past_read};
 
 use crate::plans::{Left, PLANS, Plan, take_first};
@@ -50,7 +51,7 @@ impl MemoryStore {
     /// A store that holds these bytes, at most 256, or nothing where `text` is `None`. All memory is taken here, for a
     /// record of `room` writes; `OutOfMemory` where it is refused.
     pub fn new(alloc: Global, text: Option<&[u8]>, room: usize) -> Result<Self, OutOfMemory>
-        requires { MatchOption text (Unit {0}) (λ text. length text.now ≤ 256) }
+        requires { MatchOption text (Unit {0}) (λ text. length text.now ≤ longest_text) }
         ensures fresh { IfOk result (IsFresh room) }
         ensures text { IfOk result (λ store.
             MatchOption text.entry (store.text ≡ None) (λ text. store.text ≡ Some text.now)) }
@@ -58,7 +59,7 @@ impl MemoryStore {
         let past = Vec::with_capacity(alloc, room)?;
         Ok(MemoryStore {
             past,
-            text: text.map(|text| Text::new(text)),
+            text: text.map(|text| short_text(text)),
             room,
             failures: 0,
             writes: [None; PLANS],
@@ -164,10 +165,10 @@ impl MemoryStore {
     /// Holds another text from now on, and records the one before.
     fn hold(&mut self, text: &[u8])
         requires room { length self.old.past < self.old.room }
-        requires short { length text.now ≤ 256 }
+        requires short { length text.now ≤ longest_text }
         ensures { self.new ≡ holding self.old text.now }
     {
-        let old = mem::replace(&mut self.text, Some(Text::new(text)));
+        let old = mem::replace(&mut self.text, Some(short_text(text)));
         self.past.push_reserved(old);
     }
 
@@ -240,5 +241,16 @@ impl StateStore for MemoryStore {
                 Err(StoreFault)
             }
         }
+    }
+}
+
+/// A text of these bytes.
+fn short_text(bytes: &[u8]) -> Text
+    requires { length bytes.now ≤ longest_text }
+    ensures { result ≡ bytes.now }
+{
+    match Text::new(bytes) {
+        Some(text) => text,
+        None => unreachable!(),
     }
 }

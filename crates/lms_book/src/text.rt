@@ -1,5 +1,6 @@
 //! A text of at most 256 bytes, kept without taking memory.
-ghost use Rattle.std.specs.Prelude.{◌≡◌, ◌≤◌, length};
+ghost use Rattle.std.specs.Prelude.{◌≡◌, ◌<◌, ◌≤◌, IfNone, IfSome, length};
+ghost use Rattle.lms_book.specs.Stops.{longest_text};
 
 use arrayvec::ArrayVec;
 use std::marker::Model;
@@ -7,9 +8,9 @@ use std::marker::Model;
 /// The most bytes of a text.
 pub(crate) const MOST_BYTES: usize = 256;
 
-/// A text of at most 256 bytes. Contracts see its bytes.
-#[derive(Drop)]
-pub(crate) struct Text {
+/// A text that a store keeps, at most 256 bytes: no image is as long. Contracts see its bytes.
+#[derive(Default, Drop)]
+pub struct Text {
     bytes: ArrayVec<u8, MOST_BYTES>,
 }
 
@@ -22,19 +23,18 @@ impl Model for Text {
 }
 
 impl Text {
-    /// A text of these bytes.
-    pub(crate) fn new(bytes: &[u8]) -> Self
-        requires { length bytes.now ≤ 256 }
-        ensures { result ≡ bytes.now }
+    /// A text of these bytes, without taking memory. `None` where there are over 256.
+    pub fn new(bytes: &[u8]) -> Option<Self>
+        ensures made { IfSome result (λ text. text ≡ bytes.now) }
+        ensures short { IfSome result (λ _. length bytes.now ≤ longest_text) }
+        ensures long { IfNone result (longest_text < length bytes.now) }
     {
-        match ArrayVec::try_from(bytes) {
-            Ok(bytes) => Text { bytes },
-            Err(_) => unreachable!(),
-        }
+        let bytes = ArrayVec::try_from(bytes).ok()?;
+        Some(Text { bytes })
     }
 
     /// The bytes.
-    pub(crate) fn as_slice(&self) -> &[u8]
+    pub fn as_slice(&self) -> &[u8]
         ensures { result.now ≡ self.now }
     {
         self.bytes.as_slice()

@@ -58,6 +58,10 @@ abbrev pub later_text : Version → ℕ → ℕ → List ℕ
 later_text First openings burnt = []
 later_text Second openings burnt = u64str openings ++ u64str burnt
 
+-- the most bytes of an image, those of eight levels
+abbrev pub longest_image : ℕ
+longest_image = 180
+
 -- what stands before the digest
 unfoldable pub body_text : Fields → List ℕ
 body_text f =

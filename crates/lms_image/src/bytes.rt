@@ -1,7 +1,7 @@
 //! The bytes of an image, put together without taking memory.
 ghost use Rattle.std.specs.Prelude.{◌≡◌, ◌+◌, ◌≤◌, ◌++◌, [], length};
 ghost use Rattle.lms_spec.specs.Bytes.{u32str};
-ghost use Rattle.lms_image.specs.Image.{u64str};
+ghost use Rattle.lms_image.specs.Image.{longest_image, u64str};
 
 use arrayvec::ArrayVec;
 use std::marker::Model;
@@ -17,19 +17,20 @@ pub struct ImageBytes {
 
 impl Model for ImageBytes {
     ghost use Rattle.std.specs.Prelude.{ℕ, List, ◌≤◌, length};
+    ghost use Rattle.lms_image.specs.Image.{longest_image};
 
     ghost Value = { List ℕ };
 
     ghost view = { λ a. a.bytes.items };
 
-    ghost invariant = { λ a. length a.bytes.items ≤ 180 };
+    ghost invariant = { λ a. length a.bytes.items ≤ longest_image };
 }
 
 impl ImageBytes {
     /// The bytes.
     pub fn as_slice(&self) -> &[u8]
         ensures bytes { result.now ≡ self.now }
-        ensures short { length result.now ≤ 180 }
+        ensures short { length result.now ≤ longest_image }
     {
         self.bytes.as_slice()
     }
@@ -45,7 +46,7 @@ impl ImageBytes {
 
     /// Puts a part behind what there is.
     pub(crate) fn append(&mut self, part: &[u8])
-        requires { length self.old + length part.now ≤ 180 }
+        requires { length self.old + length part.now ≤ longest_image }
         ensures { self.new ≡ self.old ++ part.now }
     {
         match self.bytes.try_extend_from_slice(part) {
@@ -56,7 +57,7 @@ impl ImageBytes {
 
     /// Puts a number behind what there is, in four bytes.
     pub(crate) fn append_u32(&mut self, number: u32)
-        requires { length self.old + 4 ≤ 180 }
+        requires { length self.old + 4 ≤ longest_image }
         ensures { self.new ≡ self.old ++ u32str number }
     {
         self.append(&number.to_be_bytes());
@@ -64,7 +65,7 @@ impl ImageBytes {
 
     /// Puts a number behind what there is, in eight bytes.
     pub(crate) fn append_u64(&mut self, number: u64)
-        requires { length self.old + 8 ≤ 180 }
+        requires { length self.old + 8 ≤ longest_image }
         ensures { self.new ≡ self.old ++ u64str number }
     {
         self.append(&number.to_be_bytes());

@@ -1,5 +1,6 @@
 //! Leases of the tests, and pools over them.
 ghost use Rattle.std.specs.Prelude.{◌≡◌, ◌≤◌, All, IfOk, vec_len};
+ghost use Rattle.lms_hss.specs.Covered.{longest_lease};
 
 use crate::{DrawSeat, IndexPool};
 use lms_book::{Book, Lease, MemoryStore};
@@ -40,7 +41,7 @@ fn book_at(alloc: Global, start: u64) -> Result<Book<MemoryStore>, Fail> {
 /// A lease of `len` indices from `start` on.
 pub(crate) fn lease(alloc: Global, start: u64, len: u64) -> Result<Lease, Fail>
     requires some { 1 ≤ len }
-    requires at_most { len ≤ 1024 }
+    requires at_most { len ≤ longest_lease }
     ensures { IfOk result (λ lease. lease.len ≡ len) }
 {
     let mut book = book_at(alloc, start)?;
@@ -59,7 +60,7 @@ pub(crate) fn pool(
     seats: usize,
 ) -> Result<(IndexPool, Vec<DrawSeat>), Fail>
     requires some { 1 ≤ len }
-    requires at_most { len ≤ 1024 }
+    requires at_most { len ≤ longest_lease }
     requires seats { (1 ≤ seats) × (seats ≤ 64) }
     ensures pool { IfOk result (λ r. (r.0.len ≡ len) × (r.0.seats ≡ seats)) }
     ensures seats { IfOk result (λ r. (vec_len r.1 ≡ seats) × All (λ seat. seat.pool ≡ r.0) r.1.items) }

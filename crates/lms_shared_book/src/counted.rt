@@ -1,5 +1,6 @@
 //! What lies behind the lock of a shared book.
 ghost use Rattle.std.specs.Prelude.{◌≡◌, ℕ, ◌+◌, ◌≤◌, length, IfOk};
+ghost use Rattle.lms_hss.specs.Covered.{longest_lease};
 ghost use Rattle.lms_shared_book.specs.Desks.{total, Counts};
 ghost use Rattle.lms_shared_book.specs.Shared.{IsFound, IsSettled};
 
@@ -39,7 +40,7 @@ impl<S: StateStore, E: Tally, G: Tally, B: Tally> CountedBook<S, E, G, B> {
     /// `Book::reserve`, counted at the desk and in the totals.
     pub(crate) fn reserve(&mut self, desk: &mut Desk<E, G, B>, n: u64) -> Result<Lease, BookFault>
         requires some { 1 ≤ n }
-        requires at_most { n ≤ 1024 }
+        requires at_most { n ≤ longest_lease }
         ensures key { self.old.key ≡ E.book.key }
         ensures lease { IfOk result (λ lease. lease.key ≡ E.book.key) }
         ensures found { (desks : ℕ) → (E.parts ≡ desks + 1) × (G.parts ≡ desks + 1) × (B.parts ≡ desks + 1)

@@ -1,5 +1,6 @@
 //! Books for tests.
 ghost use Rattle.std.specs.Prelude.{◌≡◌, ◌≤◌, [], IfOk};
+ghost use Rattle.lms_hss.specs.Covered.{longest_lease};
 
 use lms_book::{Book, BookFault, MemoryStore, OpenFault};
 use lms_hss::{HssKey, Levels};
@@ -58,7 +59,7 @@ pub(crate) fn opened(alloc: Global, store: MemoryStore) -> Result<Book<MemorySto
 /// Reserves, and gives the lease back: the first index and the number of indices.
 pub(crate) fn reserved(book: &mut Book<MemoryStore>, n: u64) -> Result<(u64, u64), BookFault>
     requires some { 1 ≤ n }
-    requires at_most { n ≤ 1024 }
+    requires at_most { n ≤ longest_lease }
 {
     let lease = match book.reserve(n) {
         Err(BookFault::OutOfMemory) => book.reserve(n)?,

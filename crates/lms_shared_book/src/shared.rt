@@ -1,6 +1,7 @@
 //! A book that threads share.
 ghost use Rattle.std.specs.Prelude.{◌≡◌, ◌+◌, ◌<◌, ◌≤◌, length, replicate, IfOk, IfErr, OnOk};
 ghost use Rattle.std.specs.Fn.{FnOnceReturnsAt};
+ghost use Rattle.lms_hss.specs.Covered.{longest_lease};
 ghost use Rattle.lms_shared_book.specs.Desks.{sums, plus, total, sums_of, BlankFits, Counts};
 ghost use Rattle.lms_shared_book.specs.Shared.{IsAfter, IsFound, IsSettled};
 
@@ -112,7 +113,7 @@ impl<S: StateStore, E: Tally, G: Tally, B: Tally> SharedBook<S, E, G, B> {
         n: u64,
     ) -> Result<Lease, BookFault>
         requires some { 1 ≤ n }
-        requires at_most { n ≤ 1024 }
+        requires at_most { n ≤ longest_lease }
         ensures desk { Counts n desk.old result desk.new }
         ensures key { IfOk result (λ lease. lease.key ≡ self.now.book.key) }
         ensures reserves { (old new : BookState) × (old.key ≡ self.now.book.key)

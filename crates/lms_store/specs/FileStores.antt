@@ -5,7 +5,7 @@ use Rattle.std.specs.Path.{dot, path_parent}
 use Rattle.lms_book.specs.declared.store.ReadFault.{ReadFault}
 use Rattle.lms_book.specs.declared.store.ReadFault.TheVariants.{Device, OutOfMemory}
 use Rattle.lms_book.specs.declared.store.StoreFault.{StoreFault}
-use Rattle.lms_book.specs.Stops.{Texts, IsAmong, only, or_else, StoreView, raised}
+use Rattle.lms_book.specs.Stops.{Texts, IsAmong, longest_text, only, or_else, StoreView, raised}
 
 -- a write: its text, and whether it was stored for certain
 pub record FileWrite : Type 0 where
@@ -52,10 +52,6 @@ written store text stored = record store { writes = record { text = text; stored
 abbrev pub failed : FileState → FileState
 failed store = record store { failures = raised store.failures }
 
--- the longest text that a store takes, in bytes
-abbrev pub most_bytes : ℕ
-most_bytes = 256
-
 -- how many texts a store keeps at most of those that it tried since the last certain write
 abbrev pub most_tried : ℕ
 most_tried = 3
@@ -85,9 +81,9 @@ Knows writes text = (kept_after writes ≡ []) ⊎ Contains (kept_after writes) 
 
 -- what a write of this text answers and leaves
 abbrev pub Replaces : {T : Type 0} → FileState → List ℕ → Result T StoreFault → FileState → Type 0
-Replaces old text (Ok done) new = (length text ≤ most_bytes) × (new ≡ written old text true)
+Replaces old text (Ok done) new = (length text ≤ longest_text) × (new ≡ written old text true)
 Replaces old text (Err fault) new =
-    ((length text ≤ most_bytes) × (new ≡ failed (written old text false))) ⊎ ((most_bytes < length text) × (new ≡ failed old))
+    ((length text ≤ longest_text) × (new ≡ failed (written old text false))) ⊎ ((longest_text < length text) × (new ≡ failed old))
 
 -- what a read answers and leaves
 abbrev pub Reads : FileState → Result (Vec ℕ) ReadFault → FileState → Type 0

@@ -3,8 +3,8 @@ ghost use Rattle.std.specs.Prelude.{◌≡◌, IfOk};
 ghost use Rattle.lms_store.specs.FileStores.{fresh, failed};
 
 use crate::paths::{OWNER_ONLY, folder_of, resolve, sibling};
-use crate::record::{Record, Text};
-use lms_book::{ReadFault, StateStore, StoreFault};
+use crate::record::Record;
+use lms_book::{ReadFault, StateStore, StoreFault, Text};
 use lms_params::OutOfMemory;
 use std::alloc::Global;
 use std::fs::{OpenFile, OpenOptions};

@@ -1,52 +1,17 @@
 //! What a store of files has to know of its writes, to judge a read.
-ghost use Rattle.std.specs.Prelude.{◌≡◌, ◌≤◌, ◌<◌, ◌↔◌, List, [], ◌∷◌, IfNone, IfSome, IsTrue, false, length, true};
-ghost use Rattle.lms_store.specs.FileStores.{FileWrite, Knows, most_bytes};
+ghost use Rattle.std.specs.Prelude.{◌≡◌, ◌↔◌, List, [], ◌∷◌, IsTrue, false, true};
+ghost use Rattle.lms_store.specs.FileStores.{FileWrite, Knows};
 
 use crate::writes::Writes;
 use arrayvec::ArrayVec;
+use lms_book::Text;
 use std::marker::Model;
-
-/// The longest text that a store takes, in bytes.
-const MOST_BYTES: usize = 256;
 
 /// How many texts a store keeps at most: the one that was stored for certain last, and three that were tried since.
 const MOST_TEXTS: usize = 4;
 
 /// Where the oldest tried text stands, behind the certain one.
 const OLDEST_TRIED: usize = 1;
-
-/// A text of at most 256 bytes. Contracts see its bytes.
-#[derive(Default, Drop)]
-pub(crate) struct Text {
-    bytes: ArrayVec<u8, MOST_BYTES>,
-}
-
-impl Model for Text {
-    ghost use Rattle.std.specs.Prelude.{List, ℕ};
-
-    ghost Value = { List ℕ };
-
-    ghost view = { λ text. text.bytes.items };
-}
-
-impl Text {
-    /// A text of these bytes. `None` where there are over 256.
-    pub(crate) fn new(bytes: &[u8]) -> Option<Self>
-        ensures made { IfSome result (λ text. text ≡ bytes.now) }
-        ensures short { IfSome result (λ _. length bytes.now ≤ most_bytes) }
-        ensures long { IfNone result (most_bytes < length bytes.now) }
-    {
-        let bytes = ArrayVec::try_from(bytes).ok()?;
-        Some(Text { bytes })
-    }
-
-    /// The bytes.
-    fn as_slice(&self) -> &[u8]
-        ensures { result.now ≡ self.now }
-    {
-        self.bytes.as_slice()
-    }
-}
 
 /// The writes of a store, of which it keeps in place, without taking memory, the text that was stored for certain last and
 /// those tried since. Contracts see all writes, the newest first.
