@@ -11,7 +11,7 @@ use crate::open_lease::OpenLease;
 use crate::receipt::Receipt;
 use crate::worker::Worker;
 use lms_book::Lease;
-use lms_hss::HssKey;
+use lms_hss::{HssKey, Progress};
 use lms_params::OutOfMemory;
 use lms_pool::DrawSeat;
 use std::alloc::Global;
@@ -96,7 +96,8 @@ fn gathered<'a>(collector: Collector<'a>, workers: Vec<Worker<'a>>) -> Batch
     collector.finish()
 }
 
-/// Signs the jobs by the indices of the lease, one for each, by 1 to 64 workers, but no more than there are jobs.
+/// Signs the jobs by the indices of the lease, one for each, by 1 to 64 workers, but no more than there are jobs. Tells `progress`
+/// how many leaves of the lease's forest are worked out.
 ///
 /// `OutOfMemory` where memory is refused before any worker runs, with the lease handed back as it was.
 pub(crate) fn sign_leased<R: Threads + Sync, G: Gate>(
@@ -106,6 +107,7 @@ pub(crate) fn sign_leased<R: Threads + Sync, G: Gate>(
     jobs: &[Job],
     workers: usize,
     gate: &G,
+    progress: &impl Progress,
 ) -> Result<Batch, (OutOfMemory, Lease)>
     requires some { 1 ≤ workers }
     requires at_most { workers ≤ 64 }
@@ -119,7 +121,7 @@ pub(crate) fn sign_leased<R: Threads + Sync, G: Gate>(
         Ok(crew) => crew,
         Err(refused) => return Err((refused, lease)),
     };
-    let (opened, seats) = OpenLease::new(rt, alloc, lease, workers)?;
+    let (opened, seats) = OpenLease::new_watched(rt, alloc, lease, workers, progress)?;
     let (collector, mut workers) = crew.seated(&opened, seats);
     let threads = workers.len();
     thread::for_each_mut(

@@ -10,7 +10,7 @@ use crate::crew::sign_leased;
 use crate::gate::Gate;
 use crate::job::{Job, MOST_JOBS};
 use lms_book::{BookFault, StateStore};
-use lms_hss::HssKey;
+use lms_hss::{HssKey, Progress, Unwatched};
 use lms_shared_book::{Desk, SharedBook, Tally};
 use std::alloc::Global;
 use std::marker::{Model, Sync};
@@ -99,6 +99,29 @@ impl<S: StateStore, E: Tally, G: Tally, B: Tally> SigningService<S, E, G, B> {
         ensures desk { CountsBatch (length jobs.now) desk.old result desk.new }
         ensures lawful { 1 ≤ length jobs.now → length jobs.now ≤ most_jobs → CouldBeReserved self.now desk.old (length jobs.now) result }
     {
+        self.sign_batch_watched(rt, alloc, desk, jobs, workers, gate, &Unwatched)
+    }
+
+    /// The same, and tells `progress` how many leaves of the trees are worked out that the batch needs.
+    pub fn sign_batch_watched<R: Threads + Wait + Sync, W: Gate>(
+        &self,
+        rt: &R,
+        alloc: Global,
+        desk: &mut Desk<E, G, B>,
+        jobs: &[Job],
+        workers: usize,
+        gate: &W,
+        progress: &impl Progress,
+    ) -> Result<Batch, BatchFault>
+        requires some { 1 ≤ workers }
+        requires at_most { workers ≤ 64 }
+        ensures answer { IfOk result (λ batch. IsAnswerTo self.now.book.key (start_of batch) (texts_of jobs.now) batch) }
+        ensures within { IfOk result (λ batch. start_of batch + length jobs.now ≤ capacity_of (hss_key_of self.now.book.key)) }
+        ensures none { length jobs.now ≡ 0 → IsOk result × IfOk result IsBatchOfNone }
+        ensures too_many { (result ≡ Err BatchFault.TooMany) ↔ (most_jobs < length jobs.now) }
+        ensures desk { CountsBatch (length jobs.now) desk.old result desk.new }
+        ensures lawful { 1 ≤ length jobs.now → length jobs.now ≤ most_jobs → CouldBeReserved self.now desk.old (length jobs.now) result }
+    {
         if jobs.len() > MOST_JOBS {
             return Err(BatchFault::TooMany);
         }
@@ -113,7 +136,7 @@ impl<S: StateStore, E: Tally, G: Tally, B: Tally> SigningService<S, E, G, B> {
             Ok(lease) => lease,
             Err(refused) => return Err(BatchFault::Book(refused)),
         };
-        match sign_leased(rt, alloc, lease, jobs, workers, gate) {
+        match sign_leased(rt, alloc, lease, jobs, workers, gate, progress) {
             Ok(batch) => Ok(batch),
             Err((_, lease)) => {
                 self.book.give_back(lease);

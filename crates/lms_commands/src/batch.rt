@@ -11,7 +11,8 @@ use crate::files::{lock_state, open_state};
 use crate::options::workers_from;
 use lms_batch::SigningService;
 use lms_book::{Book, StateStore};
-use lms_lines::{Done, sign_lines};
+use lms_hss::Progress;
+use lms_lines::{Done, sign_lines_watched};
 use lms_shared_book::{Blanks, Desk, SharedBook, Tally};
 use lms_world::World;
 use std::alloc::Global;
@@ -32,6 +33,8 @@ use std::thread::Threads;
 /// refused to a worker, after the lines of those that were signed. `OutOfMemory` may come anywhere before `WriteStateBurnt`. At
 /// the last three all indices of the batch are used; after `WriteStateBurnt` the state may still be the older one, which gives
 /// them again. The state stays locked while the input is read.
+///
+/// `progress` is told how many leaves are worked out of the trees that the batch needs.
 pub fn sign_jobs<W: World, I: Read, O: Write>(
     rt: &(impl Threads + Wait + Sync),
     alloc: Global,
@@ -40,6 +43,7 @@ pub fn sign_jobs<W: World, I: Read, O: Write>(
     workers: &str,
     input: &mut I,
     output: &mut O,
+    progress: &impl Progress,
 ) -> Result<(), Fault>
     ensures workers { OnOk result (AreWorkers workers.now) }
     ensures signed { OnOk result (SignsAllJobs (W.known world.old) (W.known world.new) state.now
@@ -53,7 +57,7 @@ pub fn sign_jobs<W: World, I: Read, O: Write>(
         return Err(Fault::BadWorkers);
     };
     let _lock = lock_state(alloc, world, state)?;
-    let done = sign_by_state(rt, alloc, world, state, workers, input, output)?;
+    let done = sign_by_state(rt, alloc, world, state, workers, input, output, progress)?;
     if output.flush().is_err() {
         return Err(Fault::Output);
     }
@@ -75,6 +79,7 @@ fn sign_by_state<W: World, I: Read, O: Write>(
     workers: usize,
     input: &mut I,
     output: &mut O,
+    progress: &impl Progress,
 ) -> Result<Done, Fault>
     requires some { 1 ≤ workers }
     requires at_most { workers ≤ 64 }
@@ -87,7 +92,7 @@ fn sign_by_state<W: World, I: Read, O: Write>(
     ensures files { SameFiles (W.known world.old) (W.known world.new) }
 {
     let book = open_state(alloc, world, state)?;
-    let (answer, left) = sign_by_book(rt, alloc, book, workers, input, output);
+    let (answer, left) = sign_by_book(rt, alloc, book, workers, input, output, progress);
     world.put_back(state, left.close());
     answer
 }
@@ -100,6 +105,7 @@ fn sign_by_book<S: StateStore + Drop, I: Read, O: Write>(
     workers: usize,
     input: &mut I,
     output: &mut O,
+    progress: &impl Progress,
 ) -> (Result<Done, Fault>, Book<S>)
     requires some { 1 ≤ workers }
     requires at_most { workers ≤ 64 }
@@ -114,7 +120,9 @@ fn sign_by_book<S: StateStore + Drop, I: Read, O: Write>(
         given: Blank::new(2),
         burnt: Blank::new(2),
     };
-    sign_shared::<Brand, Brand, Brand, S, I, O>(rt, alloc, book, blanks, workers, input, output)
+    sign_shared::<Brand, Brand, Brand, S, I, O>(
+        rt, alloc, book, blanks, workers, input, output, progress,
+    )
 }
 
 /// The same, with the ledgers of the desk. Where memory for the desk is refused, no line is read.
@@ -126,6 +134,7 @@ fn sign_shared<E: Tally, G: Tally, B: Tally, S: StateStore + Drop, I: Read, O: W
     workers: usize,
     input: &mut I,
     output: &mut O,
+    progress: &impl Progress,
 ) -> (Result<Done, Fault>, Book<S>)
     requires some { 1 ≤ workers }
     requires at_most { workers ≤ 64 }
@@ -144,7 +153,9 @@ fn sign_shared<E: Tally, G: Tally, B: Tally, S: StateStore + Drop, I: Read, O: W
         Err((_, book, _)) => return (Err(Fault::OutOfMemory), book),
     };
     let service = SigningService::over(shared);
-    let answer = sign_at_desk(rt, alloc, &service, &mut desks, workers, input, output);
+    let answer = sign_at_desk(
+        rt, alloc, &service, &mut desks, workers, input, output, progress,
+    );
     match service.into_book().settle(desks) {
         Ok(left) => (answer, left),
         Err(_) => unreachable!(),
@@ -160,6 +171,7 @@ fn sign_at_desk<E: Tally, G: Tally, B: Tally, S: StateStore + Drop, I: Read, O: 
     workers: usize,
     input: &mut I,
     output: &mut O,
+    progress: &impl Progress,
 ) -> Result<Done, Fault>
     requires some { 1 ≤ workers }
     requires at_most { workers ≤ 64 }
@@ -171,7 +183,16 @@ fn sign_at_desk<E: Tally, G: Tally, B: Tally, S: StateStore + Drop, I: Read, O: 
     ensures silent { IfErr result (λ fault. IsSilent fault → output.new ≡ output.old) }
     ensures still { length desks.new ≡ 1 }
 {
-    match sign_lines(rt, alloc, service, input, output, &mut desks[0], workers) {
+    match sign_lines_watched(
+        rt,
+        alloc,
+        service,
+        input,
+        output,
+        &mut desks[0],
+        workers,
+        progress,
+    ) {
         Ok(done) => Ok(done),
         Err(fault) => Err(Fault::from(fault)),
     }

@@ -12,7 +12,7 @@ use crate::fault::Fault;
 use crate::files::{lock_state, write_file};
 use crate::options::{read_bytes, read_levels};
 use lms_book::{StateStore, StoreFault};
-use lms_hss::{HssKey, Levels};
+use lms_hss::{HssKey, Levels, Progress};
 use lms_image::{Image, encode_image};
 use lms_world::World;
 use std::alloc::Global;
@@ -52,6 +52,8 @@ fn key_of(levels: Levels, seed: [u8; 32], id: [u8; 16]) -> HssKey
 /// where it may not have been stored, and `Output` where the public key can't be written or the capacity not printed: the
 /// state is the new key's then. `OutOfMemory` may come before the state is written, which stays as it was, or while the
 /// public key is written, and then the state is the new key's.
+///
+/// `progress` is told how many leaves of the top tree are worked out.
 pub fn make_key<W: World, O: Write>(
     rt: &(impl Threads + Sync),
     alloc: Global,
@@ -60,6 +62,7 @@ pub fn make_key<W: World, O: Write>(
     state: &str,
     public: &str,
     output: &mut O,
+    progress: &impl Progress,
 ) -> Result<(), Fault>
     ensures made { OnOk result (MakesKey (W.known world.old)
         (W.known world.new) key state.now public.now
@@ -74,7 +77,7 @@ pub fn make_key<W: World, O: Write>(
     if world.exists(state) {
         return Err(Fault::StateExists);
     }
-    let public_key = key.public_key(rt, alloc)?;
+    let public_key = key.public_key_watched(rt, alloc, progress)?;
     store_key(alloc, world, key, state)?;
     publish(world, public, &public_key, key.capacity(), output)
 }

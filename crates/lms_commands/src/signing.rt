@@ -20,6 +20,7 @@ use crate::files::{lock_state, open_state, read_file, write_file};
 use crate::options::read_bytes;
 use lms_batch::{Job, OpenLease, SignFault as LeaseFault};
 use lms_book::{Book, BookFault, Lease, StateStore};
+use lms_hss::Progress;
 use lms_params::OutOfMemory;
 use lms_world::World;
 use std::alloc::Global;
@@ -60,6 +61,8 @@ struct Signed {
 /// available; `ReadState`; `BadState`; `Exhausted`; `WriteStateBurnt` where the use of the index may not have been stored;
 /// `OutOfMemoryBurnt` and `Output` once it was. `OutOfMemory` may come anywhere before `WriteStateBurnt`. At the last two
 /// the index is used; after `WriteStateBurnt` the state may still be the older one, which gives the index again.
+///
+/// `progress` is told how many leaves are worked out of the trees that the signature needs.
 pub fn sign_file<W: World, O: Write>(
     rt: &(impl Threads + Sync),
     alloc: Global,
@@ -69,6 +72,7 @@ pub fn sign_file<W: World, O: Write>(
     message: &str,
     out: &str,
     output: &mut O,
+    progress: &impl Progress,
 ) -> Result<(), Fault>
     ensures signed { OnOk result (SignsFile (W.known world.old)
         (W.known world.new) state.now random.now message.now out.now
@@ -86,7 +90,7 @@ pub fn sign_file<W: World, O: Write>(
         message,
     };
     let _lock = lock_state(alloc, world, state)?;
-    let signed = sign_by_state(rt, alloc, world, state, &job)?;
+    let signed = sign_by_state(rt, alloc, world, state, &job, progress)?;
     deliver(world, out, &signed, output)
 }
 
@@ -133,6 +137,7 @@ fn sign_by_state<W: World>(
     world: &mut W,
     state: &str,
     job: &Job,
+    progress: &impl Progress,
 ) -> Result<Signed, Fault>
     ensures signed { IfOk result (λ signed. SignsNext (W.known world.old)
         (W.known world.new) state.now job.now.c job.now.message.items
@@ -142,7 +147,7 @@ fn sign_by_state<W: World>(
     ensures files { SameFiles (W.known world.old) (W.known world.new) }
 {
     let mut book = open_state(alloc, world, state)?;
-    let signed = sign_next(rt, alloc, &mut book, job);
+    let signed = sign_next(rt, alloc, &mut book, job, progress);
     world.put_back(state, book.close());
     match signed {
         Ok(signed) => Ok(signed),
@@ -158,6 +163,7 @@ fn sign_next<S: StateStore>(
     alloc: Global,
     book: &mut Book<S>,
     job: &Job,
+    progress: &impl Progress,
 ) -> Result<Signed, SignFault>
     ensures key { book.new.key ≡ book.old.key }
     ensures base { book.new.base ≡ book.old.base }
@@ -173,7 +179,7 @@ fn sign_next<S: StateStore>(
         HssAccepts (hss_public_key (hss_key_of book.old.key)) job.now.message.items signed.signature.items) }
 {
     let lease = book.reserve(1).map_err(|fault| SignFault::Book(fault))?;
-    let signed = sign_lease(rt, alloc, lease, job);
+    let signed = sign_lease(rt, alloc, lease, job, progress);
     signed.map_err(|_| SignFault::OutOfMemory)
 }
 
@@ -183,6 +189,7 @@ fn sign_lease(
     alloc: Global,
     lease: Lease,
     job: &Job,
+    progress: &impl Progress,
 ) -> Result<Signed, OutOfMemory>
     requires { lease.len ≡ 1 }
     ensures index { IfOk result (λ signed. signed.index ≡ lease.start) }
@@ -191,7 +198,7 @@ fn sign_lease(
     ensures accepted { IfOk result (λ signed.
         HssAccepts (hss_public_key (hss_key_of lease.key)) job.now.message.items signed.signature.items) }
 {
-    let (opened, mut seats) = match OpenLease::new(rt, alloc, lease, 1) {
+    let (opened, mut seats) = match OpenLease::new_watched(rt, alloc, lease, 1, progress) {
         Ok(made) => made,
         Err((refused, lease)) => {
             lease.end();

@@ -10,6 +10,7 @@ use crate::key::HssKey;
 use crate::level_trees::LevelTrees;
 use crate::signed_tree::SignedTree;
 use lms_params::OutOfMemory;
+use lms_tree::{Progress, Unwatched};
 use std::alloc::Global;
 use std::marker::Model;
 use std::thread::Threads;
@@ -58,12 +59,30 @@ impl Forest {
         requires within { start + len ≤ capacity_of (hss_key_of key) }
         ensures { IfOk result (λ forest. forest ≡ record { key = key; start = start; len = len }) }
     {
+        Forest::cover_watched(rt, alloc, key, start, len, &Unwatched)
+    }
+
+    /// The same, and tells `progress` how many leaves of all these trees are worked out.
+    pub fn cover_watched(
+        rt: &(impl Threads + Sync),
+        alloc: Global,
+        key: HssKey,
+        start: u64,
+        len: u64,
+        progress: &impl Progress,
+    ) -> Result<Self, OutOfMemory>
+        requires some { 1 ≤ len }
+        requires at_most { len ≤ longest_lease }
+        requires within { start + len ≤ capacity_of (hss_key_of key) }
+        ensures { IfOk result (λ forest. forest ≡ record { key = key; start = start; len = len }) }
+    {
         let below_top = key.levels.as_slice().len() - 1;
         let last = start + (len - 1);
-        let mut trees = LevelTrees::top(rt, alloc, &key, start, last)?;
+        progress.begin(leaves_of_all_trees(&key, start, last));
+        let mut trees = LevelTrees::top(rt, alloc, &key, start, last, progress)?;
         let public = trees.tree(0).public_key(&key);
         for k in 0..below_top {
-            trees = trees.below(rt, alloc, &key, k, start, last)?;
+            trees = trees.below(rt, alloc, &key, k, start, last, progress)?;
         }
         Ok(Forest {
             key,
@@ -110,4 +129,13 @@ impl Forest {
     {
         self.bottom.tree(self.key.tree_number(g, bottom))
     }
+}
+
+/// How many leaves there are in all trees that the indices from `start` to `last` go through.
+fn leaves_of_all_trees(key: &HssKey, start: u64, last: u64) -> u64 {
+    let mut leaves = 0u64;
+    for k in 0..key.levels.as_slice().len() {
+        leaves = leaves.saturating_add(key.leaves_of_trees(start, last, k));
+    }
+    leaves
 }

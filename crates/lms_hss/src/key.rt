@@ -13,7 +13,7 @@ use crate::levels::{Levels, MOST_LEVELS};
 use crate::verification::LMS_KEY_LEN;
 use byteorder::{BigEndian, ByteOrder};
 use lms_params::{OutOfMemory, lms_sig_len};
-use lms_tree::{BandTree, TreeKey, public_bytes};
+use lms_tree::{BandTree, Progress, TreeKey, Unwatched, public_bytes};
 use std::alloc::Global;
 use std::thread::Threads;
 
@@ -86,7 +86,21 @@ impl HssKey {
     ) -> Result<[u8; 60], OutOfMemory>
         ensures { IfOk result (λ text. text ≡ hss_public_key (hss_key_of self.now)) }
     {
-        let tree = BandTree::build(rt, alloc, self.top_tree(), 0, 0)?;
+        self.public_key_watched(rt, alloc, &Unwatched)
+    }
+
+    /// The same, and tells `progress` how many leaves of the top tree are worked out.
+    pub fn public_key_watched(
+        &self,
+        rt: &(impl Threads + Sync),
+        alloc: Global,
+        progress: &impl Progress,
+    ) -> Result<[u8; 60], OutOfMemory>
+        ensures { IfOk result (λ text. text ≡ hss_public_key (hss_key_of self.now)) }
+    {
+        let (lms, _) = self.levels.as_slice()[0];
+        progress.begin(1 << lms.height());
+        let tree = BandTree::build_watched(rt, alloc, self.top_tree(), 0, 0, progress)?;
         Ok(self.public_key_over(&tree))
     }
 
@@ -140,6 +154,19 @@ impl HssKey {
             first: first as u32,
             last: last as u32,
         }
+    }
+
+    /// How many leaves there are in the trees of level k that the indices from `start` to `last` go through.
+    pub(crate) fn leaves_of_trees(&self, start: u64, last: u64, k: usize) -> u64
+        requires { k < length self.now.levels }
+    {
+        let (lms, _) = self.levels.as_slice()[k];
+        let after_first = self
+            .tree_number(last, k)
+            .saturating_sub(self.tree_number(start, k));
+        after_first
+            .saturating_add(1)
+            .saturating_mul(1 << lms.height())
     }
 
     /// The number of the tree of level k that stands above tree `number` of the next level, and the leaf of it that does.

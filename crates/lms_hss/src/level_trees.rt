@@ -8,6 +8,7 @@ ghost use Rattle.lms_hss.specs.Forests.{HoldsLevel};
 use crate::key::HssKey;
 use crate::signed_tree::SignedTree;
 use lms_params::OutOfMemory;
+use lms_tree::Progress;
 use std::alloc::Global;
 use std::thread::Threads;
 
@@ -26,6 +27,7 @@ impl LevelTrees {
         key: &HssKey,
         start: u64,
         last: u64,
+        progress: &impl Progress,
     ) -> Result<Self, OutOfMemory>
         requires some { 1 ≤ length key.now.levels }
         requires order { start ≤ last }
@@ -35,7 +37,7 @@ impl LevelTrees {
     {
         let leaves = key.leaves(start, last, 0, 0);
         let mut trees = Vec::new(alloc);
-        trees.push(SignedTree::top(rt, alloc, key, leaves)?)?;
+        trees.push(SignedTree::top(rt, alloc, key, leaves, progress)?)?;
         Ok(LevelTrees { first: 0, trees })
     }
 
@@ -58,6 +60,7 @@ impl LevelTrees {
         k: usize,
         start: u64,
         last: u64,
+        progress: &impl Progress,
     ) -> Result<Self, OutOfMemory>
         requires below { k + 1 < length key.now.levels }
         requires order { start ≤ last }
@@ -72,7 +75,10 @@ impl LevelTrees {
         for number in first..key.tree_number(last, k + 1) + 1 {
             let (parent, leaf) = key.parent(number, k);
             let leaves = key.leaves(start, last, k + 1, number);
-            trees.push(self.tree(parent).child(rt, alloc, leaf, sets, leaves)?)?;
+            trees.push(
+                self.tree(parent)
+                    .child(rt, alloc, leaf, sets, leaves, progress)?,
+            )?;
         }
         Ok(LevelTrees { first, trees })
     }

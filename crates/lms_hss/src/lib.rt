@@ -20,3 +20,4 @@ pub use crate::key::{HssKey, same_key};
 pub use crate::levels::{KeyFault, Levels};
 pub use crate::text::LevelsText;
 pub use crate::verification::{LMS_KEY_LEN, Verifier, verify};
+pub use lms_tree::{Progress, Unwatched};

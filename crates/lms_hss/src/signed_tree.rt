@@ -12,7 +12,7 @@ use crate::child_key::{child_key, randomizer};
 use crate::key::{HssKey, Leaves};
 use crate::verification::LMS_KEY_LEN;
 use lms_params::{LmsType, OtsType, OutOfMemory, lms_sig_len};
-use lms_tree::{BandTree, NodeSource, public_bytes, sign_into};
+use lms_tree::{BandTree, NodeSource, Progress, public_bytes, sign_into};
 use std::alloc::Global;
 use std::thread::Threads;
 
@@ -31,6 +31,7 @@ impl SignedTree {
         alloc: Global,
         key: &HssKey,
         leaves: Leaves,
+        progress: &impl Progress,
     ) -> Result<Self, OutOfMemory>
         requires { AreLeaves (level (hss_key_of key.now) 0).lms.h leaves }
         ensures { IfOk result (λ tree. (g : ℕ) → leaves.first ≤ leaf_at (hss_key_of key.now) g 0 → leaf_at (hss_key_of key.now) g 0 ≤ leaves.last
@@ -38,7 +39,14 @@ impl SignedTree {
     {
         let signed_keys = key.levels.as_slice().len() as u32 - 1;
         let head = Vec::from_slice(alloc, &signed_keys.to_be_bytes())?;
-        let tree = BandTree::build(rt, alloc, key.top_tree(), leaves.first, leaves.last)?;
+        let tree = BandTree::build_watched(
+            rt,
+            alloc,
+            key.top_tree(),
+            leaves.first,
+            leaves.last,
+            progress,
+        )?;
         Ok(SignedTree { tree, head })
     }
 
@@ -51,6 +59,7 @@ impl SignedTree {
         q: u32,
         sets: (LmsType, OtsType),
         leaves: Leaves,
+        progress: &impl Progress,
     ) -> Result<Self, OutOfMemory>
         requires from { self.now.tree.first ≤ q }
         requires to { q ≤ self.now.tree.last }
@@ -60,12 +69,13 @@ impl SignedTree {
         let key = self.tree.key();
         let signed = self.head.len() + lms_sig_len(key.lms, key.ots);
         let mut head = vec![in alloc; 0; signed + LMS_KEY_LEN]?;
-        let tree = BandTree::build(
+        let tree = BandTree::build_watched(
             rt,
             alloc,
             child_key(&key, q, sets),
             leaves.first,
             leaves.last,
+            progress,
         )?;
         self.sign_key_into(q, &randomizer(&key, q), &public_bytes(&tree), &mut head);
         Ok(SignedTree { tree, head })

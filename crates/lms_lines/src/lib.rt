@@ -14,4 +14,4 @@ mod tests;
 pub use crate::answers::{WriteFault, write_batch};
 pub use crate::fault::JobsFault;
 pub use crate::jobs::read_jobs;
-pub use crate::signing::{Done, LinesFault, sign_lines};
+pub use crate::signing::{Done, LinesFault, sign_lines, sign_lines_watched};

@@ -7,6 +7,7 @@ use crate::fault::JobsFault;
 use crate::jobs::read_jobs;
 use lms_batch::{Batch, BatchFault, OpenGate, SigningService};
 use lms_book::StateStore;
+use lms_hss::{Progress, Unwatched};
 use lms_shared_book::{Desk, Tally};
 use std::alloc::Global;
 use std::io::{Read, Write};
@@ -71,11 +72,46 @@ where
         (O.contents writer.old) (O.contents writer.new) desk.old desk.new) }
     ensures silent { IfErr result (λ fault. fault ≢ LinesFault.Write → writer.new ≡ writer.old) }
 {
+    sign_lines_watched(
+        rt, alloc, service, reader, writer, desk, workers, &Unwatched,
+    )
+}
+
+/// The same, and tells `progress` how many leaves of the trees are worked out that the batch needs.
+pub fn sign_lines_watched<S, E, G, B, R, I, O, P>(
+    rt: &R,
+    alloc: Global,
+    service: &SigningService<S, E, G, B>,
+    reader: &mut I,
+    writer: &mut O,
+    desk: &mut Desk<E, G, B>,
+    workers: usize,
+    progress: &P,
+) -> Result<Done, LinesFault>
+where
+    S: StateStore,
+    E: Tally,
+    G: Tally,
+    B: Tally,
+    R: Threads + Wait + Sync,
+    I: Read,
+    O: Write,
+    P: Progress,
+    requires some { 1 ≤ workers }
+    requires at_most { workers ≤ 64 }
+    ensures done { IfOk result (IsDone service.now (I.remaining reader.old) (I.remaining reader.new)
+        (O.contents writer.old) (O.contents writer.new) desk.old desk.new) }
+    ensures fault { IfErr result (IsLinesFault service.now (I.remaining reader.old) (I.remaining reader.new)
+        (O.contents writer.old) (O.contents writer.new) desk.old desk.new) }
+    ensures silent { IfErr result (λ fault. fault ≢ LinesFault.Write → writer.new ≡ writer.old) }
+{
     let jobs = match read_jobs(alloc, reader) {
         Ok(jobs) => jobs,
         Err(fault) => return Err(LinesFault::Jobs(fault)),
     };
-    let batch = match service.sign_batch(rt, alloc, desk, &jobs, workers, &OpenGate) {
+    let batch = match service.sign_batch_watched(
+        rt, alloc, desk, &jobs, workers, &OpenGate, progress,
+    ) {
         Ok(batch) => batch,
         Err(fault) => return Err(LinesFault::Batch(fault)),
     };

@@ -11,6 +11,7 @@ use crate::command::{Command, CommandFault, command};
 use lms_commands::{
     Fault, Status, describe, key_from, make_key, print_fault, sign_file, sign_jobs, verify_files,
 };
+use lms_hss::{Progress, Unwatched};
 use lms_world::World;
 use std::alloc::Global;
 use std::convert::AsStr;
@@ -43,7 +44,31 @@ pub fn run<S: AsStr, W: World, I: Read, O: Write, E: Write>(
         → SameFile (W.known world.old) (W.known world.new) name }
     ensures unread { (input.new ≡ input.old) ⊎ AsksToRead (map S.text words.now) }
 {
-    match answer(rt, alloc, words, world, input, output, errors) {
+    run_watched(rt, alloc, words, world, input, output, errors, &Unwatched)
+}
+
+/// The same, and tells `progress` how far `keygen`, `sign` and `batch` are while they work out trees, which may take hours where
+/// these are tall.
+pub fn run_watched<S: AsStr, W: World, I: Read, O: Write, E: Write>(
+    rt: &(impl Threads + Wait + Sync),
+    alloc: Global,
+    words: &[S],
+    world: &mut W,
+    input: &mut I,
+    output: &mut O,
+    errors: &mut E,
+    progress: &impl Progress,
+) -> Status
+    ensures ends { Ends (moment (W.known world.old) (I.remaining input.old) (O.contents output.old))
+        (moment (W.known world.new) (I.remaining input.new) (O.contents output.new)) (map S.text words.now) result }
+    ensures quiet { code_of result < 2 → (errors.new ≡ errors.old) ⊎ ((result ≡ Status.Negative) × AsksToRead (map S.text words.now)) }
+    ensures silent { 2 ≤ code_of result → code_of result < 6 → output.new ≡ output.old }
+    ensures files { (world.new ≡ world.old) ⊎ AsksToTouch (map S.text words.now) }
+    ensures others { (name : List ℕ) → NoneWrites (map S.text words.now) name
+        → SameFile (W.known world.old) (W.known world.new) name }
+    ensures unread { (input.new ≡ input.old) ⊎ AsksToRead (map S.text words.now) }
+{
+    match answer(rt, alloc, words, world, input, output, errors, progress) {
         Ok(status) => status,
         Err(fault) => report(fault, errors),
     }
@@ -67,6 +92,7 @@ fn answer<S: AsStr, W: World, I: Read, O: Write, E: Write>(
     input: &mut I,
     output: &mut O,
     errors: &mut E,
+    progress: &impl Progress,
 ) -> Result<Status, Fault>
     ensures ends { IfOk result
         (Ends (moment (W.known world.old) (I.remaining input.old) (O.contents output.old))
@@ -83,7 +109,7 @@ fn answer<S: AsStr, W: World, I: Read, O: Write, E: Write>(
     ensures unread { (input.new ≡ input.old) ⊎ AsksToRead (map S.text words.now) }
 {
     match command(alloc, words) {
-        Ok(command) => obey(rt, alloc, command, world, input, output),
+        Ok(command) => obey(rt, alloc, command, world, input, output, progress),
         Err(CommandFault::Help { text }) => match print_text(output, &text) {
             Ok(()) => Ok(Status::Done),
             Err(_) => Err(Fault::Output),
@@ -104,6 +130,7 @@ fn obey<W: World, I: Read, O: Write>(
     world: &mut W,
     input: &mut I,
     output: &mut O,
+    progress: &impl Progress,
 ) -> Result<Status, Fault>
     ensures done { IfOk result
         (Obeys (moment (W.known world.old) (I.remaining input.old) (O.contents output.old))
@@ -126,7 +153,7 @@ fn obey<W: World, I: Read, O: Write>(
             public,
         } => {
             let key = key_from(alloc, &levels, &seed, &id)?;
-            make_key(rt, alloc, world, key, &state, &public, output)?;
+            make_key(rt, alloc, world, key, &state, &public, output, progress)?;
             Ok(Status::Done)
         }
         Command::Info { state } => {
@@ -139,11 +166,13 @@ fn obey<W: World, I: Read, O: Write>(
             message,
             out,
         } => {
-            sign_file(rt, alloc, world, &state, &random, &message, &out, output)?;
+            sign_file(
+                rt, alloc, world, &state, &random, &message, &out, output, progress,
+            )?;
             Ok(Status::Done)
         }
         Command::Batch { state, workers } => {
-            sign_jobs(rt, alloc, world, &state, &workers, input, output)?;
+            sign_jobs(rt, alloc, world, &state, &workers, input, output, progress)?;
             Ok(Status::Done)
         }
         Command::Verify {

@@ -1,36 +1,47 @@
 //! A signer and an exact verifier of HSS/LMS signatures (RFC 8554).
 #![tactic(auto)]
 
+mod meter;
 mod streams;
 #[cfg(test)]
 mod tests;
 
+use crate::meter::{Meter, Wiping};
 use crate::streams::hold_closed_streams;
 use lms_commands::Fault;
-use lms_program::run::{report, run};
+use lms_program::run::{report, run_watched};
 use lms_world::DiskWorld;
 use std::env;
-use std::io::ErrorKind;
+use std::io::{ErrorKind, IsTerminal};
 use std::process::ExitCode;
 use std::rt::Env;
 
 fn main(rt: HostRuntime) -> ExitCode {
     let mut errors = rt.stderr();
     let held = hold_closed_streams(&rt);
+    let told = rt.stderr();
+    let meter = Meter::new(&rt, &told, told.is_terminal());
     let words = if held.is_ok() {
         words(&rt)
     } else {
         Err(Fault::Input)
     };
     let status = match words {
-        Ok(words) => run(
+        Ok(words) => run_watched(
             &rt,
             rt.alloc(),
             words.as_slice(),
             &mut DiskWorld::new(&rt),
             &mut rt.reader(),
-            &mut rt.stdout(),
-            &mut errors,
+            &mut Wiping {
+                meter: &meter,
+                writer: rt.stdout(),
+            },
+            &mut Wiping {
+                meter: &meter,
+                writer: rt.stderr(),
+            },
+            &meter,
         ),
         Err(fault) => report(fault, &mut errors),
     };

@@ -7,6 +7,7 @@ mod large;
 mod lines;
 mod locked;
 mod memory;
+mod meter;
 mod options;
 mod state;
 mod states;

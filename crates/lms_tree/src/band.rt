@@ -5,7 +5,8 @@ ghost use Rattle.lms_tree.specs.TreeKey.{tree_of};
 ghost use Rattle.lms_tree.specs.Bands.{root_rows};
 ghost use Rattle.lms_tree.specs.Held.{row_of, row_below, nodes_in, AreInTree, HoldsRow, HoldsRows};
 
-use crate::nodes::inner_hash;
+use crate::nodes::{inner_hash, leaf_count};
+use crate::progress::Progress;
 use crate::tree_key::TreeKey;
 use lms_params::OutOfMemory;
 use rayon::prelude::*;
@@ -91,13 +92,14 @@ impl Model for Band {
 impl Band {
     /// Works out the nodes in these rows, where there is room for them: the lowest row in a thread for each processor, up to 32,
     /// then the rows above it. A node of the lowest row that stands in the top row of `lower`, a band of the same tree, is copied
-    /// from there. The memory of `room` becomes the band's.
+    /// from there. The memory of `room` becomes the band's. `progress` is told of the leaves under each other node of that row.
     pub(crate) fn build(
         rt: &(impl Threads + Sync),
         key: TreeKey,
         rows: Rows,
         room: Vec<[u8; 32]>,
         lower: Option<&Band>,
+        progress: &impl Progress,
     ) -> Self
         requires in_tree { AreInTree (tree_of key).lms.h rows }
         requires room { length room.items ≡ nodes_in rows }
@@ -105,7 +107,7 @@ impl Band {
         ensures { result ≡ record { key = key; rows = rows } }
     {
         let mut nodes = room;
-        fill_rows(rt, key, rows, lower, &mut nodes);
+        fill_rows(rt, key, rows, lower, &mut nodes, progress);
         Band { key, rows, nodes }
     }
 
@@ -156,6 +158,7 @@ fn fill_rows(
     rows: Rows,
     lower: Option<&Band>,
     nodes: &mut [[u8; 32]],
+    progress: &impl Progress,
 )
     requires in_tree { AreInTree (tree_of key).lms.h rows }
     requires count { length nodes.old ≡ nodes_in rows }
@@ -163,7 +166,14 @@ fn fill_rows(
     ensures { HoldsRows key rows nodes.new }
 {
     let lowest = rows.row(rows.depth);
-    fill_lowest_row(rt, key, lowest.first, lower, &mut nodes[lowest.place..]);
+    fill_lowest_row(
+        rt,
+        key,
+        lowest.first,
+        lower,
+        &mut nodes[lowest.place..],
+        progress,
+    );
     fill_upper_rows(&key, rows, nodes);
 }
 
@@ -174,6 +184,7 @@ fn fill_lowest_row(
     first: u32,
     lower: Option<&Band>,
     row: &mut [[u8; 32]],
+    progress: &impl Progress,
 )
     requires from_root { 1 ≤ first }
     requires in_tree { first + length row.old ≤ 2 * 2 ^ (tree_of key).lms.h }
@@ -187,13 +198,13 @@ fn fill_lowest_row(
             requires { (1 ≤ first) × (first + i < 2 * 2 ^ (tree_of key).lms.h) × IfSome lower (λ band. band.now.key ≡ key) }
             ensures { node.new ≡ node_of (tree_of key) (first + i) }
         {
-            *node = value(&key, lower, first + i as u32);
+            *node = value(&key, lower, first + i as u32, progress);
         },
     );
 }
 
-/// The value of node r: what `lower` has in its top row, else worked out from the leaves.
-fn value(key: &TreeKey, lower: Option<&Band>, r: u32) -> [u8; 32]
+/// The value of node r: what `lower` has in its top row, else worked out from the leaves, of which `progress` is told.
+fn value(key: &TreeKey, lower: Option<&Band>, r: u32, progress: &impl Progress) -> [u8; 32]
     requires from_root { 1 ≤ r }
     requires in_tree { r < 2 * 2 ^ (tree_of key.now).lms.h }
     requires lower { IfSome lower (λ band. band.now.key ≡ key.now) }
@@ -201,7 +212,11 @@ fn value(key: &TreeKey, lower: Option<&Band>, r: u32) -> [u8; 32]
 {
     match lower {
         Some(band) if band.has_on_top(r) => band.node(0, r),
-        _ => key.subtree_root(r),
+        _ => {
+            let root = key.subtree_root(r);
+            progress.done(u64::from(leaf_count(key.lms) >> r.ilog2()));
+            root
+        }
     }
 }
 

@@ -6,6 +6,7 @@ ghost use Rattle.lms_tree.specs.Bands.{bottom_height as bottom_height_of, kept_n
 
 use crate::band::{Band, Rows};
 use crate::node_source::NodeSource;
+use crate::progress::{Progress, Unwatched};
 use crate::tree_key::TreeKey;
 use lms_params::{LmsType, OutOfMemory};
 use std::alloc::Global;
@@ -53,12 +54,30 @@ impl BandTree {
         requires at_most { last - first < most_served }
         ensures { IfOk result (λ tree. tree ≡ record { key = key; first = first; last = last }) }
     {
+        BandTree::build_watched(rt, alloc, key, first, last, &Unwatched)
+    }
+
+    /// The same, and tells `progress` of the leaves that are worked out, 2^h in all. Who calls it says how many are to be worked
+    /// out.
+    pub fn build_watched(
+        rt: &(impl Threads + Sync),
+        alloc: Global,
+        key: TreeKey,
+        first: u32,
+        last: u32,
+        progress: &impl Progress,
+    ) -> Result<Self, OutOfMemory>
+        requires order { first ≤ last }
+        requires in_tree { last < 2 ^ (tree_of key).lms.h }
+        requires at_most { last - first < most_served }
+        ensures { IfOk result (λ tree. tree ≡ record { key = key; first = first; last = last }) }
+    {
         let lower_rows = lower_rows(key.lms, first, last);
         let upper_rows = Rows::from_root(key.lms.height() - bottom_height(key.lms));
         let lower_room = lower_rows.room(alloc)?;
         let upper_room = upper_rows.room(alloc)?;
-        let lower = Band::build(rt, key, lower_rows, lower_room, None);
-        let upper = Band::build(rt, key, upper_rows, upper_room, Some(&lower));
+        let lower = Band::build(rt, key, lower_rows, lower_room, None, progress);
+        let upper = Band::build(rt, key, upper_rows, upper_room, Some(&lower), progress);
         Ok(BandTree {
             first,
             last,

@@ -8,6 +8,7 @@ mod band;
 mod band_tree;
 mod node_source;
 mod nodes;
+mod progress;
 mod signing;
 #[cfg(test)]
 mod tests;
@@ -17,6 +18,7 @@ mod whole_tree;
 
 pub use crate::band_tree::BandTree;
 pub use crate::node_source::NodeSource;
+pub use crate::progress::{Progress, Unwatched};
 pub use crate::signing::{public_bytes, sign_into};
 pub use crate::tree_key::TreeKey;
 pub use crate::verification::{Verifier, signature_len, verify};

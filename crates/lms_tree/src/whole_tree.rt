@@ -4,6 +4,7 @@ ghost use Rattle.std.specs.Prelude.{◌≡◌, IfOk};
 use crate::band::{Band, Rows};
 use crate::node_source::NodeSource;
 use crate::nodes::leaf_count;
+use crate::progress::Unwatched;
 use crate::tree_key::TreeKey;
 use lms_params::OutOfMemory;
 use std::alloc::Global;
@@ -42,7 +43,7 @@ impl WholeTree {
     {
         let rows = Rows::from_root(key.lms.height());
         let room = rows.room(alloc)?;
-        let nodes = Band::build(rt, key, rows, room, None);
+        let nodes = Band::build(rt, key, rows, room, None, &Unwatched);
         Ok(WholeTree { nodes })
     }
 }

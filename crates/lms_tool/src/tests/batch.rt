@@ -233,7 +233,7 @@ fn refuses_bad_workers(rt: HostRuntime) -> Result<(), Fail> {
             "{workers}"
         );
     }
-    for workers in ["1", "9", "10", "64"] {
+    for workers in ["1", "2", "9", "10", "64"] {
         assert!(rt; refuses(&rt, workers, b"", 0, "")?, "{workers}");
     }
     Ok(())

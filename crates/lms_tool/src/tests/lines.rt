@@ -25,7 +25,7 @@ const EIGHT: [(LmsType, OtsType); 8] = [
 
 /// A stream that marks the end of each write by `|`, and each flush by `!`.
 #[derive(Drop)]
-struct Marked(Vec<u8>);
+pub(super) struct Marked(pub(super) Vec<u8>);
 
 impl Write for Marked {
     fn write(&mut self, buf: &[u8]) -> io::Result<usize> {

@@ -6,10 +6,10 @@ use Rattle.lms_commands.proofs.batch.sign_at_desk.Goals as goal
 
 pub returns-in-Ok-clause-done : goal.returns-in-Ok-clause-done
 returns-in-Ok-clause-done g c =
-    let desk = c.sign_lines.new.desk in
+    let desk = c.sign_lines_watched.new.desk in
     (desk, ap (λ (desks : List Sums). slice_set desks 0 desk) c.requires.one, rw c.requires.one at c.in-Ok.ensures.done)
 
 pub returns-in-Err-clause-refused : goal.returns-in-Err-clause-refused
 returns-in-Err-clause-refused g c =
-    let desk = c.sign_lines.new.desk in
+    let desk = c.sign_lines_watched.new.desk in
     (desk, ap (λ (desks : List Sums). slice_set desks 0 desk) c.requires.one, (c.in-Err.fault, c.from.ensures, rw c.requires.one at c.in-Err.ensures.fault))

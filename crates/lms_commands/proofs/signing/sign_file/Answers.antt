@@ -41,3 +41,6 @@ returns-clause-failed g c =
     randomizer text signed.signature.items signed.index c.in_ok-randomizer.ensures.read given
     (signed_still old mid new c.args.state.now randomizer text signed.signature.items signed.index c.in_ok-signed.ensures.signed (c.deliver.ensures.states c.args.state.now)))
     c.deliver.ensures.failed
+
+pub returns-clause-silent : goal.returns-clause-silent
+returns-clause-silent g c = IfErr-weaker c.deliver.result _ _ (λ fault failed other. absurd (other failed.0)) c.deliver.ensures.failed

@@ -1,28 +1,28 @@
 use Rattle.std.proofs.Common.{ap, arith, sym, true≢false}
 use Rattle.std.specs.Prelude.{Err}
 use Rattle.lms_lines.proofs.SignedLines.{batch_read, batch_refused, not_none}
-use Rattle.lms_lines.proofs.signing.sign_lines.Goals as goal
+use Rattle.lms_lines.proofs.signing.sign_lines_watched.Goals as goal
 
 pub returns-in-Ok-write_batch-clause-done : goal.returns-in-Ok-write_batch-clause-done
 returns-in-Ok-write_batch-clause-done g c =
-    let batch = c.in-Ok-sign_batch.batch in
-    let signed = c.in-Ok-sign_batch.ensures in
+    let batch = c.in-Ok-sign_batch_watched.batch in
+    let signed = c.in-Ok-sign_batch_watched.ensures in
     let read = batch_read c.args.service.now (g.I.Read.remaining c.args.reader.now) (g.I.Read.remaining c.read_jobs.new.reader)
-    c.args.desk.now c.sign_batch.new.desk c.deref.result.now c.in-Ok.jobs.items c.deref.ensures.value c.in-Ok.ensures.ok batch signed.answer signed.within signed.desk signed.lawful in
+    c.args.desk.now c.sign_batch_watched.new.desk c.deref.result.now c.in-Ok.jobs.items c.deref.ensures.value c.in-Ok.ensures.ok batch signed.answer signed.within signed.desk signed.lawful in
     (batch, read.0, c.in-Ok-write_batch.ensures.ok, c.signatures.ensures, omega (arith, c.len.ensures, read.1))
 
 pub returns-clause-fault : goal.returns-clause-fault
 returns-clause-fault g c =
-    let batch = c.in-Ok-sign_batch.batch in
-    let signed = c.in-Ok-sign_batch.ensures in
+    let batch = c.in-Ok-sign_batch_watched.batch in
+    let signed = c.in-Ok-sign_batch_watched.ensures in
     let read = batch_read c.args.service.now (g.I.Read.remaining c.args.reader.now) (g.I.Read.remaining c.read_jobs.new.reader)
-    c.args.desk.now c.sign_batch.new.desk c.deref.result.now c.in-Ok.jobs.items c.deref.ensures.value c.in-Ok.ensures.ok batch signed.answer signed.within signed.desk signed.lawful in
+    c.args.desk.now c.sign_batch_watched.new.desk c.deref.result.now c.in-Ok.jobs.items c.deref.ensures.value c.in-Ok.ensures.ok batch signed.answer signed.within signed.desk signed.lawful in
     (batch, read.0, c.in-Err-write_batch.ensures.err)
 
-pub returns-in-Err-sign_batch-clause-fault : goal.returns-in-Err-sign_batch-clause-fault
-returns-in-Err-sign_batch-clause-fault g c =
-    let refused = c.in-Err-sign_batch.ensures in
+pub returns-in-Err-sign_batch_watched-clause-fault : goal.returns-in-Err-sign_batch_watched-clause-fault
+returns-in-Err-sign_batch_watched-clause-fault g c =
+    let refused = c.in-Err-sign_batch_watched.ensures in
     let some = not_none _ (λ zero. true≢false (sym (refused.none zero).0)) in
     batch_refused c.args.service.now (g.I.Read.remaining c.args.reader.now) (g.I.Read.remaining c.read_jobs.new.reader)
-    c.args.desk.now c.sign_batch.new.desk c.deref.result.now c.in-Ok.jobs.items c.deref.ensures.value c.in-Ok.ensures.ok c.in-Err-sign_batch.fault some refused.desk
+    c.args.desk.now c.sign_batch_watched.new.desk c.deref.result.now c.in-Ok.jobs.items c.deref.ensures.value c.in-Ok.ensures.ok c.in-Err-sign_batch_watched.fault some refused.desk
     (λ is. refused.too_many.0 (ap Err is)) refused.lawful

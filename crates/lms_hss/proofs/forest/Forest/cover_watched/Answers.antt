@@ -2,7 +2,7 @@ use Rattle.std.proofs.Common.{rules, ◌≡◌, ◌+◌, ◌-◌, length, ap, ar
 use Rattle.lms_hss.specs.Keys.{hss_key_of}
 use Rattle.lms_hss.specs.Forests.{HoldsLevel}
 use Rattle.lms_hss.proofs.Forests.{top-is}
-use Rattle.lms_hss.proofs.forest.Forest.cover.Goals as goal
+use Rattle.lms_hss.proofs.forest.Forest.cover_watched.Goals as goal
 
 pub public_key-public-requires : goal.public_key-public-requires
 public_key-public-requires g c =

@@ -3,7 +3,7 @@ use Rattle.lms_commands.specs.Faults.{code_of}
 use Rattle.lms_commands.specs.declared.status.Status.{Status}
 use Rattle.lms_program.specs.Runs.{Ends, moment}
 use Rattle.lms_program.proofs.Ending.{ends_at, speaks}
-use Rattle.lms_program.proofs.run.run.Goals as goal
+use Rattle.lms_program.proofs.run.run_watched.Goals as goal
 
 pub returns-in-Err-clause-ends : goal.returns-in-Err-clause-ends
 returns-in-Err-clause-ends g c =
