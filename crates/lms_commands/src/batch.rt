@@ -1,5 +1,5 @@
 //! `batch`: job lines signed by the next indices of a key's state.
-ghost use Rattle.std.specs.Prelude.{◌≡◌, ◌≤◌, [], ◌∷◌, length, IfErr, IfOk, OnOk};
+ghost use Rattle.std.specs.Prelude.{◌≡◌, ◌≤◌, ℕ, List, [], ◌∷◌, length, IfErr, IfOk, OnOk};
 ghost use Rattle.lms_shared_book.specs.Desks.{BlankFits, sums};
 ghost use Rattle.lms_commands.specs.Batches.{FailsToBatch, FailsToSignJobs, IsSilent, SignsAllJobs, SignsJobs, streams};
 ghost use Rattle.lms_world.specs.Known.{SameFiles};
@@ -56,8 +56,8 @@ pub fn sign_jobs<W: World, I: Read, O: Write>(
     let Some(workers) = workers_from(workers) else {
         return Err(Fault::BadWorkers);
     };
-    let _lock = lock_state(alloc, world, state)?;
-    let done = sign_by_state(rt, alloc, world, state, workers, input, output, progress)?;
+    let lock = lock_state(alloc, world, state)?;
+    let done = sign_by_state(rt, alloc, world, &lock, workers, input, output, progress)?;
     if output.flush().is_err() {
         return Err(Fault::Output);
     }
@@ -70,12 +70,12 @@ pub fn sign_jobs<W: World, I: Read, O: Write>(
     Ok(())
 }
 
-/// Signs job lines with the next indices of a state's key.
+/// Signs job lines with the next indices of the key of a lock's state.
 fn sign_by_state<W: World, I: Read, O: Write>(
     rt: &(impl Threads + Wait + Sync),
     alloc: Global,
     world: &mut W,
-    state: &str,
+    lock: &W::Lock,
     workers: usize,
     input: &mut I,
     output: &mut O,
@@ -83,22 +83,24 @@ fn sign_by_state<W: World, I: Read, O: Write>(
 ) -> Result<Done, Fault>
     requires some { 1 ≤ workers }
     requires at_most { workers ≤ 64 }
-    ensures signed { IfOk result (λ done. SignsJobs (W.known world.old) (W.known world.new) state.now
+    ensures signed { IfOk result (λ done. (state : List ℕ) → W.is_lock_of lock.now state
+        → SignsJobs (W.known world.old) (W.known world.new) state
         (streams (I.remaining input.old) (O.contents output.old)) (streams (I.remaining input.new) (O.contents output.new))
         done.signed done.asked) }
-    ensures failed { IfErr result (FailsToSignJobs (W.known world.old) (W.known world.new) state.now
-        (streams (I.remaining input.old) (O.contents output.old)) (streams (I.remaining input.new) (O.contents output.new))) }
+    ensures failed { IfErr result (λ fault. (state : List ℕ) → W.is_lock_of lock.now state
+        → FailsToSignJobs (W.known world.old) (W.known world.new) state
+        (streams (I.remaining input.old) (O.contents output.old)) (streams (I.remaining input.new) (O.contents output.new)) fault) }
     ensures silent { IfErr result (λ fault. IsSilent fault → output.new ≡ output.old) }
     ensures files { SameFiles (W.known world.old) (W.known world.new) }
 {
-    let book = open_state(alloc, world, state)?;
+    let book = open_state(alloc, world, lock)?;
     let (answer, left) = sign_by_book(rt, alloc, book, workers, input, output, progress);
-    world.put_back(state, left.close());
+    world.put_back(lock, left.close());
     answer
 }
 
 /// Signs job lines by a book that is shared meanwhile, with one desk, and hands the book back.
-fn sign_by_book<S: StateStore + Drop, I: Read, O: Write>(
+fn sign_by_book<S: StateStore, I: Read, O: Write>(
     rt: &(impl Threads + Wait + Sync),
     alloc: Global,
     book: Book<S>,
@@ -126,7 +128,7 @@ fn sign_by_book<S: StateStore + Drop, I: Read, O: Write>(
 }
 
 /// The same, with the ledgers of the desk. Where memory for the desk is refused, no line is read.
-fn sign_shared<E: Tally, G: Tally, B: Tally, S: StateStore + Drop, I: Read, O: Write>(
+fn sign_shared<E: Tally, G: Tally, B: Tally, S: StateStore, I: Read, O: Write>(
     rt: &(impl Threads + Wait + Sync),
     alloc: Global,
     book: Book<S>,
@@ -158,12 +160,13 @@ fn sign_shared<E: Tally, G: Tally, B: Tally, S: StateStore + Drop, I: Read, O: W
     );
     match service.into_book().settle(desks) {
         Ok(left) => (answer, left),
+        // All desks have come, so that nothing is let go here.
         Err(_) => unreachable!(),
     }
 }
 
 /// Signs job lines at the only desk of a service, which has counted nothing.
-fn sign_at_desk<E: Tally, G: Tally, B: Tally, S: StateStore + Drop, I: Read, O: Write>(
+fn sign_at_desk<E: Tally, G: Tally, B: Tally, S: StateStore, I: Read, O: Write>(
     rt: &(impl Threads + Wait + Sync),
     alloc: Global,
     service: &SigningService<S, E, G, B>,

@@ -82,7 +82,8 @@ pub(crate) fn write_file<W: World>(world: &mut W, name: &str, bytes: &[u8]) -> R
 
 /// The lock of a state. `StateInUse` where it is not got, `OutOfMemory` where memory for its name was refused.
 pub(crate) fn lock_state<W: World>(alloc: Global, world: &W, state: &str) -> Result<W::Lock, Fault>
-    ensures { IfErr result (λ fault.
+    ensures locked { IfOk result (λ lock. W.is_lock_of lock state.now) }
+    ensures refused { IfErr result (λ fault.
         ((fault ≡ Fault.StateInUse) × (W.known world.now).in_use state.now) ⊎ (fault ≡ Fault.OutOfMemory)) }
 {
     match world.lock(alloc, state) {
@@ -92,27 +93,30 @@ pub(crate) fn lock_state<W: World>(alloc: Global, world: &W, state: &str) -> Res
     }
 }
 
-/// Takes a state out of the world, and opens its book. The caller puts it back, as `world.put_back(state, book.close())`.
+/// Takes the state of a lock out of the world, and opens its book, whose store the caller puts back.
 /// `ReadState`, `BadState` and `OutOfMemory` leave the state where it was.
 pub(crate) fn open_state<W: World>(
     alloc: Global,
     world: &mut W,
-    state: &str,
+    lock: &W::Lock,
 ) -> Result<Book<W::Store>, Fault>
-    ensures opened { IfOk result (λ book. IsAt (W.known world.old) state.now book.key book.base book.openings book.burnt) }
+    ensures opened { IfOk result (λ book. (state : List ℕ) → W.is_lock_of lock.now state
+        → IsAt (W.known world.old) state book.key book.base book.openings book.burnt) }
     ensures counted { IfOk result (λ book. HasImage book.key book.base book.openings book.burnt) }
     ensures fresh { IfOk result (λ book. book.history ≡ []) }
-    ensures taken { IfOk result (λ book. (text : List ℕ)
-        → MayLeave book.store text ↔ (W.known world.old).keeps state.now text) }
-    ensures failed { IfErr result (FailsToOpen (W.known world.old) state.now) }
-    ensures stays { IfErr result (λ _. Stays (W.known world.old) (W.known world.new) state.now) }
+    ensures taken { IfOk result (λ book. (state : List ℕ) → W.is_lock_of lock.now state → (text : List ℕ)
+        → MayLeave book.store text ↔ (W.known world.old).keeps state text) }
+    ensures failed { IfErr result (λ fault. (state : List ℕ) → W.is_lock_of lock.now state
+        → FailsToOpen (W.known world.old) state fault) }
+    ensures stays { IfErr result (λ _. (state : List ℕ) → W.is_lock_of lock.now state
+        → Stays (W.known world.old) (W.known world.new) state) }
     ensures files { SameFiles (W.known world.old) (W.known world.new) }
 {
-    let store = world.take_store(alloc, state)?;
+    let store = world.take_store(alloc, lock)?;
     match Book::open(alloc, store) {
         Ok(book) => Ok(book),
         Err((fault, store)) => {
-            world.put_back(state, store);
+            world.put_back(lock, store);
             Err(Fault::from(fault))
         }
     }

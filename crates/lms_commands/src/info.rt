@@ -1,5 +1,5 @@
 //! `info`: what a key's state says.
-ghost use Rattle.std.specs.Prelude.{◌≡◌, ◌≢◌, IfErr, IfOk, OnOk};
+ghost use Rattle.std.specs.Prelude.{◌≡◌, ◌≢◌, ℕ, List, IfErr, IfOk, OnOk};
 ghost use Rattle.lms_image.specs.Image.{HasImage};
 ghost use Rattle.lms_world.specs.Known.{SameFiles, Stays};
 ghost use Rattle.lms_commands.specs.Signing.{Describes, FailsToDescribe, FailsToOpen, IsAt};
@@ -30,26 +30,28 @@ pub fn describe<W: World, O: Write>(
     ensures files { SameFiles (W.known world.old) (W.known world.new) }
     ensures silent { IfErr result (λ fault. fault ≢ Fault.Output → output.new ≡ output.old) }
 {
-    let _lock = lock_state(alloc, world, state)?;
-    let image = read_state(alloc, world, state)?;
+    let lock = lock_state(alloc, world, state)?;
+    let image = read_state(alloc, world, &lock)?;
     print_info(output, &image).map_err(|_| Fault::Output)
 }
 
-/// The key of a state, and what is counted of it.
-fn read_state<W: World>(alloc: Global, world: &mut W, state: &str) -> Result<Image, Fault>
-    ensures opened { IfOk result (λ image. IsAt (W.known world.old) state.now image.key image.counter image.openings image.burnt) }
-    ensures stays { Stays (W.known world.old) (W.known world.new) state.now }
+/// The key of the state of a lock, and what is counted of it.
+fn read_state<W: World>(alloc: Global, world: &mut W, lock: &W::Lock) -> Result<Image, Fault>
+    ensures opened { IfOk result (λ image. (state : List ℕ) → W.is_lock_of lock.now state
+        → IsAt (W.known world.old) state image.key image.counter image.openings image.burnt) }
+    ensures stays { (state : List ℕ) → W.is_lock_of lock.now state → Stays (W.known world.old) (W.known world.new) state }
     ensures files { SameFiles (W.known world.old) (W.known world.new) }
     ensures counted { IfOk result (λ image. HasImage image.key image.counter image.openings image.burnt) }
-    ensures failed { IfErr result (FailsToOpen (W.known world.old) state.now) }
+    ensures failed { IfErr result (λ fault. (state : List ℕ) → W.is_lock_of lock.now state
+        → FailsToOpen (W.known world.old) state fault) }
 {
-    let book = open_state(alloc, world, state)?;
+    let book = open_state(alloc, world, lock)?;
     let image = Image {
         key: book.key(),
         counter: book.base(),
         openings: book.openings(),
         burnt: book.burnt(),
     };
-    world.put_back(state, book.close());
+    world.put_back(lock, book.close());
     Ok(image)
 }

@@ -73,12 +73,12 @@ pub fn make_key<W: World, O: Write>(
     ensures silent { IfErr result (λ fault. fault ≢ Fault.Output → output.new ≡ output.old) }
     ensures files { SameFilesBut public.now (W.known world.old) (W.known world.new) }
 {
-    let _lock = lock_state(alloc, world, state)?;
+    let lock = lock_state(alloc, world, state)?;
     if world.exists(state) {
         return Err(Fault::StateExists);
     }
     let public_key = key.public_key_watched(rt, alloc, progress)?;
-    store_key(alloc, world, key, state)?;
+    store_key(alloc, world, key, &lock)?;
     publish(world, public, &public_key, key.capacity(), output)
 }
 
@@ -107,16 +107,26 @@ fn publish<W: World, O: Write>(
     }
 }
 
-/// Stores a key's state with no index used. `OutOfMemory`, or `WriteState` where it was not stored for certain.
-fn store_key<W: World>(alloc: Global, world: &mut W, key: HssKey, state: &str) -> Result<(), Fault>
-    ensures stored { OnOk result ((W.known world.new).keeps state.now (image_of key 0 0 0)) }
-    ensures failed { IfErr result (FailsToStore (W.known world.old) (W.known world.new) key state.now) }
+/// Stores a key's state, that of the lock, with no index used. `OutOfMemory`, or `WriteState` where it was not stored for certain.
+fn store_key<W: World>(
+    alloc: Global,
+    world: &mut W,
+    key: HssKey,
+    lock: &W::Lock,
+) -> Result<(), Fault>
+    ensures stored { OnOk result ((state : List ℕ) → W.is_lock_of lock.now state
+        → (W.known world.new).keeps state (image_of key 0 0 0)) }
+    ensures failed { IfErr result (λ fault. (state : List ℕ) → W.is_lock_of lock.now state
+        → FailsToStore (W.known world.old) (W.known world.new) key state fault) }
     ensures files { SameFiles (W.known world.old) (W.known world.new) }
 {
-    let mut store = world.take_store(alloc, state)?;
+    let mut store = world.take_store(alloc, lock)?;
     let stored = store_unused(&mut store, key);
-    world.put_back(state, store);
-    stored.map_err(|_| Fault::WriteState)
+    world.put_back(lock, store);
+    match stored {
+        Ok(()) => Ok(()),
+        Err(_) => Err(Fault::WriteState),
+    }
 }
 
 /// Stores a key's image with no index used. A crash at any moment leaves what it could leave before, or that image.

@@ -89,8 +89,8 @@ pub fn sign_file<W: World, O: Write>(
         c: randomizer,
         message,
     };
-    let _lock = lock_state(alloc, world, state)?;
-    let signed = sign_by_state(rt, alloc, world, state, &job, progress)?;
+    let lock = lock_state(alloc, world, state)?;
+    let signed = sign_by_state(rt, alloc, world, &lock, &job, progress)?;
     deliver(world, out, &signed, output)
 }
 
@@ -130,25 +130,25 @@ fn deliver<W: World, O: Write>(
     }
 }
 
-/// Signs a message with the next index of a state's key.
+/// Signs a message with the next index of the key of a lock's state.
 fn sign_by_state<W: World>(
     rt: &(impl Threads + Sync),
     alloc: Global,
     world: &mut W,
-    state: &str,
+    lock: &W::Lock,
     job: &Job,
     progress: &impl Progress,
 ) -> Result<Signed, Fault>
-    ensures signed { IfOk result (λ signed. SignsNext (W.known world.old)
-        (W.known world.new) state.now job.now.c job.now.message.items
+    ensures signed { IfOk result (λ signed. (state : List ℕ) → W.is_lock_of lock.now state
+        → SignsNext (W.known world.old) (W.known world.new) state job.now.c job.now.message.items
         signed.signature.items signed.index) }
-    ensures failed { IfErr result (FailsToSignNext (W.known world.old)
-        (W.known world.new) state.now) }
+    ensures failed { IfErr result (λ fault. (state : List ℕ) → W.is_lock_of lock.now state
+        → FailsToSignNext (W.known world.old) (W.known world.new) state fault) }
     ensures files { SameFiles (W.known world.old) (W.known world.new) }
 {
-    let mut book = open_state(alloc, world, state)?;
+    let mut book = open_state(alloc, world, lock)?;
     let signed = sign_next(rt, alloc, &mut book, job, progress);
-    world.put_back(state, book.close());
+    world.put_back(lock, book.close());
     match signed {
         Ok(signed) => Ok(signed),
         Err(fault) => Err(Fault::from(fault)),

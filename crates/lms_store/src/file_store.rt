@@ -2,6 +2,7 @@
 ghost use Rattle.std.specs.Prelude.{◌≡◌, IfOk};
 ghost use Rattle.lms_store.specs.FileStores.{fresh, failed};
 
+use crate::locking::StateLock;
 use crate::paths::{OWNER_ONLY, folder_of, resolve, sibling};
 use crate::record::Record;
 use lms_book::{ReadFault, StateStore, StoreFault, Text};
@@ -46,11 +47,29 @@ impl<'a, R: Files> FileStore<'a, R> {
     pub fn new(alloc: Global, files: &'a R, name: &str) -> Result<Self, OutOfMemory>
         ensures { IfOk result (λ store. store ≡ fresh) }
     {
-        let (state, resolved) = match resolve(files, alloc, name) {
-            Ok(path) => (path, true),
-            Err(error) if error.kind() == ErrorKind::OutOfMemory => return Err(OutOfMemory),
-            Err(_) => (String::from_str(alloc, name)?, false),
-        };
+        match resolve(files, alloc, name) {
+            Ok(path) => Self::over(alloc, files, path, true),
+            Err(error) if error.kind() == ErrorKind::OutOfMemory => Err(OutOfMemory),
+            Err(_) => Self::over(alloc, files, String::from_str(alloc, name)?, false),
+        }
+    }
+
+    /// The store in the file that this lock is of: no name is resolved anew. `OutOfMemory` where memory for the paths is refused.
+    pub fn locked(
+        alloc: Global,
+        files: &'a R,
+        lock: &StateLock<R::File>,
+    ) -> Result<Self, OutOfMemory>
+        ensures { IfOk result (λ store. store ≡ fresh) }
+    {
+        let path = String::from_str(alloc, lock.path())?;
+        Self::over(alloc, files, path, true)
+    }
+
+    /// The store in the file of this path, where `resolved`.
+    fn over(alloc: Global, files: &'a R, state: String, resolved: bool) -> Result<Self, OutOfMemory>
+        ensures { IfOk result (λ store. store ≡ fresh) }
+    {
         let draft = sibling(alloc, state.as_str(), ".new")?;
         let folder = String::from_str(alloc, folder_of(state.as_str()))?;
         Ok(FileStore {

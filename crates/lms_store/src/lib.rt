@@ -17,5 +17,5 @@ mod tests;
 mod writes;
 
 pub use crate::file_store::FileStore;
-pub use crate::locking::{TryLock, lock};
+pub use crate::locking::{StateLock, TryLock, lock};
 pub use crate::paths::exists;

@@ -1,5 +1,5 @@
 //! The lock on a store's file.
-ghost use Rattle.std.specs.Prelude.{IfOk, IfSome, IsTrue};
+ghost use Rattle.std.specs.Prelude.{◌≡◌, IfOk, IfSome, IsTrue, string_bytes};
 
 use crate::paths::{OWNER_ONLY, resolve, sibling};
 use lms_params::OutOfMemory;
@@ -27,29 +27,51 @@ impl TryLock for File {
     }
 }
 
-/// Locks the state of this name, without waiting, against other programs that call this, until the returned file is dropped.
+/// The lock on a state's file, held until it is dropped.
+#[derive(Drop)]
+pub struct StateLock<F> {
+    // Where the state's name led to when it was locked.
+    path: String,
+    file: F,
+}
+
+impl<F> StateLock<F> {
+    /// The path of the state's file.
+    pub(crate) fn path(&self) -> &str
+        ensures { result.now ≡ string_bytes self.now.path }
+    {
+        self.path.as_str()
+    }
+}
+
+/// Locks the state of this name, without waiting, against other programs that call this, until what is returned is dropped.
 /// `None` where the lock is not available: another holds it, its file can't be made, or the name can't be resolved.
 /// `OutOfMemory` where memory for its path is refused.
 ///
 /// The locked file is `NAME.lock` beside the state, where NAME is that of the state's file once symbolic links are followed.
 /// It stays there and must not be removed: two programs could then hold a lock each, on the old file and on a new one.
-pub fn lock<R: Files>(files: &R, alloc: Global, name: &str) -> Result<Option<R::File>, OutOfMemory>
+pub fn lock<R: Files>(
+    files: &R,
+    alloc: Global,
+    name: &str,
+) -> Result<Option<StateLock<R::File>>, OutOfMemory>
 where
     R::File: TryLock,
-    ensures { IfOk result (λ locked. IfSome locked R.File.is_locked) }
+    ensures { IfOk result (λ locked. IfSome locked (λ lock. R.File.is_locked lock.file)) }
 {
     let path = match resolve(files, alloc, name) {
-        Ok(path) => sibling(alloc, path.as_str(), ".lock")?,
+        Ok(path) => path,
         Err(error) if error.kind() == ErrorKind::OutOfMemory => return Err(OutOfMemory),
         Err(_) => return Ok(None),
     };
+    let beside = sibling(alloc, path.as_str(), ".lock")?;
     let opened = OpenOptions::new()
         .write(true)
         .create(true)
         .mode(OWNER_ONLY)
-        .open(files, path.as_str());
+        .open(files, beside.as_str());
     match opened {
-        Ok(file) if file.try_lock() => Ok(Some(file)),
+        Ok(file) if file.try_lock() => Ok(Some(StateLock { path, file })),
         _ => Ok(None),
     }
 }

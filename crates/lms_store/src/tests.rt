@@ -209,6 +209,27 @@ fn a_link_is_followed(rt: HostRuntime) -> Result<(), Fail> {
     Ok(())
 }
 
+/// Whether the lock on a state is had by this name, and its store takes a text once the name is gone.
+fn leads_past(rt: &HostRuntime, name: &str, text: &[u8]) -> Result<bool, Fail> {
+    let Some(held) = lock(rt, rt.alloc(), name)? else {
+        return Ok(false);
+    };
+    fs::remove_file(rt, name)?;
+    let mut store = FileStore::locked(rt.alloc(), rt, &held)?;
+    Ok(takes(&mut store, text) && reads(rt, &mut store, text))
+}
+
+/// The store of a lock is where the name led to when it was locked, whatever becomes of the name.
+#[test]
+fn a_lock_leads_to_its_store(rt: HostRuntime) -> Result<(), Fail> {
+    make_link(&rt)?;
+    assert!(rt; leads_past(&rt, "file_store_links/link", b"b")?);
+    assert!(rt; holds(&rt, "file_store_links/real/state", b"b")?);
+    assert!(rt; !exists(&rt, "file_store_links/link"));
+    fs::remove_dir_all(&rt, "file_store_links")?;
+    Ok(())
+}
+
 /// Whether the lock on a state can be had by one name, and while it is held, not by another.
 fn locks_both(rt: &HostRuntime, name: &str, other: &str) -> Result<bool, Fail> {
     let held = lock(rt, rt.alloc(), name)?;

@@ -6,7 +6,7 @@ ghost use Rattle.std.specs.Io.KnownBytes.{Consumes, IsAtEnd};
 use crate::contents::{Contents, Taker};
 use crate::world::{World, WorldFault};
 use lms_params::OutOfMemory;
-use lms_store::{FileStore, TryLock, exists, lock};
+use lms_store::{FileStore, StateLock, TryLock, exists, lock};
 use std::alloc::Global;
 use std::fs::OpenFile;
 use std::io::{ErrorKind, Read};
@@ -35,7 +35,7 @@ impl<'a, R: Files + Sync> World for DiskWorld<'a, R>
 where
     R::File: TryLock,
 {
-    type Lock = R::File;
+    type Lock = StateLock<R::File>;
 
     type Store = FileStore<'a, R>;
 
@@ -44,6 +44,8 @@ where
     ghost use Rattle.lms_world.specs.Known.{nothing_known};
 
     ghost known = { λ _. nothing_known };
+
+    ghost is_lock_of = { λ _ _. Unit {0} };
 
     fn read(&self, alloc: Global, name: &str) -> Result<Vec<u8>, WorldFault> {
         read_whole(self.files, alloc, name).map_err(|error| fault_of(&error))
@@ -64,16 +66,20 @@ where
         exists(self.files, name)
     }
 
-    fn lock(&self, alloc: Global, name: &str) -> Result<Option<R::File>, OutOfMemory> {
+    fn lock(&self, alloc: Global, name: &str) -> Result<Option<StateLock<R::File>>, OutOfMemory> {
         lock(self.files, alloc, name)
     }
 
-    fn take_store(&mut self, alloc: Global, name: &str) -> Result<FileStore<'a, R>, OutOfMemory> {
-        FileStore::new(alloc, self.files, name)
+    fn take_store(
+        &mut self,
+        alloc: Global,
+        lock: &StateLock<R::File>,
+    ) -> Result<FileStore<'a, R>, OutOfMemory> {
+        FileStore::locked(alloc, self.files, lock)
     }
 
     /// The state is in its file already.
-    fn put_back(&mut self, _name: &str, _store: FileStore<'a, R>) {}
+    fn put_back(&mut self, _lock: &StateLock<R::File>, _store: FileStore<'a, R>) {}
 }
 
 /// A file of the disk that was opened to be read.

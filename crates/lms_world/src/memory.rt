@@ -21,7 +21,7 @@ pub struct MemoryWorld {
     in_use: bool,
 }
 
-/// The lock of a state in memory.
+/// The lock of the state in memory, whatever its name.
 #[derive(Drop)]
 pub struct MemoryLock;
 
@@ -114,6 +114,8 @@ impl World for MemoryWorld {
 
     ghost known = { known_in_memory };
 
+    ghost is_lock_of = { λ _ _. Unit {0} };
+
     fn read(&self, alloc: Global, name: &str) -> Result<Vec<u8>, WorldFault> {
         match self.entry(name) {
             Some((_, Ok(bytes))) => {
@@ -153,14 +155,18 @@ impl World for MemoryWorld {
         }
     }
 
-    fn take_store(&mut self, alloc: Global, _name: &str) -> Result<MemoryStore, OutOfMemory> {
+    fn take_store(
+        &mut self,
+        alloc: Global,
+        _lock: &MemoryLock,
+    ) -> Result<MemoryStore, OutOfMemory> {
         match self.state.take() {
             Some(store) => Ok(store),
             None => MemoryStore::new(alloc, None, ROOM),
         }
     }
 
-    fn put_back(&mut self, _name: &str, store: MemoryStore) {
+    fn put_back(&mut self, _lock: &MemoryLock, store: MemoryStore) {
         self.set_state(store);
     }
 }

@@ -1,5 +1,5 @@
 //! What a world of files and states owes.
-ghost use Rattle.std.specs.Prelude.{◌≡◌, ◌↔◌, ℕ, List, None, true, false, IfErr, IfOk, OnOk};
+ghost use Rattle.std.specs.Prelude.{◌≡◌, ◌↔◌, ℕ, List, None, true, false, IfErr, IfOk, IfSome, OnOk};
 ghost use Rattle.lms_book.specs.Stops.{MayLeave};
 ghost use Rattle.lms_world.specs.Known.{Exists, Given, Known, SameFiles, SameFilesBut, Stays};
 
@@ -25,14 +25,17 @@ pub trait World {
     /// Keeps other programs from a state for as long as it is held.
     type Lock: Drop;
 
-    /// What keeps a state.
-    type Store: StateStore + Drop;
+    /// What keeps a state. It can't be let go: who takes it has to put it back.
+    type Store: StateStore;
 
     /// A file that was opened to be read.
     type Contents: Contents + Drop;
 
     // What is known of the files and the states.
     ghost known: { Self → Known };
+
+    // A lock is that of the state of a name.
+    ghost is_lock_of: { Self.Lock → List ℕ → Type 0 };
 
     /// The bytes of a file.
     ///
@@ -70,21 +73,26 @@ pub trait World {
     /// Locks the state of this name, without waiting. `None` where the lock is not available, `OutOfMemory` where memory for
     /// it was refused.
     fn lock(&self, alloc: Global, name: &str) -> Result<Option<Self::Lock>, OutOfMemory>
-        ensures { IfOk result (λ lock. lock ≡ None → (known self.now).in_use name.now) };
+        ensures used { IfOk result (λ found. found ≡ None → (known self.now).in_use name.now) }
+        ensures locked { IfOk result (λ found. IfSome found (λ lock. is_lock_of lock name.now)) };
 
-    /// Takes out what keeps the state of this name. Where there is no such state, its reads fail. No file is changed.
+    /// Takes out what keeps the state of the lock. Where there is no such state, its reads fail. No file is changed.
     ///
     /// `OutOfMemory` where memory for it was refused.
-    fn take_store(&mut self, alloc: Global, name: &str) -> Result<Self::Store, OutOfMemory>
-        ensures taken { IfOk result (λ store. (text : List ℕ)
-            → MayLeave (Self.Store.seen store) text ↔ (known self.old).keeps name.now text) }
-        ensures fails { IfOk result (λ store. Self.Store.may_fail store → (known self.old).fails name.now) }
-        ensures stays { IfErr result (λ _. Stays (known self.old) (known self.new) name.now) }
+    fn take_store(&mut self, alloc: Global, lock: &Self::Lock) -> Result<Self::Store, OutOfMemory>
+        ensures taken { IfOk result (λ store. (state : List ℕ) → is_lock_of lock.now state → (text : List ℕ)
+            → MayLeave (Self.Store.seen store) text ↔ (known self.old).keeps state text) }
+        ensures fails { IfOk result (λ store. (state : List ℕ) → is_lock_of lock.now state
+            → Self.Store.may_fail store → (known self.old).fails state) }
+        ensures stays { IfErr result (λ _. (state : List ℕ) → is_lock_of lock.now state
+            → Stays (known self.old) (known self.new) state) }
         ensures files { SameFiles (known self.old) (known self.new) };
 
-    /// Puts it back: the state of this name is what it keeps. No file is changed.
-    fn put_back(&mut self, name: &str, store: Self::Store)
-        ensures kept { (text : List ℕ) → MayLeave (Self.Store.seen store) text → (known self.new).keeps name.now text }
-        ensures only { (text : List ℕ) → (known self.new).holds name.now text → MayLeave (Self.Store.seen store) text }
+    /// Puts it back: the state of the lock is what it keeps. No file is changed.
+    fn put_back(&mut self, lock: &Self::Lock, store: Self::Store)
+        ensures kept { (state : List ℕ) → is_lock_of lock.now state → (text : List ℕ)
+            → MayLeave (Self.Store.seen store) text → (known self.new).keeps state text }
+        ensures only { (state : List ℕ) → is_lock_of lock.now state → (text : List ℕ)
+            → (known self.new).holds state text → MayLeave (Self.Store.seen store) text }
         ensures files { SameFiles (known self.old) (known self.new) };
 }

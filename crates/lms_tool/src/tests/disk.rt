@@ -357,12 +357,12 @@ fn signs_within(
     Ok(end_of(rt, &SIGN, &mut world)?.status == 0)
 }
 
-/// How many operations on files a `sign` takes: four read the message, three lock the state, four read it, seven replace
+/// How many operations on files a `sign` takes: four read the message, three lock the state, three read it, seven replace
 /// it, and two write the signature.
-const OPERATIONS: usize = 20;
+const OPERATIONS: usize = 19;
 
 /// After how many of them the state is replaced.
-const PLACED: usize = 17;
+const PLACED: usize = 16;
 
 /// Whether a `sign` in which the program stops after `k` operations is done only where none is left, and writes its
 /// signature only where the state is replaced.

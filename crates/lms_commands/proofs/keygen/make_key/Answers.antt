@@ -17,7 +17,7 @@ returns-clause-made g c =
     both_ok c.publish.result _ _ _
     (λ given printed. record {
       fresh = c.exists.ensures.missing c.if-exists.false;
-      stored = (c.publish.ensures.states c.args.state.now).kept _ c.in_ok-store_key.ensures.stored;
+      stored = (c.publish.ensures.states c.args.state.now).kept _ (c.in_ok-store_key.ensures.stored _ c.in_ok-lock.ensures.locked);
       published = subst (λ (bytes : List ℕ). new.gives c.args.public.now bytes) c.in_ok-public_key.ensures given;
       printed = subst (λ (n : ℕ). Appends before after (number_line (codes "capacity") n)) c.capacity.ensures.capacity printed;
     })
@@ -34,4 +34,4 @@ returns-clause-failed g c =
     c.in_ok-public_key.ensures c.publish.ensures.failed in
     IfErr-weaker c.publish.result _ _
     (not_published old stored new c.args.key c.args.state.now c.args.public.now before after (c.exists.ensures.missing c.if-exists.false)
-    c.in_ok-store_key.ensures.stored (c.publish.ensures.states c.args.state.now)) failed
+    (c.in_ok-store_key.ensures.stored _ c.in_ok-lock.ensures.locked) (c.publish.ensures.states c.args.state.now)) failed

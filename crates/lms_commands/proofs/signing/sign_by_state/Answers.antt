@@ -10,8 +10,9 @@ returns-in-Ok-clause-signed g c =
     let opened = c.in_ok-book.ensures in
     let book = c.in_ok-book.book in
     let is = c.in-Ok.ensures in
-    next_signed old new c.args.state.now book c.sign_next-signed.new.book _ opened.counted opened.opened (fresh book opened.fresh) c.close.ensures.store
-    opened.taken c.put_back.ensures.kept c.put_back.ensures.only _ _ _ _ is.reserved is.index is.signature is.accepted
+    λ state locked.
+    next_signed old new state book c.sign_next-signed.new.book _ opened.counted (opened.opened state locked) (fresh book opened.fresh) c.close.ensures.store
+    (opened.taken state locked) (c.put_back.ensures.kept state locked) (c.put_back.ensures.only state locked) _ _ _ _ is.reserved is.index is.signature is.accepted
 
 pub returns-in-Err-clause-failed : goal.returns-in-Err-clause-failed
 returns-in-Err-clause-failed g c =
@@ -19,6 +20,7 @@ returns-in-Err-clause-failed g c =
     let new = g.W.World.known c.put_back.new.self in
     let opened = c.in_ok-book.ensures in
     let book = c.in_ok-book.book in
-    subst (FailsToSignNext old new c.args.state.now) (sym c.from.ensures)
-    (next_failed old new c.args.state.now book c.sign_next-signed.new.book _ opened.counted opened.opened (fresh book opened.fresh) c.close.ensures.store
-    opened.taken c.put_back.ensures.kept c.put_back.ensures.only c.in-Err.fault c.in-Err.ensures.failed)
+    λ state locked.
+    subst (FailsToSignNext old new state) (sym c.from.ensures)
+    (next_failed old new state book c.sign_next-signed.new.book _ opened.counted (opened.opened state locked) (fresh book opened.fresh) c.close.ensures.store
+    (opened.taken state locked) (c.put_back.ensures.kept state locked) (c.put_back.ensures.only state locked) c.in-Err.fault c.in-Err.ensures.failed)

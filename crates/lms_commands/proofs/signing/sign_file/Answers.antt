@@ -20,7 +20,7 @@ returns-clause-signed g c =
         index = signed.index;
         randomizer_read = c.in_ok-randomizer.ensures.read;
         text_given = given;
-        signed = signed_still old mid new c.args.state.now randomizer text signed.signature.items signed.index c.in_ok-signed.ensures.signed (c.deliver.ensures.states c.args.state.now);
+        signed = signed_still old mid new c.args.state.now randomizer text signed.signature.items signed.index (c.in_ok-signed.ensures.signed _ c.in_ok-lock.ensures.locked) (c.deliver.ensures.states c.args.state.now);
       };
       signature_given = written;
       printed = printed;
@@ -39,7 +39,7 @@ returns-clause-failed g c =
     IfErr-weaker c.deliver.result _ _
     (not_delivered old new c.args.state.now c.args.random.now c.args.message.now c.args.out.now (g.O.Write.contents c.args.output.now) (g.O.Write.contents c.deliver.new.output)
     randomizer text signed.signature.items signed.index c.in_ok-randomizer.ensures.read given
-    (signed_still old mid new c.args.state.now randomizer text signed.signature.items signed.index c.in_ok-signed.ensures.signed (c.deliver.ensures.states c.args.state.now)))
+    (signed_still old mid new c.args.state.now randomizer text signed.signature.items signed.index (c.in_ok-signed.ensures.signed _ c.in_ok-lock.ensures.locked) (c.deliver.ensures.states c.args.state.now)))
     c.deliver.ensures.failed
 
 pub returns-clause-silent : goal.returns-clause-silent
