@@ -16,8 +16,8 @@ use Rattle.lms_lines.specs.declared.signing.LinesFault.{LinesFault}
 use Rattle.lms_lines.specs.declared.signing.LinesFault.TheVariants as lines
 use Rattle.lms_commands.specs.declared.fault.Fault.{Fault}
 use Rattle.lms_commands.specs.declared.fault.Fault.TheVariants.{BadLevels, TooManyLevels, TooTall, BadSeed, BadId, BadRandom, BadWorkers, BadJob, TooManyJobs, StateExists, StateInUse, ReadState, BadState, WriteState, WriteStateBurnt, Exhausted, OutOfMemory, OutOfMemoryBurnt, Partial, Input, Output}
-use Rattle.lms_commands.specs.declared.options.LevelsTextFault.{LevelsTextFault}
-use Rattle.lms_commands.specs.declared.options.LevelsTextFault.TheVariants as unread
+use Rattle.lms_commands.specs.declared.levels_fault.LevelsTextFault.{LevelsTextFault}
+use Rattle.lms_commands.specs.declared.levels_fault.LevelsTextFault.TheVariants as unread
 use Rattle.lms_commands.specs.declared.signing.SignFault.{SignFault}
 use Rattle.lms_commands.specs.declared.signing.SignFault.TheVariants as signing
 use Rattle.lms_commands.specs.declared.status.Status.{Status}

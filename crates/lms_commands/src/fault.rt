@@ -3,8 +3,8 @@ ghost use Rattle.std.specs.Prelude.{◌≡◌, OnOk, Some};
 ghost use Rattle.std.specs.Io.KnownBytes.{Appends};
 ghost use Rattle.lms_commands.specs.Faults.{fault_line, of_book, of_key, of_opening, of_text, status_of, text_of};
 
+use crate::levels_fault::LevelsTextFault;
 use crate::line::print_line;
-use crate::options::LevelsTextFault;
 use crate::status::Status;
 use lms_batch::BatchFault;
 use lms_book::{BookFault, OpenFault};
@@ -97,7 +97,7 @@ impl fmt::Display for Fault {
 
     fn fmt<W: fmt::Write>(&self, f: &mut fmt::Formatter<W>) -> fmt::Result {
         match *self {
-            Fault::BadLevels => f.write_str("bad levels"),
+            Fault::BadLevels => write!(f, "{}", LevelsTextFault::Bad),
             Fault::TooManyLevels => f.write_str("too many levels"),
             Fault::TooTall => f.write_str("too tall"),
             Fault::BadSeed => f.write_str("bad seed"),

@@ -1,48 +1,15 @@
 //! The texts of options read.
-ghost use Rattle.std.specs.Prelude.{◌≡◌, ◌≢◌, ℕ, List, IfErr, IfNone, IfOk, IfSome, Ok, Some, length};
+ghost use Rattle.std.specs.Prelude.{◌≡◌, ◌≢◌, ℕ, List, IfErr, IfNone, IfOk, IfSome, Ok, length};
 ghost use Rattle.hex.specs.Hex.{decode_of};
 ghost use Rattle.lms_params.specs.declared.lms_type.LmsType.{LmsType as LmsKind};
 ghost use Rattle.lms_params.specs.declared.ots_type.OtsType.{OtsType as OtsKind};
-ghost use Rattle.lms_commands.specs.Faults.{of_text, text_of};
 ghost use Rattle.lms_hss.specs.Texts.{height_text, pair_text, width_text};
 ghost use Rattle.lms_commands.specs.Options.{AreWorkers, IsLevelsText, IsWorkers};
 
-use crate::fault::Fault;
+use crate::levels_fault::LevelsTextFault;
 use hex::FromHex;
 use lms_params::{LmsType, OtsType};
 use std::alloc::{AllocError, Global};
-use std::error::Error;
-use std::fmt;
-
-/// Why no levels were read.
-#[derive(Clone, Copy, Debug, PartialEq, Eq)]
-pub enum LevelsTextFault {
-    /// The text is not that of levels.
-    Bad,
-    /// Memory for them ran out.
-    OutOfMemory,
-}
-
-impl fmt::Display for LevelsTextFault {
-    ghost output = { λ fault. Some (text_of (of_text fault)) };
-
-    fn fmt<W: fmt::Write>(&self, f: &mut fmt::Formatter<W>) -> fmt::Result {
-        write!(f, "{}", Fault::from(*self))
-    }
-}
-
-impl Error for LevelsTextFault {}
-
-impl From<AllocError> for LevelsTextFault {
-    ghost use Rattle.std.specs.Prelude.{◌≡◌};
-    ghost use Rattle.lms_commands.specs.declared.options.LevelsTextFault.TheVariants.{OutOfMemory};
-
-    ghost from_gives = { λ _ fault. fault ≡ OutOfMemory };
-
-    fn from(_: AllocError) -> Self {
-        LevelsTextFault::OutOfMemory
-    }
-}
 
 /// The levels of a text such as `10/8,5/4`, from the top: the height of each and its Winternitz width, with a comma
 /// between each two. `Bad` only where the text is no such list, `OutOfMemory` where memory ran out first.
