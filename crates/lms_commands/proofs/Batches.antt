@@ -31,7 +31,7 @@ use Rattle.lms_commands.specs.Faults.{of_lines}
 use Rattle.lms_commands.specs.declared.fault.Fault.{Fault}
 use Rattle.lms_world.specs.Known.{IsOldOr, Known, Stays, Text}
 use Rattle.lms_commands.specs.SharedBooks.{IsDoneBy, IsRefusedBy, at_one_desk}
-use Rattle.lms_commands.specs.Signing.{BurnsIndices, IsAt, LacksIndices, Opens, UsesIndices}
+use Rattle.lms_commands.specs.Signing.{BurnsIndices, MayBeImageOf, LacksIndices, Opens, UsesIndices}
 use Rattle.lms_commands.proofs.Signings.{IsFresh, image_is}
 
 same_sums : (a b : Sums) → a.entries ≡ b.entries → a.received ≡ b.received → a.burnt ≡ b.burnt → a ≡ b
@@ -107,9 +107,9 @@ refused_so start n fault could = let found = finds_start start n (Err (unsigned.
 
 module _ (old new : Known) (state : Text) (start left : BookState) (store : StoreView)
     (counted : HasImage start.key start.base start.openings start.burnt)
-    (opened : IsAt old state start.key start.base start.openings start.burnt) (is_fresh : IsFresh start) (view : store ≡ left.store)
-    (taken : (text : List ℕ) → MayLeave start.store text ↔ old.keeps state text)
-    (kept : (text : List ℕ) → MayLeave store text → new.keeps state text)
+    (opened : MayBeImageOf old state start.key start.base start.openings start.burnt) (is_fresh : IsFresh start) (view : store ≡ left.store)
+    (taken : (text : List ℕ) → MayLeave start.store text ↔ old.may_hold state text)
+    (kept : (text : List ℕ) → MayLeave store text → new.may_hold state text)
     (only : (text : List ℕ) → new.holds state text → MayLeave store text) where
   -- where no index was reserved, the state stays
   stays : IsSettled start (sums 0 0 0) left → Stays old new state

@@ -14,7 +14,7 @@ use Rattle.lms_commands.specs.declared.fault.Fault.TheVariants.{OutOfMemory, Out
 
 -- nothing changed
 pub stays_same : (at : Known) (state : Text) → Stays at at state
-stays_same at state = record { kept = λ text keeps. keeps; only = at.may_be state }
+stays_same at state = record { kept = λ text keeps. keeps; only = at.held_is_possible state }
 
 -- two facts of what is done make a third
 pub both_ok : {T E : Type 0} (result : Result T E) (P Q R : Type 0) → (P → Q → R) → OnOk result P → OnOk result Q → OnOk result R
@@ -22,8 +22,8 @@ both_ok (Ok x) P Q R more p q = more p q
 both_ok (Err e) P Q R more p q = tt
 
 -- a new key's state was stored, and its public key or capacity was not published
-pub not_published : (old mid new : Known) (key : KeyOfCode) (state public : Text) (before after : Option (List ℕ)) → old.lacks state
-    → mid.keeps state (image_of key 0 0 0) → Stays mid new state → (fault : Fault)
+pub not_published : (old mid new : Known) (key : KeyOfCode) (state public : Text) (before after : Option (List ℕ)) → old.may_lack state
+    → mid.may_hold state (image_of key 0 0 0) → Stays mid new state → (fault : Fault)
     → (fault ≡ OutOfMemory) ⊎ ((fault ≡ Output) × IsPrintedLast new public (hss_public_key (hss_key_of key)) before after)
     → FailsToMakeKey old new key state public before after fault
 not_published old mid new key state public before after lacks stored stays fault (inl is) =
@@ -50,7 +50,7 @@ signed_still old mid new state random message signature index is stays = record 
 
 -- the signature was not written, or the index not printed
 pub not_delivered : (old new : Known) (state random message out : Text) (before after : Option (List ℕ)) (randomizer text signature : List ℕ) (index : ℕ)
-    → (length randomizer ≡ 32) × (decode_of random ≡ Ok randomizer) → old.gives message text → SignsNext old new state randomizer text signature index → (fault : Fault)
+    → (length randomizer ≡ 32) × (decode_of random ≡ Ok randomizer) → old.may_give message text → SignsNext old new state randomizer text signature index → (fault : Fault)
     → (fault ≡ Output) × IsPrintedLast new out signature before after → FailsToSign old new state random message out before after fault
 not_delivered old new state random message out before after randomizer text signature index read given signed fault (is, last) =
     subst (FailsToSign old new state random message out before after) (sym is) (record {

@@ -14,7 +14,7 @@ use Rattle.lms_book.specs.Books.{burnt_now, counter, next_image}
 use Rattle.lms_book.proofs.Leaving.{leaves_failed, only_has}
 use Rattle.lms_commands.specs.Faults.{of_signing}
 use Rattle.lms_world.specs.Known.{IsOldOr, Known, Stays, Text}
-use Rattle.lms_commands.specs.Signing.{FailsToSignNext, GivesOne, IsAt, SignsNext, SignsNothing, UsesIndices}
+use Rattle.lms_commands.specs.Signing.{FailsToSignNext, GivesOne, MayBeImageOf, SignsNext, SignsNothing, UsesIndices}
 use Rattle.lms_commands.specs.declared.signing.SignFault.{SignFault}
 use Rattle.lms_commands.specs.declared.signing.SignFault.TheVariants as unsigned
 
@@ -35,9 +35,9 @@ image_is n book is = ap₂ (λ (at lost : ℕ). image_of book.key (at + n) (book
 
 module _ (old new : Known) (state : Text) (before after : BookState) (store : StoreView)
     (counted : HasImage before.key before.base before.openings before.burnt)
-    (opened : IsAt old state before.key before.base before.openings before.burnt) (is_fresh : IsFresh before) (view : store ≡ after.store)
-    (taken : (text : List ℕ) → MayLeave before.store text ↔ old.keeps state text)
-    (kept : (text : List ℕ) → MayLeave store text → new.keeps state text)
+    (opened : MayBeImageOf old state before.key before.base before.openings before.burnt) (is_fresh : IsFresh before) (view : store ≡ after.store)
+    (taken : (text : List ℕ) → MayLeave before.store text ↔ old.may_hold state text)
+    (kept : (text : List ℕ) → MayLeave store text → new.may_hold state text)
     (only : (text : List ℕ) → new.holds state text → MayLeave store text) where
   -- where the book stays, the state does
   stays_with : after ≡ before → Stays old new state
@@ -79,7 +79,7 @@ module _ (old new : Known) (state : Text) (before after : BookState) (store : St
           before.burnt,
           subst (λ (n : ℕ). HasImage before.key n before.openings before.burnt) from counted,
           omega (arith, room, from, is_fresh.used),
-          subst (λ (n : ℕ). IsAt old state before.key n before.openings before.burnt) from opened,
+          subst (λ (n : ℕ). MayBeImageOf old state before.key n before.openings before.burnt) from opened,
           subst Burns from left,
         ),
         l,

@@ -10,7 +10,7 @@ use Rattle.lms_lines.specs.JobsTexts.{HasTooManyJobs, IsFirstBadLine, ReadsJobs}
 use Rattle.lms_lines.specs.SignedLines.{signatures_in}
 use Rattle.lms_world.specs.Known.{Known, Stays, Text}
 use Rattle.lms_commands.specs.Options.{AreWorkers}
-use Rattle.lms_commands.specs.Signing.{BurnsIndices, IsBadState, LacksIndices, Opens, UsesIndices}
+use Rattle.lms_commands.specs.Signing.{BurnsIndices, LacksIndices, MayBeBadState, Opens, UsesIndices}
 use Rattle.lms_commands.specs.declared.fault.Fault.{Fault}
 use Rattle.lms_commands.specs.declared.fault.Fault.TheVariants.{BadWorkers, BadJob, TooManyJobs, StateInUse, ReadState, BadState, WriteStateBurnt, Exhausted, OutOfMemory, OutOfMemoryBurnt, Input, Output, Partial}
 
@@ -63,9 +63,9 @@ IsUnread before after = after.input ≡ before.input
 
 -- why not all jobs were signed, or their lines not printed, and what of the state is used: no input is read before the state is open
 abbrev pub FailsToSignJobs : Known → Known → Text → Streams → Streams → Fault → Type 0
-FailsToSignJobs old new state before after StateInUse = old.in_use state × IsUnread before after × Stays old new state
-FailsToSignJobs old new state before after ReadState = old.fails state × IsUnread before after × Stays old new state
-FailsToSignJobs old new state before after (BadState fault) = IsBadState old state (BadState fault) × IsUnread before after × Stays old new state
+FailsToSignJobs old new state before after StateInUse = old.may_be_in_use state × IsUnread before after × Stays old new state
+FailsToSignJobs old new state before after ReadState = old.may_fail state × IsUnread before after × Stays old new state
+FailsToSignJobs old new state before after (BadState fault) = MayBeBadState old state fault × IsUnread before after × Stays old new state
 FailsToSignJobs old new state before after Input = Opens old state × Stays old new state
 FailsToSignJobs old new state before after (BadJob line) = Opens old state × IfSome before.input (λ text. IsFirstBadLine text line) × Stays old new state
 FailsToSignJobs old new state before after TooManyJobs = Opens old state × IfSome before.input HasTooManyJobs × Stays old new state

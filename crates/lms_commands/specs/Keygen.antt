@@ -13,7 +13,7 @@ use Rattle.lms_hss.specs.declared.levels.KeyFault.{KeyFault}
 use Rattle.lms_hss.specs.declared.levels.KeyFault.TheVariants as refused
 use Rattle.lms_image.specs.Image.{image_of}
 use Rattle.lms_commands.specs.Descriptions.{number_line}
-use Rattle.lms_world.specs.Known.{Exists, IsOldOr, IsPrintedLast, Known, Stays, Text}
+use Rattle.lms_world.specs.Known.{IsOldOr, IsPrintedLast, Known, MayExist, Stays, Text}
 use Rattle.lms_commands.specs.Options.{IsLevelsText}
 use Rattle.lms_commands.specs.declared.fault.Fault.{Fault}
 use Rattle.lms_commands.specs.declared.fault.Fault.TheVariants.{BadLevels, TooManyLevels, TooTall, BadSeed, BadId, StateExists, StateInUse, WriteState, OutOfMemory, Output}
@@ -55,9 +55,9 @@ IsNoKey levels seed id _ = ⊥
 
 -- there was no state, and now there is that of this key with nothing counted; its public key is in a file, and its capacity is printed
 pub record MakesKey (old new : Known) (key : KeyOfCode) (state public : Text) (before after : Option (List ℕ)) : Type 0 where
-  pub fresh : old.lacks state
-  pub stored : new.keeps state (image_of key 0 0 0)
-  pub published : new.gives public (hss_public_key (hss_key_of key))
+  pub fresh : old.may_lack state
+  pub stored : new.may_hold state (image_of key 0 0 0)
+  pub published : new.may_give public (hss_public_key (hss_key_of key))
   pub printed : Appends before after (number_line (codes "capacity") (capacity_of (hss_key_of key)))
 
 -- why a new key's state was not stored; where the write failed, the state is what it was, or that of the key with no index used
@@ -68,15 +68,15 @@ FailsToStore old new key state _ = ⊥
 
 -- there was no state, and now there is that of this key with no index used
 abbrev pub IsNewKey : Known → Known → KeyOfCode → Text → Type 0
-IsNewKey old new key state = old.lacks state × new.keeps state (image_of key 0 0 0)
+IsNewKey old new key state = old.may_lack state × new.may_hold state (image_of key 0 0 0)
 
 -- why no key was made, in the order in which it is found; memory may run out before the state is stored, and while the public key is
 -- written. Where the output failed, nothing is printed before the file has the public key.
 abbrev pub FailsToMakeKey : Known → Known → KeyOfCode → Text → Text → Option (List ℕ) → Option (List ℕ) → Fault → Type 0
-FailsToMakeKey old new key state public before after StateInUse = old.in_use state × Stays old new state
-FailsToMakeKey old new key state public before after StateExists = Exists old state × Stays old new state
+FailsToMakeKey old new key state public before after StateInUse = old.may_be_in_use state × Stays old new state
+FailsToMakeKey old new key state public before after StateExists = MayExist old state × Stays old new state
 FailsToMakeKey old new key state public before after OutOfMemory = Stays old new state ⊎ IsNewKey old new key state
-FailsToMakeKey old new key state public before after WriteState = old.lacks state × IsOldOr (image_of key 0 0 0) old new state
+FailsToMakeKey old new key state public before after WriteState = old.may_lack state × IsOldOr (image_of key 0 0 0) old new state
 FailsToMakeKey old new key state public before after Output =
     IsNewKey old new key state × IsPrintedLast new public (hss_public_key (hss_key_of key)) before after
 FailsToMakeKey old new key state public before after _ = ⊥

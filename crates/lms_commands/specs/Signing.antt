@@ -8,12 +8,13 @@ use Rattle.lms_hss.specs.Keys.{hss_key_of}
 use Rattle.lms_hss.specs.declared.key.HssKey.{HssKey as KeyOfCode}
 use Rattle.lms_book.specs.Books.{Reserves, capacity, counter, next_image}
 use Rattle.lms_image.specs.Image.{fault_of, image_of, IsImage, HasImage}
+use Rattle.lms_image.specs.declared.image.ImageFault.{ImageFault}
 use Rattle.lms_book.specs.States.{BookState}
 use Rattle.lms_book.specs.Stops.{after_write}
 use Rattle.lms_book.specs.declared.history.Entry.TheVariants.{Given as Gave}
 use Rattle.lms_commands.specs.Descriptions.{info_text, number_line}
 use Rattle.lms_commands.specs.Keygen.{IsHexOf}
-use Rattle.lms_world.specs.Known.{Given, IsOldOr, IsPrintedLast, Known, Stays, Text}
+use Rattle.lms_world.specs.Known.{IsOldOr, IsPrintedLast, Known, MayBeRead, Stays, Text}
 use Rattle.lms_commands.specs.declared.fault.Fault.{Fault}
 use Rattle.lms_commands.specs.declared.fault.Fault.TheVariants.{BadRandom, StateInUse, ReadState, BadState, WriteStateBurnt, Exhausted, OutOfMemory, OutOfMemoryBurnt, Input, Output}
 use Rattle.lms_commands.specs.declared.signing.SignFault.{SignFault}
@@ -32,13 +33,13 @@ SignsNothing old (unsigned.Book fault) new = Reserves 1 old (Err fault) new
 SignsNothing old unsigned.OutOfMemory new = GivesOne old new
 
 -- the state of the name may be an image of this key and these numbers, of either version
-abbrev pub IsAt : Known → Text → KeyOfCode → ℕ → ℕ → ℕ → Type 0
-IsAt at state key used openings burnt = (text : List ℕ) × at.keeps state text × IsImage text key used openings burnt
+abbrev pub MayBeImageOf : Known → Text → KeyOfCode → ℕ → ℕ → ℕ → Type 0
+MayBeImageOf at state key used openings burnt = (text : List ℕ) × at.may_hold state text × IsImage text key used openings burnt
 
 -- the state counts n indices more, and its opening; where there are none, it stays
 abbrev pub Stores : ℕ → Known → Known → Text → KeyOfCode → ℕ → ℕ → ℕ → Type 0
 Stores zero old new state key index openings burnt = Stays old new state
-Stores (suc n) old new state key index openings burnt = new.keeps state (image_of key (index + suc n) (openings + 1) burnt)
+Stores (suc n) old new state key index openings burnt = new.may_hold state (image_of key (index + suc n) (openings + 1) burnt)
 
 -- n indices of the state's key are used, from this one on, and where there are some the opening of the state is counted
 pub record UsesIndices (n : ℕ) (old new : Known) (state : Text) (key : KeyOfCode) (index : ℕ) : Type 0 where
@@ -46,7 +47,7 @@ pub record UsesIndices (n : ℕ) (old new : Known) (state : Text) (key : KeyOfCo
   pub burnt : ℕ
   pub counted : HasImage key index openings burnt
   pub within : index + n ≤ capacity_of (hss_key_of key)
-  pub opened : IsAt old state key index openings burnt
+  pub opened : MayBeImageOf old state key index openings burnt
   pub stored : Stores n old new state key index openings burnt
 
 -- a signature is the one that the next index of the state's key makes, and is accepted
@@ -56,33 +57,32 @@ pub record SignsNext (old new : Known) (state : Text) (random message signature 
   pub signature_is : signature ≡ hss_signature (hss_key_of key) index random message
   pub accepted : HssAccepts (hss_public_key (hss_key_of key)) message signature
 
--- the name is that of a state with this fault
-abbrev pub IsBadState : Known → Text → Fault → Type 0
-IsBadState at state (BadState fault) = (text : List ℕ) × at.keeps state text × (fault_of text ≡ Some fault)
-IsBadState at state _ = ⊥
+-- the name may be that of a state which is no image, by this fault
+abbrev pub MayBeBadState : Known → Text → ImageFault → Type 0
+MayBeBadState at state fault = (text : List ℕ) × at.may_hold state text × (fault_of text ≡ Some fault)
 
 -- why a state was not opened; memory may run out at any state
 abbrev pub FailsToOpen : Known → Text → Fault → Type 0
-FailsToOpen at state ReadState = at.fails state
-FailsToOpen at state (BadState fault) = IsBadState at state (BadState fault)
+FailsToOpen at state ReadState = at.may_fail state
+FailsToOpen at state (BadState fault) = MayBeBadState at state fault
 FailsToOpen at state OutOfMemory = Unit {0}
 FailsToOpen at state _ = ⊥
 
 -- the state's key has fewer than n indices left, namely so many
 abbrev pub LacksIndices : ℕ → Known → Text → ℕ → Type 0
 LacksIndices n at state left = (key : KeyOfCode) × (index openings burnt : ℕ) × HasImage key index openings burnt
-    × (capacity_of (hss_key_of key) < index + n) × (left ≡ capacity_of (hss_key_of key) - index) × IsAt at state key index openings burnt
+    × (capacity_of (hss_key_of key) < index + n) × (left ≡ capacity_of (hss_key_of key) - index) × MayBeImageOf at state key index openings burnt
 
 -- n indices from this one on could not be stored as used: the state is what it was, or counts them and its opening
 abbrev pub BurnsIndices : ℕ → Known → Known → Text → ℕ → Type 0
 BurnsIndices n old new state index =
     (key : KeyOfCode) × (openings burnt : ℕ) × HasImage key index openings burnt × (index + n ≤ capacity_of (hss_key_of key))
-    × IsAt old state key index openings burnt × IsOldOr (image_of key (index + n) (openings + 1) burnt) old new state
+    × MayBeImageOf old state key index openings burnt × IsOldOr (image_of key (index + n) (openings + 1) burnt) old new state
 
 -- why nothing was signed, and which indices are used
 abbrev pub FailsToSignNext : Known → Known → Text → Fault → Type 0
-FailsToSignNext old new state ReadState = old.fails state × Stays old new state
-FailsToSignNext old new state (BadState fault) = IsBadState old state (BadState fault) × Stays old new state
+FailsToSignNext old new state ReadState = old.may_fail state × Stays old new state
+FailsToSignNext old new state (BadState fault) = MayBeBadState old state fault × Stays old new state
 FailsToSignNext old new state OutOfMemory = Stays old new state
 FailsToSignNext old new state (Exhausted left) = LacksIndices 1 old state left × Stays old new state
 FailsToSignNext old new state (WriteStateBurnt start len) = BurnsIndices 1 old new state start × (len ≡ 1)
@@ -90,10 +90,10 @@ FailsToSignNext old new state (OutOfMemoryBurnt count) =
     (key : KeyOfCode) × (index : ℕ) × UsesIndices 1 old new state key index × (count ≡ 1)
 FailsToSignNext old new state _ = ⊥
 
--- the state was opened: it is that of a key, with these numbers
+-- the state was opened: it may be that of a key, with some numbers
 abbrev pub Opens : Known → Text → Type 0
 Opens at state =
-    (key : KeyOfCode) × (used openings burnt : ℕ) × HasImage key used openings burnt × IsAt at state key used openings burnt
+    (key : KeyOfCode) × (used openings burnt : ℕ) × HasImage key used openings burnt × MayBeImageOf at state key used openings burnt
 
 -- the six lines of the state's key are printed
 pub record Describes (at : Known) (state : Text) (before after : Option (List ℕ)) : Type 0 where
@@ -102,15 +102,15 @@ pub record Describes (at : Known) (state : Text) (before after : Option (List �
   pub openings : ℕ
   pub burnt : ℕ
   pub counted : HasImage key used openings burnt
-  pub opened : IsAt at state key used openings burnt
+  pub opened : MayBeImageOf at state key used openings burnt
   pub printed : Appends before after (info_text key used openings burnt)
 
 -- why no key was described; memory may run out at any state
 abbrev pub FailsToDescribe : Known → Text → Fault → Type 0
-FailsToDescribe at state StateInUse = at.in_use state
+FailsToDescribe at state StateInUse = at.may_be_in_use state
 FailsToDescribe at state Output = Opens at state
-FailsToDescribe at state ReadState = at.fails state
-FailsToDescribe at state (BadState fault) = IsBadState at state (BadState fault)
+FailsToDescribe at state ReadState = at.may_fail state
+FailsToDescribe at state (BadState fault) = MayBeBadState at state fault
 FailsToDescribe at state OutOfMemory = Unit {0}
 FailsToDescribe at state _ = ⊥
 
@@ -121,13 +121,13 @@ pub record SignsMessage (old new : Known) (state random message : Text) : Type 0
   pub signature : List ℕ
   pub index : ℕ
   pub randomizer_read : (length randomizer ≡ 32) × (decode_of random ≡ Ok randomizer)
-  pub text_given : old.gives message text
+  pub text_given : old.may_give message text
   pub signed : SignsNext old new state randomizer text signature index
 
 -- it was, the signature is in a file, and the index is printed
 pub record SignsFile (old new : Known) (state random message out : Text) (before after : Option (List ℕ)) : Type 0 where
   pub made : SignsMessage old new state random message
-  pub signature_given : new.gives out made.signature
+  pub signature_given : new.may_give out made.signature
   pub printed : Appends before after (number_line (codes "index") made.index)
 
 -- it was, and the signature not written, or the index not printed: nothing is printed before the file has the signature
@@ -137,16 +137,16 @@ pub record SignsInVain (old new : Known) (state random message out : Text) (befo
 
 -- memory ran out before an index was reserved: for the message, or once it was read
 abbrev pub LacksMemory : Known → Known → Text → Text → Type 0
-LacksMemory old new state message = (old.refuses message world.OutOfMemory ⊎ Given old message) × Stays old new state
+LacksMemory old new state message = (old.may_refuse message world.OutOfMemory ⊎ MayBeRead old message) × Stays old new state
 
 -- why no message was signed, in the order in which it is found; where only the output failed, an index is used
 abbrev pub FailsToSign : Known → Known → Text → Text → Text → Text → Option (List ℕ) → Option (List ℕ) → Fault → Type 0
 FailsToSign old new state random message out before after BadRandom = (¬ IsHexOf 32 random) × Stays old new state
 FailsToSign old new state random message out before after Input =
-    IsHexOf 32 random × old.refuses message world.Device × Stays old new state
+    IsHexOf 32 random × old.may_refuse message world.Device × Stays old new state
 FailsToSign old new state random message out before after StateInUse =
-    IsHexOf 32 random × Given old message × old.in_use state × Stays old new state
+    IsHexOf 32 random × MayBeRead old message × old.may_be_in_use state × Stays old new state
 FailsToSign old new state random message out before after OutOfMemory = IsHexOf 32 random × LacksMemory old new state message
 FailsToSign old new state random message out before after Output = SignsInVain old new state random message out before after
 FailsToSign old new state random message out before after fault =
-    IsHexOf 32 random × Given old message × FailsToSignNext old new state fault
+    IsHexOf 32 random × MayBeRead old message × FailsToSignNext old new state fault

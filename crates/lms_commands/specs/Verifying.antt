@@ -1,6 +1,6 @@
 -- What `verify` does, and where it fails.
 use Rattle.std.specs.Prelude.{ℕ, ◌≡◌, ◌⊎◌, List}
-use Rattle.lms_world.specs.Known.{Given, Known, Text}
+use Rattle.lms_world.specs.Known.{Known, MayBeRead, Text}
 use Rattle.lms_commands.specs.Verdicts.{IsRightFor}
 use Rattle.lms_commands.specs.declared.fault.Fault.{Fault}
 use Rattle.lms_commands.specs.declared.fault.Fault.TheVariants.{Input, OutOfMemory, Output}
@@ -13,9 +13,9 @@ pub record Judges (at : Known) (public_name message_name signature_name : Text) 
   pub public : List ℕ
   pub message : List ℕ
   pub signature : List ℕ
-  pub public_given : at.gives public_name public
-  pub message_given : at.gives message_name message
-  pub signature_given : at.gives signature_name signature
+  pub public_given : at.may_give public_name public
+  pub message_given : at.may_give message_name message
+  pub signature_given : at.may_give signature_name signature
   pub right : IsRightFor verdict public message signature
 
 -- the fault that a refused read comes to
@@ -25,14 +25,14 @@ read_fault world.OutOfMemory = OutOfMemory
 
 -- the fault that a read of a name comes to
 abbrev pub RefusedAt : Known → Text → Fault → Type 0
-RefusedAt at name Input = at.refuses name world.Device
-RefusedAt at name OutOfMemory = at.refuses name world.OutOfMemory
+RefusedAt at name Input = at.may_refuse name world.Device
+RefusedAt at name OutOfMemory = at.may_refuse name world.OutOfMemory
 RefusedAt at name _ = ⊥
 
 -- the fault is that of a name that gave no bytes, after those before it gave some, or that of the output after all three
 abbrev pub FailsToJudge : Known → Text → Text → Text → Fault → Type 0
 FailsToJudge at public message signature fault =
     RefusedAt at public fault
-    ⊎ ((Given at public × RefusedAt at message fault)
-    ⊎ ((Given at public × Given at message × RefusedAt at signature fault)
-    ⊎ (Given at public × Given at message × Given at signature × (fault ≡ Output))))
+    ⊎ ((MayBeRead at public × RefusedAt at message fault)
+    ⊎ ((MayBeRead at public × MayBeRead at message × RefusedAt at signature fault)
+    ⊎ (MayBeRead at public × MayBeRead at message × MayBeRead at signature × (fault ≡ Output))))

@@ -2,8 +2,8 @@
 ghost use Rattle.std.specs.Prelude.{[], ◌≡◌, ◌⊎◌, ◌↔◌, ℕ, List, IfErr, IfOk, OnOk};
 ghost use Rattle.lms_image.specs.Image.{HasImage};
 ghost use Rattle.lms_book.specs.Stops.{MayLeave};
-ghost use Rattle.lms_world.specs.Known.{Given, SameFiles, SameFilesBut, Stays};
-ghost use Rattle.lms_commands.specs.Signing.{FailsToOpen, IsAt};
+ghost use Rattle.lms_world.specs.Known.{MayBeRead, SameFiles, SameFilesBut, Stays};
+ghost use Rattle.lms_commands.specs.Signing.{FailsToOpen, MayBeImageOf};
 ghost use Rattle.lms_commands.specs.Verifying.{read_fault, RefusedAt};
 
 use crate::fault::Fault;
@@ -24,7 +24,7 @@ fn fault_of_read(fault: WorldFault) -> Fault
 
 /// The bytes of a file. Faults as `fault_of_read`.
 pub(crate) fn read_file<W: World>(alloc: Global, world: &W, name: &str) -> Result<Vec<u8>, Fault>
-    ensures given { IfOk result (λ bytes. (W.known world.now).gives name.now bytes.items) }
+    ensures given { IfOk result (λ bytes. (W.known world.now).may_give name.now bytes.items) }
     ensures refused { IfErr result
         (RefusedAt (W.known world.now) name.now) }
 {
@@ -40,11 +40,11 @@ pub(crate) fn open_file<W: World>(
     world: &W,
     name: &str,
 ) -> Result<W::Contents, Fault>
-    ensures there { IfOk result (λ _. Given (W.known world.now) name.now) }
+    ensures there { IfOk result (λ _. MayBeRead (W.known world.now) name.now) }
     ensures given { IfOk result (λ contents. (bytes : List ℕ)
-        → W.Contents.gives contents bytes → (W.known world.now).gives name.now bytes) }
+        → W.Contents.may_give contents bytes → (W.known world.now).may_give name.now bytes) }
     ensures refuses { IfOk result (λ contents. (fault : WorldFault)
-        → W.Contents.refuses contents fault → (W.known world.now).refuses name.now fault) }
+        → W.Contents.may_refuse contents fault → (W.known world.now).may_refuse name.now fault) }
     ensures refused { IfErr result
         (RefusedAt (W.known world.now) name.now) }
 {
@@ -56,8 +56,8 @@ pub(crate) fn open_file<W: World>(
 
 /// Hands the bytes of a file over, piece by piece. Faults as `fault_of_read`.
 pub(crate) fn hand_over<C: Contents, T: Taker>(contents: C, taker: &mut T) -> Result<(), Fault>
-    ensures handed { OnOk result ((bytes : List ℕ) × C.gives contents bytes × T.after taker.old bytes taker.new) }
-    ensures refused { IfErr result (λ fault. (cause : WorldFault) × C.refuses contents cause × (fault ≡ read_fault cause)) }
+    ensures handed { OnOk result ((bytes : List ℕ) × C.may_give contents bytes × T.after taker.old bytes taker.new) }
+    ensures refused { IfErr result (λ fault. (cause : WorldFault) × C.may_refuse contents cause × (fault ≡ read_fault cause)) }
 {
     match contents.hand_over(taker) {
         Ok(()) => Ok(()),
@@ -68,7 +68,7 @@ pub(crate) fn hand_over<C: Contents, T: Taker>(contents: C, taker: &mut T) -> Re
 /// Makes these the bytes of a file, and changes no other. `Output` where it can't be written, `OutOfMemory` where memory for
 /// that was refused.
 pub(crate) fn write_file<W: World>(world: &mut W, name: &str, bytes: &[u8]) -> Result<(), Fault>
-    ensures given { OnOk result ((W.known world.new).gives name.now bytes.now) }
+    ensures given { OnOk result ((W.known world.new).may_give name.now bytes.now) }
     ensures failed { IfErr result (λ fault. (fault ≡ Fault.Output) ⊎ (fault ≡ Fault.OutOfMemory)) }
     ensures others { SameFilesBut name.now (W.known world.old) (W.known world.new) }
     ensures states { (state : List ℕ) → Stays (W.known world.old) (W.known world.new) state }
@@ -84,7 +84,7 @@ pub(crate) fn write_file<W: World>(world: &mut W, name: &str, bytes: &[u8]) -> R
 pub(crate) fn lock_state<W: World>(alloc: Global, world: &W, state: &str) -> Result<W::Lock, Fault>
     ensures locked { IfOk result (λ lock. W.is_lock_of lock state.now) }
     ensures refused { IfErr result (λ fault.
-        ((fault ≡ Fault.StateInUse) × (W.known world.now).in_use state.now) ⊎ (fault ≡ Fault.OutOfMemory)) }
+        ((fault ≡ Fault.StateInUse) × (W.known world.now).may_be_in_use state.now) ⊎ (fault ≡ Fault.OutOfMemory)) }
 {
     match world.lock(alloc, state) {
         Ok(Some(lock)) => Ok(lock),
@@ -101,11 +101,11 @@ pub(crate) fn open_state<W: World>(
     lock: &W::Lock,
 ) -> Result<Book<W::Store>, Fault>
     ensures opened { IfOk result (λ book. (state : List ℕ) → W.is_lock_of lock.now state
-        → IsAt (W.known world.old) state book.key book.base book.openings book.burnt) }
+        → MayBeImageOf (W.known world.old) state book.key book.base book.openings book.burnt) }
     ensures counted { IfOk result (λ book. HasImage book.key book.base book.openings book.burnt) }
     ensures fresh { IfOk result (λ book. book.history ≡ []) }
     ensures taken { IfOk result (λ book. (state : List ℕ) → W.is_lock_of lock.now state → (text : List ℕ)
-        → MayLeave book.store text ↔ (W.known world.old).keeps state text) }
+        → MayLeave book.store text ↔ (W.known world.old).may_hold state text) }
     ensures failed { IfErr result (λ fault. (state : List ℕ) → W.is_lock_of lock.now state
         → FailsToOpen (W.known world.old) state fault) }
     ensures stays { IfErr result (λ _. (state : List ℕ) → W.is_lock_of lock.now state

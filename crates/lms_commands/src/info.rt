@@ -2,7 +2,7 @@
 ghost use Rattle.std.specs.Prelude.{◌≡◌, ◌≢◌, ℕ, List, IfErr, IfOk, OnOk};
 ghost use Rattle.lms_image.specs.Image.{HasImage};
 ghost use Rattle.lms_world.specs.Known.{SameFiles, Stays};
-ghost use Rattle.lms_commands.specs.Signing.{Describes, FailsToDescribe, FailsToOpen, IsAt};
+ghost use Rattle.lms_commands.specs.Signing.{Describes, FailsToDescribe, FailsToOpen, MayBeImageOf};
 
 use crate::description::print_info;
 use crate::fault::Fault;
@@ -38,7 +38,7 @@ pub fn describe<W: World, O: Write>(
 /// The key of the state of a lock, and what is counted of it.
 fn read_state<W: World>(alloc: Global, world: &mut W, lock: &W::Lock) -> Result<Image, Fault>
     ensures opened { IfOk result (λ image. (state : List ℕ) → W.is_lock_of lock.now state
-        → IsAt (W.known world.old) state image.key image.counter image.openings image.burnt) }
+        → MayBeImageOf (W.known world.old) state image.key image.counter image.openings image.burnt) }
     ensures stays { (state : List ℕ) → W.is_lock_of lock.now state → Stays (W.known world.old) (W.known world.new) state }
     ensures files { SameFiles (W.known world.old) (W.known world.new) }
     ensures counted { IfOk result (λ image. HasImage image.key image.counter image.openings image.burnt) }

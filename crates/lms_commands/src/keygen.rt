@@ -91,7 +91,7 @@ fn publish<W: World, O: Write>(
     capacity: u64,
     output: &mut O,
 ) -> Result<(), Fault>
-    ensures given { OnOk result ((W.known world.new).gives name.now public_key.now) }
+    ensures given { OnOk result ((W.known world.new).may_give name.now public_key.now) }
     ensures printed { OnOk result (Appends (O.contents output.old) (O.contents output.new)
         (number_line (codes "capacity") capacity)) }
     ensures failed { IfErr result (λ fault. (fault ≡ Fault.OutOfMemory) ⊎ ((fault ≡ Fault.Output)
@@ -115,7 +115,7 @@ fn store_key<W: World>(
     lock: &W::Lock,
 ) -> Result<(), Fault>
     ensures stored { OnOk result ((state : List ℕ) → W.is_lock_of lock.now state
-        → (W.known world.new).keeps state (image_of key 0 0 0)) }
+        → (W.known world.new).may_hold state (image_of key 0 0 0)) }
     ensures failed { IfErr result (λ fault. (state : List ℕ) → W.is_lock_of lock.now state
         → FailsToStore (W.known world.old) (W.known world.new) key state fault) }
     ensures files { SameFiles (W.known world.old) (W.known world.new) }

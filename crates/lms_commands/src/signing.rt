@@ -113,7 +113,7 @@ fn deliver<W: World, O: Write>(
     signed: &Signed,
     output: &mut O,
 ) -> Result<(), Fault>
-    ensures given { OnOk result ((W.known world.new).gives out.now signed.now.signature.items) }
+    ensures given { OnOk result ((W.known world.new).may_give out.now signed.now.signature.items) }
     ensures printed { OnOk result (Appends (O.contents output.old) (O.contents output.new)
         (number_line (codes "index") signed.now.index)) }
     ensures failed { IfErr result (λ fault. (fault ≡ Fault.Output) × IsPrintedLast (W.known world.new) out.now

@@ -61,12 +61,12 @@ used_elsewhere world = record world { in_use = true }
 -- what is known in such a world: there is one state, whatever its name
 abbrev pub known_in_memory : MemoryWorld → Known
 known_in_memory world = record {
-  gives = λ name bytes. answer_of world name ≡ Ok bytes;
-  refuses = MayRefuse world;
-  keeps = λ _ text. state_text (store_in world) ≡ Some text;
-  lacks = λ _. state_text (store_in world) ≡ None;
+  may_give = λ name bytes. answer_of world name ≡ Ok bytes;
+  may_refuse = MayRefuse world;
+  may_hold = λ _ text. state_text (store_in world) ≡ Some text;
+  may_lack = λ _. state_text (store_in world) ≡ None;
   holds = λ _ text. state_text (store_in world) ≡ Some text;
-  fails = λ _. MayFailToRead (store_in world);
-  in_use = λ _. is_used_elsewhere world ≡ true;
-  may_be = λ name text is. is;
+  may_fail = λ _. MayFailToRead (store_in world);
+  may_be_in_use = λ _. is_used_elsewhere world ≡ true;
+  held_is_possible = λ name text is. is;
 }

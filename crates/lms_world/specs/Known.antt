@@ -8,56 +8,56 @@ Text = List ℕ
 
 pub record Known : Type 1 where
   -- what a read of a name may give, or be refused by
-  pub gives : Text → List ℕ → Type 0
-  pub refuses : Text → WorldFault → Type 0
-  -- what the state of a name may be, and whether there may be none
-  pub keeps : Text → List ℕ → Type 0
-  pub lacks : Text → Type 0
-  -- what the state of a name is known to be
+  pub may_give : Text → List ℕ → Type 0
+  pub may_refuse : Text → WorldFault → Type 0
+  -- what the state of a name may hold, and whether there may be none
+  pub may_hold : Text → List ℕ → Type 0
+  pub may_lack : Text → Type 0
+  -- what the state of a name is known to hold
   pub holds : Text → List ℕ → Type 0
   -- whether a read of the state may fail, and whether another program may have its lock
-  pub fails : Text → Type 0
-  pub in_use : Text → Type 0
-  -- what it is known to be, it may be
-  pub may_be : (name : Text) (text : List ℕ) → holds name text → keeps name text
+  pub may_fail : Text → Type 0
+  pub may_be_in_use : Text → Type 0
+  -- what it is known to hold, it may hold
+  pub held_is_possible : (name : Text) (text : List ℕ) → holds name text → may_hold name text
 
 -- anything may be
 abbrev pub nothing_known : Known
 nothing_known = record {
-  gives = λ _ _. Unit {0};
-  refuses = λ _ _. Unit {0};
-  keeps = λ _ _. Unit {0};
-  lacks = λ _. Unit {0};
+  may_give = λ _ _. Unit {0};
+  may_refuse = λ _ _. Unit {0};
+  may_hold = λ _ _. Unit {0};
+  may_lack = λ _. Unit {0};
   holds = λ _ _. ⊥;
-  fails = λ _. Unit {0};
-  in_use = λ _. Unit {0};
-  may_be = λ name text no. absurd no;
+  may_fail = λ _. Unit {0};
+  may_be_in_use = λ _. Unit {0};
+  held_is_possible = λ name text no. absurd no;
 }
 
--- what the state of the name could be, it may still be, and it is nothing else
+-- what the state of the name might hold, it may still hold, and it is known to hold nothing else
 pub record Stays (old new : Known) (state : Text) : Type 0 where
-  pub kept : (text : List ℕ) → old.keeps state text → new.keeps state text
-  pub only : (text : List ℕ) → new.holds state text → old.keeps state text
+  pub kept : (text : List ℕ) → old.may_hold state text → new.may_hold state text
+  pub only : (text : List ℕ) → new.holds state text → old.may_hold state text
 
--- the state of the name is what it was, or this text
+-- the state of the name is known to hold nothing but what it might hold before, or this text
 abbrev pub IsOldOr : List ℕ → Known → Known → Text → Type 0
-IsOldOr image old new state = (text : List ℕ) → new.holds state text → old.keeps state text ⊎ (text ≡ image)
+IsOldOr image old new state = (text : List ℕ) → new.holds state text → old.may_hold state text ⊎ (text ≡ image)
 
 -- there may be a state of the name
-abbrev pub Exists : Known → Text → Type 0
-Exists at state = (text : List ℕ) × at.keeps state text
+abbrev pub MayExist : Known → Text → Type 0
+MayExist at state = (text : List ℕ) × at.may_hold state text
 
--- the name gave some bytes
-abbrev pub Given : Known → Text → Type 0
-Given at name = (bytes : List ℕ) × at.gives name bytes
+-- a read of the name may give some bytes
+abbrev pub MayBeRead : Known → Text → Type 0
+MayBeRead at name = (bytes : List ℕ) × at.may_give name bytes
 
--- the output is as it was, or the file of the name has these bytes
+-- the output is as it was, or the file of the name may have these bytes
 abbrev pub IsPrintedLast : Known → Text → List ℕ → Option (List ℕ) → Option (List ℕ) → Type 0
-IsPrintedLast at name bytes before after = (after ≡ before) ⊎ at.gives name bytes
+IsPrintedLast at name bytes before after = (after ≡ before) ⊎ at.may_give name bytes
 
--- a read of the name gives what it gave before
+-- a read of the name may give what it might give before, and nothing else
 abbrev pub SameFile : Known → Known → Text → Type 0
-SameFile old new name = (bytes : List ℕ) → old.gives name bytes ↔ new.gives name bytes
+SameFile old new name = (bytes : List ℕ) → old.may_give name bytes ↔ new.may_give name bytes
 
 -- all files are what they were
 abbrev pub SameFiles : Known → Known → Type 0

@@ -25,14 +25,14 @@ pub trait Contents {
     ghost use Rattle.lms_world.specs.declared.world.WorldFault.{WorldFault};
 
     // What it may hold, and by which fault it may be refused.
-    ghost gives: { Self → List ℕ → Type 0 };
+    ghost may_give: { Self → List ℕ → Type 0 };
 
-    ghost refuses: { Self → WorldFault → Type 0 };
+    ghost may_refuse: { Self → WorldFault → Type 0 };
 
     /// Hands all of its bytes over, one piece after another. It takes no memory.
     ///
     /// `Device` where it can't be read to its end: the taker has got a beginning then. `OutOfMemory` where the system lacks it.
     fn hand_over<T: Taker>(self, taker: &mut T) -> Result<(), WorldFault>
-        ensures handed { OnOk result ((bytes : List ℕ) × gives self bytes × T.after taker.old bytes taker.new) }
-        ensures refused { IfErr result (refuses self) };
+        ensures handed { OnOk result ((bytes : List ℕ) × may_give self bytes × T.after taker.old bytes taker.new) }
+        ensures refused { IfErr result (may_refuse self) };
 }

@@ -89,9 +89,9 @@ pub struct DiskContents<F> {
 }
 
 impl<F: Read + Drop> Contents for DiskContents<F> {
-    ghost gives = { λ _ _. Unit {0} };
+    ghost may_give = { λ _ _. Unit {0} };
 
-    ghost refuses = { λ _ _. Unit {0} };
+    ghost may_refuse = { λ _ _. Unit {0} };
 
     fn hand_over<T: Taker>(self, taker: &mut T) -> Result<(), WorldFault> {
         let mut file = self.file;

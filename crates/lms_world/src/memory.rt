@@ -32,9 +32,9 @@ pub struct MemoryContents {
 }
 
 impl Contents for MemoryContents {
-    ghost gives = { λ contents bytes. bytes ≡ contents.bytes.items };
+    ghost may_give = { λ contents bytes. bytes ≡ contents.bytes.items };
 
-    ghost refuses = { λ _ _. ⊥ };
+    ghost may_refuse = { λ _ _. ⊥ };
 
     /// In one piece.
     fn hand_over<T: Taker>(self, taker: &mut T) -> Result<(), WorldFault> {

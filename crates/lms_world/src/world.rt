@@ -1,7 +1,7 @@
 //! What a world of files and states owes.
 ghost use Rattle.std.specs.Prelude.{◌≡◌, ◌↔◌, ℕ, List, None, true, false, IfErr, IfOk, IfSome, OnOk};
 ghost use Rattle.lms_book.specs.Stops.{MayLeave};
-ghost use Rattle.lms_world.specs.Known.{Exists, Given, Known, SameFiles, SameFilesBut, Stays};
+ghost use Rattle.lms_world.specs.Known.{Known, MayBeRead, MayExist, SameFiles, SameFilesBut, Stays};
 
 use crate::contents::Contents;
 use lms_book::StateStore;
@@ -42,38 +42,38 @@ pub trait World {
     /// `Device` where there is no such file or it can't be read, `OutOfMemory` where memory for its
     /// bytes was refused.
     fn read(&self, alloc: Global, name: &str) -> Result<Vec<u8>, WorldFault>
-        ensures given { IfOk result (λ bytes. (known self.now).gives name.now bytes.items) }
-        ensures refused { IfErr result ((known self.now).refuses name.now) };
+        ensures given { IfOk result (λ bytes. (known self.now).may_give name.now bytes.items) }
+        ensures refused { IfErr result ((known self.now).may_refuse name.now) };
 
     /// Opens a file, whose bytes are then handed over piece by piece.
     ///
     /// `Device` where there is no such file or it can't be opened, `OutOfMemory` where memory for that was refused.
     fn open(&self, alloc: Global, name: &str) -> Result<Self::Contents, WorldFault>
-        ensures there { IfOk result (λ _. Given (known self.now) name.now) }
+        ensures there { IfOk result (λ _. MayBeRead (known self.now) name.now) }
         ensures given { IfOk result (λ contents. (bytes : List ℕ)
-            → Self.Contents.gives contents bytes → (known self.now).gives name.now bytes) }
+            → Self.Contents.may_give contents bytes → (known self.now).may_give name.now bytes) }
         ensures refuses { IfOk result (λ contents. (fault : WorldFault)
-            → Self.Contents.refuses contents fault → (known self.now).refuses name.now fault) }
-        ensures refused { IfErr result ((known self.now).refuses name.now) };
+            → Self.Contents.may_refuse contents fault → (known self.now).may_refuse name.now fault) }
+        ensures refused { IfErr result ((known self.now).may_refuse name.now) };
 
     /// Makes these the bytes of a file, which need not be there yet. No other file is changed, and no state.
     ///
     /// `Device` where it can't be written, `OutOfMemory` where memory for that was refused. After an error the file may be
     /// missing or cut short.
     fn write(&mut self, name: &str, bytes: &[u8]) -> Result<(), WorldFault>
-        ensures given { OnOk result ((known self.new).gives name.now bytes.now) }
+        ensures given { OnOk result ((known self.new).may_give name.now bytes.now) }
         ensures others { SameFilesBut name.now (known self.old) (known self.new) }
         ensures states { (state : List ℕ) → Stays (known self.old) (known self.new) state };
 
     /// True where there is a state of this name, and where that can't be found out.
     fn exists(&self, name: &str) -> bool
-        ensures missing { result ≡ false → (known self.now).lacks name.now }
-        ensures there { result ≡ true → Exists (known self.now) name.now };
+        ensures missing { result ≡ false → (known self.now).may_lack name.now }
+        ensures there { result ≡ true → MayExist (known self.now) name.now };
 
     /// Locks the state of this name, without waiting. `None` where the lock is not available, `OutOfMemory` where memory for
     /// it was refused.
     fn lock(&self, alloc: Global, name: &str) -> Result<Option<Self::Lock>, OutOfMemory>
-        ensures used { IfOk result (λ found. found ≡ None → (known self.now).in_use name.now) }
+        ensures used { IfOk result (λ found. found ≡ None → (known self.now).may_be_in_use name.now) }
         ensures locked { IfOk result (λ found. IfSome found (λ lock. is_lock_of lock name.now)) };
 
     /// Takes out what keeps the state of the lock. Where there is no such state, its reads fail. No file is changed.
@@ -81,9 +81,9 @@ pub trait World {
     /// `OutOfMemory` where memory for it was refused.
     fn take_store(&mut self, alloc: Global, lock: &Self::Lock) -> Result<Self::Store, OutOfMemory>
         ensures taken { IfOk result (λ store. (state : List ℕ) → is_lock_of lock.now state → (text : List ℕ)
-            → MayLeave (Self.Store.seen store) text ↔ (known self.old).keeps state text) }
+            → MayLeave (Self.Store.seen store) text ↔ (known self.old).may_hold state text) }
         ensures fails { IfOk result (λ store. (state : List ℕ) → is_lock_of lock.now state
-            → Self.Store.may_fail store → (known self.old).fails state) }
+            → Self.Store.may_fail store → (known self.old).may_fail state) }
         ensures stays { IfErr result (λ _. (state : List ℕ) → is_lock_of lock.now state
             → Stays (known self.old) (known self.new) state) }
         ensures files { SameFiles (known self.old) (known self.new) };
@@ -91,7 +91,7 @@ pub trait World {
     /// Puts it back: the state of the lock is what it keeps. No file is changed.
     fn put_back(&mut self, lock: &Self::Lock, store: Self::Store)
         ensures kept { (state : List ℕ) → is_lock_of lock.now state → (text : List ℕ)
-            → MayLeave (Self.Store.seen store) text → (known self.new).keeps state text }
+            → MayLeave (Self.Store.seen store) text → (known self.new).may_hold state text }
         ensures only { (state : List ℕ) → is_lock_of lock.now state → (text : List ℕ)
             → (known self.new).holds state text → MayLeave (Self.Store.seen store) text }
         ensures files { SameFiles (known self.old) (known self.new) };

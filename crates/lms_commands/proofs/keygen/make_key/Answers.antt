@@ -18,7 +18,7 @@ returns-clause-made g c =
     (λ given printed. record {
       fresh = c.exists.ensures.missing c.if-exists.false;
       stored = (c.publish.ensures.states c.args.state.now).kept _ (c.in_ok-store_key.ensures.stored _ c.in_ok-lock.ensures.locked);
-      published = subst (λ (bytes : List ℕ). new.gives c.args.public.now bytes) c.in_ok-public_key.ensures given;
+      published = subst (λ (bytes : List ℕ). new.may_give c.args.public.now bytes) c.in_ok-public_key.ensures given;
       printed = subst (λ (n : ℕ). Appends before after (number_line (codes "capacity") n)) c.capacity.ensures.capacity printed;
     })
     c.publish.ensures.given c.publish.ensures.printed
