@@ -2,7 +2,7 @@
 use Rattle.std.proofs.Common.{◌≡◌, ◌<◌, ℕ, List, Result, Ok, Err, refl, inl, inr, arith}
 use Rattle.std.specs.Prelude.{IfErr}
 use Rattle.clap.specs.Words.{Text}
-use Rattle.lms_program.specs.Commands.{IsRead}
+use Rattle.lms_program.specs.Commands.{AreTakenAs}
 use Rattle.lms_commands.specs.Faults.{code_of, status_of}
 use Rattle.lms_commands.specs.Batches.{IsSilent}
 use Rattle.lms_program.specs.Runs.{AsksToRead, Ends, Fails, FailsToObey, Moment, Obeys, ReadsInput}
@@ -15,7 +15,7 @@ use Rattle.lms_commands.specs.declared.status.Status.TheVariants as status
 use Rattle.lms_commands.specs.declared.status.Status.TheVariants.{Negative}
 
 -- a run ends as its command does
-pub command_ends : (old new : Moment) (words : List Text) (command : Command) → IsRead words command
+pub command_ends : (old new : Moment) (words : List Text) (command : Command) → AreTakenAs words command
     → (end : Status) → Obeys old new command end → Ends old new words end
 command_ends old new words command reads status.Done is = inr (command, reads, is)
 command_ends old new words command reads status.Negative is = inl (command, reads, is)
@@ -26,7 +26,7 @@ command_ends old new words command reads status.Memory is = absurd is
 command_ends old new words command reads status.Stream is = absurd is
 
 -- a run fails as its command does, which prints nothing but where the output fails
-pub command_fails : (old new : Moment) (words : List Text) (command : Command) → IsRead words command
+pub command_fails : (old new : Moment) (words : List Text) (command : Command) → AreTakenAs words command
     → (fault : Fault) → FailsToObey old new command fault → (IsSilent fault → new.output ≡ old.output) → Fails old new words fault
 command_fails old new words command reads BadLevels is silent = (silent tt, (command, reads, is))
 command_fails old new words command reads TooManyLevels is silent = (silent tt, (command, reads, is))

@@ -20,7 +20,7 @@ use Rattle.clap.specs.declared.parser.matches.SubCommand.{SubCommand}
 use Rattle.std.specs.Box.{box_value}
 use Rattle.clap.proofs.WalkLemmas.{first_value-rows}
 use Rattle.lms_program.specs.Application.{Subcommand, called, lms_app}
-use Rattle.lms_program.specs.Commands.{FaultAt, FaultOf, HasOptions, IsMadeOf, Reads}
+use Rattle.lms_program.specs.Commands.{AreWordsOf, FaultAt, FaultOf, HasOptions, IsMadeOf}
 use Rattle.lms_program.specs.declared.command.types.Command.{Command}
 use Rattle.lms_program.specs.declared.command.types.CommandFault.{CommandFault}
 use Rattle.lms_program.specs.declared.command.types.CommandFault.TheVariants.{Help, Usage, OutOfMemory}
@@ -105,7 +105,7 @@ module _ (words : List Text) (m : ArgMatches) (none : fault_of lms_app words ≡
         subst (λ (o : Option Subcommand). HasOptions o found) (sym read_as.2 ∙ ap called same_name) (there read_as.0.options read_as.4)
 
     -- so a command made of them is the one that the words ask for
-    pub reads_command : (command : Command) → IsMadeOf name (rows_of found) command → Reads words command
+    pub reads_command : (command : Command) → IsMadeOf name (rows_of found) command → AreWordsOf words command
     reads_command command made =
         (rows_of found, options_read ∙ ap (λ (n : Text). Some (n, rows_of found)) (sym made.0), made.1)
 

@@ -36,13 +36,13 @@ texts_of (Sign state random message out) = string_bytes state ∷ string_bytes r
 texts_of (Batch state workers) = string_bytes state ∷ string_bytes workers ∷ []
 texts_of (Verify public message signature) = string_bytes public ∷ string_bytes message ∷ string_bytes signature ∷ []
 
--- clap's definition reads the words as this command
-abbrev pub Reads : List Text → Command → Type 0
-Reads words command = AsksFor (subcommand_for command) (texts_of command) words
+-- the words are those of this command, as clap's definition has it
+abbrev pub AreWordsOf : List Text → Command → Type 0
+AreWordsOf words command = AsksFor (subcommand_for command) (texts_of command) words
 
--- clap's definition takes the words, and reads them as this command
-abbrev pub IsRead : List Text → Command → Type 0
-IsRead words command = Reads words command × (fault_of lms_app words ≡ [])
+-- clap's definition takes the words, as this command
+abbrev pub AreTakenAs : List Text → Command → Type 0
+AreTakenAs words command = AreWordsOf words command × (fault_of lms_app words ≡ [])
 
 -- the command is the subcommand of this name with these options
 abbrev pub IsMadeOf : Text → List Row → Command → Type 0

@@ -3,7 +3,7 @@ use Rattle.std.specs.Prelude.{ℕ, ◌≡◌, ◌⊎◌, List, Option, string_by
 use Rattle.std.specs.Io.KnownBytes.{Appends}
 use Rattle.clap.specs.Words.{Text}
 use Rattle.lms_hss.specs.declared.key.HssKey.{HssKey as KeyOfCode}
-use Rattle.lms_program.specs.Commands.{AsksForHelp, IsMistaken, IsRead}
+use Rattle.lms_program.specs.Commands.{AreTakenAs, AsksForHelp, IsMistaken}
 use Rattle.lms_commands.specs.Batches.{FailsToBatch, SignsAllJobs, Streams, streams}
 use Rattle.lms_commands.specs.Faults.{status_of}
 use Rattle.lms_commands.specs.Keygen.{FailsToMakeKey, IsKeyOf, IsNoKey, MakesKey}
@@ -74,7 +74,7 @@ FailsToObey old new (Verify public message signature) fault =
 
 -- the words ask for a command, and this is why it failed
 abbrev pub CommandFails : Moment → Moment → List Text → Fault → Type 0
-CommandFails old new words fault = (command : Command) × IsRead words command × FailsToObey old new command fault
+CommandFails old new words fault = (command : Command) × AreTakenAs words command × FailsToObey old new command fault
 
 -- what it takes for the program to end with this fault; memory may run out at any words,
 -- which leaves each state as it was, unless a command was under way
@@ -91,7 +91,7 @@ FailsWith old new words end = (fault : Fault) × (status_of fault ≡ end) × Fa
 
 -- the words ask for a command, and the program ends so with it
 abbrev pub CommandEnds : Moment → Moment → List Text → Status → Type 0
-CommandEnds old new words end = (command : Command) × IsRead words command × Obeys old new command end
+CommandEnds old new words end = (command : Command) × AreTakenAs words command × Obeys old new command end
 
 -- what it takes for the program to end so
 abbrev pub Ends : Moment → Moment → List Text → Status → Type 0
@@ -112,11 +112,11 @@ ReadsInput _ = ⊥
 
 -- the words ask for a command that reads standard input
 abbrev pub AsksToRead : List Text → Type 0
-AsksToRead words = (command : Command) × IsRead words command × ReadsInput command
+AsksToRead words = (command : Command) × AreTakenAs words command × ReadsInput command
 
 -- the words ask for a command that may change files or a state
 abbrev pub AsksToTouch : List Text → Type 0
-AsksToTouch words = (command : Command) × IsRead words command × Touches command
+AsksToTouch words = (command : Command) × AreTakenAs words command × Touches command
 
 -- the command writes the file of this name
 abbrev pub Writes : Command → Text → Type 0
@@ -126,4 +126,4 @@ Writes _ name = ⊥
 
 -- no command that the words ask for writes the file of this name
 abbrev pub NoneWrites : List Text → Text → Type 0
-NoneWrites words name = (command : Command) → IsRead words command → ¬ Writes command name
+NoneWrites words name = (command : Command) → AreTakenAs words command → ¬ Writes command name

@@ -3,7 +3,7 @@ ghost use Rattle.std.specs.Prelude.{◌≡◌, [], codes, IfOk, IfErr, IsSome, S
 ghost use Rattle.clap.specs.Words.{app_of, fault_of, first_value, found_of, kind_of, rows_of, rule_of, takes};
 ghost use Rattle.clap.specs.declared.builder.command.Command.TheViews.{out-Command as fields_of};
 ghost use Rattle.lms_program.specs.Application.{app_for, batch, called, info, keygen, lms_app, required_option, sign, verify};
-ghost use Rattle.lms_program.specs.Commands.{FaultAt, FaultOf, HasOptions, IsMadeOf, Reads};
+ghost use Rattle.lms_program.specs.Commands.{AreWordsOf, FaultAt, FaultOf, HasOptions, IsMadeOf};
 
 pub mod laws;
 mod types;
@@ -54,7 +54,7 @@ Ends with status 0 for `valid`, 1 for `invalid`, and another where a file can't 
 /// `Help` where they ask for help and `Usage` where they are no command, both with clap's text, and
 /// `OutOfMemory` where memory ran out.
 pub fn command<S: AsStr>(alloc: Global, words: &[S]) -> Result<Command, CommandFault>
-    ensures reads { IfOk result (Reads (map S.text words.now)) }
+    ensures reads { IfOk result (AreWordsOf (map S.text words.now)) }
     ensures taken { IfErr result (λ e.
         takes lms_app (map S.text words.now) ≡ true → e ≡ CommandFault.OutOfMemory) }
     ensures faults { MatchResult result (λ _. fault_of lms_app (map S.text words.now) ≡ [])
