@@ -1,16 +1,16 @@
 //! Job lines read to their end.
-ghost use Rattle.std.specs.Prelude.{◌≡◌, ℕ, ◌<◌, ◌≤◌, length, take, map, IfOk, IfErr, IfSome, vec_len};
-ghost use Rattle.std.specs.Io.KnownBytes.{Consumes, IsAtEnd};
+ghost use Rattle.std.specs.Prelude.{◌≡◌, ◌<◌, map, IfOk, IfErr, IfSome, vec_len};
 ghost use Rattle.lms_batch.specs.Jobs.{text_of};
 ghost use Rattle.lms_lines.specs.JobsTexts.{IsFaultOf, ReadsJobs};
-ghost use Rattle.lms_lines.specs.declared.fault.JobsFault.TheVariants.{Read as ReadFault, OutOfMemory};
+ghost use Rattle.lms_lines.specs.declared.fault.JobsFault.TheVariants.{OutOfMemory};
 
 use crate::fault::JobsFault;
 use crate::gathering::Gathering;
 use crate::job_line::LONGEST_LINE;
 use lms_batch::{Job, MOST_JOBS};
+use lms_blocks::read_block;
 use std::alloc::Global;
-use std::io::{ErrorKind, Read};
+use std::io::Read;
 
 /// How many bytes are asked for at once.
 const BLOCK: usize = 65_536;
@@ -27,7 +27,9 @@ pub fn read_jobs<R: Read>(alloc: Global, reader: &mut R) -> Result<Vec<Job>, Job
     let mut block = new_block(alloc)?;
     let mut gathering = Gathering::new(alloc);
     for _turn in 0..TOO_LONG {
-        let count = read_block(reader, block.as_mut_slice())?;
+        let Ok(count) = read_block(reader, block.as_mut_slice()) else {
+            return Err(JobsFault::Read);
+        };
         if count == 0 {
             return gathering.finish(alloc);
         }
@@ -42,25 +44,4 @@ fn new_block(alloc: Global) -> Result<Vec<u8>, JobsFault>
     ensures fault { IfErr result (λ e. e ≡ OutOfMemory) }
 {
     Ok(vec![in alloc; 0u8; BLOCK]?)
-}
-
-/// One read, which is tried again where it was interrupted.
-fn read_block<R: Read>(reader: &mut R, block: &mut [u8]) -> Result<usize, JobsFault>
-    requires { 0 < length block.old }
-    ensures bound { IfOk result (λ n. n ≤ length block.new) }
-    ensures bytes { IfOk result (λ n. Consumes (R.remaining reader.old) (R.remaining reader.new) (take n block.new)) }
-    ensures end { IfOk result (λ n. n ≡ 0 → IsAtEnd (R.remaining reader.new)) }
-    ensures fault { IfErr result (λ e. e ≡ ReadFault) }
-{
-    for _try in 0..u64::MAX {
-        match reader.read(block) {
-            Ok(count) => return Ok(count),
-            Err(e) => {
-                if e.kind() != ErrorKind::Interrupted {
-                    return Err(JobsFault::Read);
-                }
-            }
-        }
-    }
-    Err(JobsFault::Read)
 }

@@ -1,10 +1,10 @@
 //! The files of the disk.
-ghost use Rattle.std.specs.Prelude.{◌≡◌, ◌≢◌, ℕ, ◌<◌, ◌≤◌, List, length, take, IfOk, IfSome, OnOk};
+ghost use Rattle.std.specs.Prelude.{◌≡◌, ◌≢◌, ℕ, List, IfOk, IfSome, OnOk};
 ghost use Rattle.std.specs.IoError.{error_kind};
-ghost use Rattle.std.specs.Io.KnownBytes.{Consumes, IsAtEnd};
 
 use crate::contents::{Contents, Taker};
 use crate::world::{World, WorldFault};
+use lms_blocks::read_block;
 use lms_params::OutOfMemory;
 use lms_store::{FileStore, StateLock, TryLock, exists, lock};
 use std::alloc::Global;
@@ -113,26 +113,6 @@ fn hand_blocks<F: Read, T: Taker>(file: &mut F, taker: &mut T) -> io::Result<()>
         taker.take(&block[..count]);
     }
     Err(io::Error::from(ErrorKind::FileTooLarge))
-}
-
-/// One read, which is tried again where it was interrupted.
-fn read_block<F: Read>(file: &mut F, block: &mut [u8]) -> io::Result<usize>
-    requires { 0 < length block.old }
-    ensures bound { IfOk result (λ n. n ≤ length block.new) }
-    ensures bytes { IfOk result (λ n. Consumes (F.remaining file.old) (F.remaining file.new) (take n block.new)) }
-    ensures end { IfOk result (λ n. n ≡ 0 → IsAtEnd (F.remaining file.new)) }
-{
-    for _try in 0..u64::MAX {
-        match file.read(block) {
-            Ok(count) => return Ok(count),
-            Err(error) => {
-                if error.kind() != ErrorKind::Interrupted {
-                    return Err(error);
-                }
-            }
-        }
-    }
-    Err(io::Error::from(ErrorKind::Interrupted))
 }
 
 /// The bytes of a file, whole.

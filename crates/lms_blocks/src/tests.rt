@@ -1,0 +1,68 @@
+use crate::read_block;
+use std::io;
+use std::io::{ErrorKind, Read};
+use std::test::Fail;
+
+/// Gives its bytes three at a time, and then fails. Every second read is interrupted.
+#[derive(Drop)]
+struct Halting<'a> {
+    left: &'a [u8],
+    was_interrupted: bool,
+    fails: bool,
+}
+
+impl Read for Halting<'_> {
+    fn read(&mut self, buf: &mut [u8]) -> io::Result<usize> {
+        self.was_interrupted = !self.was_interrupted;
+        if self.was_interrupted {
+            return Err(io::Error::from(ErrorKind::Interrupted));
+        }
+        if self.fails && self.left.is_empty() {
+            return Err(io::Error::from(ErrorKind::BrokenPipe));
+        }
+        let most = buf.len().min(3);
+        self.left.read(&mut buf[..most])
+    }
+}
+
+/// Whether the next block of a reader is these bytes.
+fn gives(reader: &mut impl Read, bytes: &[u8]) -> bool {
+    let mut block = [0; 4];
+    match read_block(reader, &mut block) {
+        Ok(count) => block[..count] == *bytes,
+        Err(_) => false,
+    }
+}
+
+/// Whether the next read fails so.
+fn fails_by(reader: &mut impl Read, kind: ErrorKind) -> bool {
+    match read_block(reader, &mut [0; 4]) {
+        Ok(_) => false,
+        Err(error) => error.kind() == kind,
+    }
+}
+
+#[test]
+fn an_interrupted_read_is_tried_again(rt: HostRuntime) -> Result<(), Fail> {
+    let mut reader = Halting {
+        left: b"abcde",
+        was_interrupted: false,
+        fails: false,
+    };
+    assert!(rt; gives(&mut reader, b"abc"));
+    assert!(rt; gives(&mut reader, b"de"));
+    assert!(rt; gives(&mut reader, b""));
+    Ok(())
+}
+
+#[test]
+fn another_fault_is_told(rt: HostRuntime) -> Result<(), Fail> {
+    let mut reader = Halting {
+        left: b"a",
+        was_interrupted: false,
+        fails: true,
+    };
+    assert!(rt; gives(&mut reader, b"a"));
+    assert!(rt; fails_by(&mut reader, ErrorKind::BrokenPipe));
+    Ok(())
+}
