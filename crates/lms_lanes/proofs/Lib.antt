@@ -1,0 +1,5 @@
+pub mod ChainText
+pub mod Lanes
+pub mod Majority
+pub mod OneBlock
+pub mod Walks

@@ -1,0 +1,5 @@
+use Rattle.std.proofs.Common.{ℕ, ◌<◌, ◌≤◌, slice_index}
+use Rattle.lms_lanes.proofs.chains.most.Given as goal
+
+abbrev pub invariant-lanes : goal.invariant-lanes
+invariant-lanes l = (j : ℕ) → j < l.k → slice_index l.numbers j ≤ l.most

@@ -1,0 +1,88 @@
+//! Chains side by side, each from its value to its end.
+ghost use Rattle.std.specs.Prelude.{◌≡◌, ℕ, List, ◌+◌, ◌%◌, ◌<◌, ◌≤◌, ◌^◌, [], ◌∷◌, ◌++◌, length, slice_index, slice_index_or, nat_lt, if◌then◌else◌};
+ghost use Rattle.sha2.specs.Sha256.{digest_bytes, sha256};
+ghost use Rattle.lms_lanes.specs.Lanes.{AreVectors, EachLane, lane_of};
+ghost use Rattle.lms_lanes.specs.Chains.{HasHead, walked};
+
+use crate::blocks::block_at;
+use crate::bytes::{digests_of, head_words, value_words, widened};
+use crate::rounds::compress;
+use std::simd::prelude::*;
+
+/// Takes eight chains each from its value by its own number of steps. A step hashes the chain's head, a byte and the value
+/// before, 55 bytes in all. The byte of a chain's first step is its number in `firsts`, of which the last eight bits
+/// count, and each further one is one more, with 0 after 255. All take as long as the one with most steps.
+pub fn hash_chains(
+    heads: &[[u8; 22]; 8],
+    firsts: &[u16; 8],
+    steps: &[u16; 8],
+    values: &[[u8; 32]; 8],
+) -> [[u8; 32]; 8]
+    ensures long { length result ≡ 8 }
+    ensures values { (k : ℕ) → k < 8 → slice_index_or result k []
+        ≡ walked (slice_index_or heads.now k []) (slice_index firsts.now k) (slice_index steps.now k) (slice_index_or values.now k []) }
+{
+    let head = head_words(heads);
+    let first = widened(firsts);
+    let count = widened(steps);
+    let mut now = value_words(values);
+    'steps: for i in 0..most(steps) {
+        let next = step(&head, first, i, &now);
+        let after = chosen(count, i, &next, &now);
+        now = after;
+    }
+    digests_of(&now)
+}
+
+// The greatest of eight numbers.
+#[inline(always)]
+fn most(numbers: &[u16; 8]) -> u16
+    ensures { (k : ℕ) → k < 8 → slice_index numbers.now k ≤ result }
+{
+    let mut most = 0;
+    'lanes: for k in 0..8 {
+        most = numbers[k].max(most);
+    }
+    most
+}
+
+// Step `i` in each lane.
+#[inline(always)]
+fn step(head: &[u32x8; 6], first: u32x8, i: u16, value: &[u32x8; 8]) -> [u32x8; 8]
+    requires head { AreVectors 6 head.now }
+    requires value { AreVectors 8 value.now }
+    requires first { (k : ℕ) → k < 8 → slice_index first k < 2 ^ 16 }
+    ensures vectors { AreVectors 8 result }
+    ensures lanes { (k : ℕ) → k < 8 → (text : List ℕ) → HasHead (lane_of head.now k) text
+        → digest_bytes (lane_of result k) 8 ≡ sha256 (text ++ (slice_index first k + i) % 256 ∷ digest_bytes (lane_of value.now k) 8) }
+{
+    compress(block_at(head, first, i, value))
+}
+
+// `next` in the lanes that take more than `i` steps, `now` in the others.
+#[inline(always)]
+fn chosen(steps: u32x8, i: u16, next: &[u32x8; 8], now: &[u32x8; 8]) -> [u32x8; 8]
+    requires next { AreVectors 8 next.now }
+    requires now { AreVectors 8 now.now }
+    ensures vectors { AreVectors 8 result }
+    ensures taken { (k : ℕ) → k < 8 → i < slice_index steps k → lane_of result k ≡ lane_of next.now k }
+    ensures left { (k : ℕ) → k < 8 → slice_index steps k ≤ i → lane_of result k ≡ lane_of now.now k }
+{
+    [
+        selected(steps, i, next[0], now[0]),
+        selected(steps, i, next[1], now[1]),
+        selected(steps, i, next[2], now[2]),
+        selected(steps, i, next[3], now[3]),
+        selected(steps, i, next[4], now[4]),
+        selected(steps, i, next[5], now[5]),
+        selected(steps, i, next[6], now[6]),
+        selected(steps, i, next[7], now[7]),
+    ]
+}
+
+#[inline(always)]
+fn selected(steps: u32x8, i: u16, next: u32x8, now: u32x8) -> u32x8
+    ensures { EachLane result (λ k. if nat_lt i (slice_index steps k) then slice_index next k else slice_index now k) }
+{
+    u32x8::splat(u32::from(i)).simd_lt(steps).select(next, now)
+}
