@@ -5,6 +5,7 @@
 #![tactic(auto)]
 
 mod chain_hashes;
+mod eights;
 mod hashing;
 mod one_time_key;
 mod signature;

@@ -5,6 +5,7 @@ ghost use Rattle.lms_spec.specs.Ots.{chain as chain_of, last_digit as last_digit
 ghost use Rattle.lms_params.specs.OtsType.{ots_set_of};
 
 use crate::chain_hashes::ChainHashes;
+use crate::eights::eight_values;
 use crate::hashing::hasher_at;
 use lms_params::OtsType;
 use sha2::Digest;
@@ -26,9 +27,13 @@ pub fn public_hash(t: OtsType, seed: &[u8; 32], id: OtsId) -> [u8; 32]
     let last = last_digit(t);
     let mut hasher = hasher_at(&id.i, id.q);
     hasher.update(D_PBLC.to_be_bytes());
-    for i in 0..t.p() {
-        let hashes = ChainHashes::new(id, i as u16);
-        hasher.update(hashes.value_at(last, seed));
+    'eights: for eight in 0..t.p().div_ceil(8) {
+        let first = 8 * eight;
+        let ends = eight_values(id, first as u16, last, seed);
+        let count = (t.p() - first).min(8);
+        'ends: for k in 0..count {
+            hasher.update(ends[k]);
+        }
     }
     hasher.finalize()
 }

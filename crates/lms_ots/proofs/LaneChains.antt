@@ -1,0 +1,46 @@
+-- Chains as they are walked in lanes.
+use Rattle.std.proofs.Common.{ℕ, zero, suc, ◌≡◌, ◌+◌, ◌%◌, ◌<◌, ◌≤◌, ◌∙◌, List, [], ◌∷◌, ◌++◌, slice_index, refl, ap₂, arith}
+use Rattle.sha2.specs.Sha256.{sha256}
+use Rattle.lms_lanes.specs.Chains.{walked}
+use Rattle.lms_spec.specs.Bytes.{u16str}
+use Rattle.lms_spec.specs.Hashing.{place, chain_secret, chain_step}
+use Rattle.lms_spec.specs.Ots.{chain}
+
+-- from a digit on
+pub walked-chain : (id : List ℕ) (q i from steps : ℕ) (value : List ℕ) → from + steps ≤ 256
+    → walked (place id q ++ u16str i) from steps value ≡ chain id q i from steps value
+unfolding chain_step
+walked-chain id q i from zero value most = refl
+walked-chain id q i from (suc n) value most =
+    let byte : (from + n) % 256 ≡ from + n = omega (arith, most) in
+    ap₂ (λ byte x. sha256 ((place id q ++ u16str i) ++ byte ∷ x)) byte (walked-chain id q i from n value (omega (arith, most)))
+
+-- from the seed on, whose hash is the secret
+pub walked-secret : (id seed : List ℕ) (q i digit : ℕ) → digit ≤ 255
+    → walked (place id q ++ u16str i) 255 (suc digit) seed ≡ chain id q i 0 digit (chain_secret id seed q i)
+unfolding chain_step chain_secret
+walked-secret id seed q i zero most = refl
+walked-secret id seed q i (suc n) most =
+    let byte : (255 + suc n) % 256 ≡ 0 + n = omega (arith, most) in
+    ap₂ (λ byte x. sha256 ((place id q ++ u16str i) ++ byte ∷ x)) byte (walked-secret id seed q i n (omega (arith, most)))
+
+-- eight numbers in a row
+pub eight_in_row : (first k : ℕ) → k < 8
+    → slice_index (first ∷ (first + 1) ∷ (first + 2) ∷ (first + 3) ∷ (first + 4) ∷ (first + 5) ∷ (first + 6) ∷ (first + 7) ∷ []) k ≡ first + k
+eight_in_row first zero lt = omega arith
+eight_in_row first (suc zero) lt = omega arith
+eight_in_row first (suc (suc zero)) lt = omega arith
+eight_in_row first (suc (suc (suc zero))) lt = omega arith
+eight_in_row first (suc (suc (suc (suc zero)))) lt = omega arith
+eight_in_row first (suc (suc (suc (suc (suc zero))))) lt = omega arith
+eight_in_row first (suc (suc (suc (suc (suc (suc zero)))))) lt = omega arith
+eight_in_row first (suc (suc (suc (suc (suc (suc (suc zero))))))) lt = omega arith
+eight_in_row first (suc (suc (suc (suc (suc (suc (suc (suc k)))))))) lt = absurd (omega (arith, lt))
+
+-- the same, of what a lane is given
+pub lane-from_seed : (id seed : List ℕ) (q i digit number byte steps : ℕ) (start : List ℕ)
+    → number ≡ i → byte ≡ 255 → steps ≡ digit + 1 → start ≡ seed → digit ≤ 255
+    → walked (place id q ++ u16str number) byte steps start ≡ chain id q i 0 digit (chain_secret id seed q i)
+lane-from_seed id seed q i digit number byte steps start en eb es ev most =
+    let hashes : steps ≡ suc digit = omega (arith, es) in
+    (λ j. walked (place id q ++ u16str (en j)) (eb j) (hashes j) (ev j)) ∙ walked-secret id seed q i digit most
