@@ -1,3 +1,4 @@
 pub mod Candidates
 pub mod LaneChains
+pub mod Orders
 pub mod OtsParts

@@ -10,6 +10,7 @@ mod hashing;
 mod one_time_key;
 mod signature;
 mod verification;
+mod walk;
 
 pub use crate::hashing::hasher_at;
 pub use crate::one_time_key::{OtsId, chain, public_hash, secret};

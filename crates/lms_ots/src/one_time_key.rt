@@ -4,7 +4,7 @@ ghost use Rattle.lms_spec.specs.Hashing.{chain_secret};
 ghost use Rattle.lms_spec.specs.Ots.{chain as chain_of, last_digit as last_digit_of, public_hash as public_hash_of};
 ghost use Rattle.lms_params.specs.OtsType.{ots_set_of};
 
-use crate::chain_hashes::ChainHashes;
+use crate::chain_hashes::{chain_head, hash_after};
 use crate::eights::eight_values;
 use crate::hashing::hasher_at;
 use lms_params::OtsType;
@@ -42,7 +42,7 @@ pub fn public_hash(t: OtsType, seed: &[u8; 32], id: OtsId) -> [u8; 32]
 pub fn secret(seed: &[u8; 32], id: OtsId, i: u16) -> [u8; 32]
     ensures { result ≡ chain_secret id.i seed.now id.q i }
 {
-    ChainHashes::new(id, i).value_at(0, seed)
+    hash_after(&chain_head(id, i), 0xff, seed)
 }
 
 /// Takes the value of chain i from digit `from` to digit `to`, by the steps from .. to - 1 (RFC 8554, 4.3). `from` is at most
@@ -52,7 +52,12 @@ pub fn chain(id: OtsId, i: u16, from: u16, to: u16, x: &[u8; 32]) -> [u8; 32]
     requires limit { to ≤ 255 }
     ensures { result ≡ chain_of id.i id.q i from (to - from) x.now }
 {
-    ChainHashes::new(id, i).chain(from, to, x)
+    let head = chain_head(id, i);
+    let mut value = *x;
+    for j in from..to {
+        value = hash_after(&head, j as u8, &value);
+    }
+    value
 }
 
 /// The last digit of a chain, 2^w - 1.

@@ -1,5 +1,5 @@
 //! One-time signatures (RFC 8554, 4.5).
-ghost use Rattle.std.specs.Prelude.{ℕ, ◌≡◌, ◌≤◌, ◌++◌, List, length, take, IfSome, IfNone};
+ghost use Rattle.std.specs.Prelude.{ℕ, ◌≡◌, ◌+◌, ◌<◌, ◌≤◌, ◌++◌, List, length, slice_index, take, IfSome, IfNone};
 ghost use Rattle.sha2.specs.Hashers.{Holds256};
 ghost use Rattle.lms_spec.specs.Bytes.{u16str, u32str};
 ghost use Rattle.lms_spec.specs.Hashing.{place, d_mesg};
@@ -7,9 +7,10 @@ ghost use Rattle.lms_spec.specs.Parameters.{ots_signature_length};
 ghost use Rattle.lms_spec.specs.Ots.{public_hash as public_hash_of, message_hash as message_hash_of, ots_signature, IsOtsSignature, LeadsTo};
 ghost use Rattle.lms_params.specs.OtsType.{ots_set_of};
 
-use crate::chain_hashes::{ChainHashes, chain_head};
+use crate::chain_hashes::chain_head;
 use crate::hashing::hasher_at;
 use crate::one_time_key::OtsId;
+use crate::walk::walk_all;
 use byteorder::{BigEndian, ByteOrder};
 use lms_params::{OtsType, digits, split_u32};
 use sha2::{Digest, Sha256};
@@ -25,12 +26,22 @@ pub fn sign_into(t: OtsType, seed: &[u8; 32], id: OtsId, c: &[u8; 32], msg: &[u8
     ensures candidate { LeadsTo (ots_set_of t) id.i id.q out.new msg.now (public_hash_of (ots_set_of t) id.i seed.now id.q) }
 {
     let digits = digits(&message_hash(id, c, msg), t);
+    let values = walk_all(t, id, &[0xff; 265], &hashes_to(&digits), &[*seed; 265]);
     write_head(t, c, out);
     for i in 0..t.p() {
-        let hashes = ChainHashes::new(id, i as u16);
-        let value = hashes.value_at(u16::from(digits[i]), seed);
-        out[36 + 32 * i..68 + 32 * i].copy_from_slice(&value);
+        out[36 + 32 * i..68 + 32 * i].copy_from_slice(&values[i]);
     }
+}
+
+/// How many hashes lead from the seed to each digit: one makes the secret.
+fn hashes_to(digits: &[u8; 265]) -> [u16; 265]
+    ensures { (i : ℕ) → i < 265 → slice_index result i ≡ slice_index digits.now i + 1 }
+{
+    let mut hashes = [0; 265];
+    'chains: for i in 0..265 {
+        hashes[i] = u16::from(digits[i]) + 1;
+    }
+    hashes
 }
 
 /// Writes what stands before a signature's values: the typecode and the randomizer (4.5).

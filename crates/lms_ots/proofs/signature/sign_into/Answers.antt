@@ -1,6 +1,7 @@
-use Rattle.std.proofs.Common.{ℕ, ◌≡◌, ◌+◌, ◌-◌, ◌*◌, List, ◌++◌, map, take, replicate, slice_index, sym, ◌∙◌, ap, ap₂, arith, append_assoc, subst}
+use Rattle.std.proofs.Common.{ℕ, ◌≡◌, ◌+◌, ◌-◌, ◌*◌, ◌<◌, ◌≤◌, List, [], ◌++◌, map, take, replicate, get_or, slice_index, refl, sym, ◌∙◌, ap, ap₂, arith, append_assoc, subst}
 use Rattle.std.specs.List.{concat}
 use Rattle.std.proofs.lemmas.List.{take_all}
+use Rattle.std.proofs.lemmas.Simd.{get_or-replicate}
 use Rattle.std.proofs.lemmas.Slice.{take-put_mid}
 use Rattle.lms_spec.specs.Bytes.{below, u32str}
 use Rattle.lms_spec.specs.Digits.{digits_of}
@@ -9,7 +10,9 @@ use Rattle.lms_spec.specs.Ots.{chain, message_hash, message_digits, ots_signatur
 use Rattle.lms_spec.proofs.Below.{concat-below-suc}
 use Rattle.lms_spec.proofs.OneTime.{signed_value, signature-leads_to}
 use Rattle.lms_params.specs.OtsType.{ots_set_of}
-use Rattle.lms_ots.proofs.Candidates.{digit-in-front}
+use Rattle.lms_params.proofs.Widths.{most_chains}
+use Rattle.lms_ots.proofs.Candidates.{digit-in-chain, digit-in-front}
+use Rattle.lms_ots.proofs.LaneChains.{lane-from_seed, last_digit-byte}
 use Rattle.lms_ots.proofs.signature.sign_into.Goals as goal
 
 pub loop-i-preserved : goal.loop-i-preserved
@@ -27,13 +30,19 @@ loop-i-preserved c =
     let digits : c.digits-digits.result ≡ message_digits t id.i id.q c.args.c.now c.args.msg.now ++ zeros
     = c.digits-digits.ensures ∙ ap (λ hash. digits_of t hash ++ zeros) c.message_hash.ensures in
     let hash = message_hash id.i id.q c.args.c.now c.args.msg.now in
-    let digit : c.from.result ≡ slice_index (message_digits t id.i id.q c.args.c.now c.args.msg.now) i
-    = c.from.ensures ∙ (ap (λ ds. slice_index ds i) digits ∙ digit-in-front t hash zeros i (omega arith)) in
-    let of_chain = c.new-hashes.ensures in
-    let signed = rw (of_chain.key, of_chain.chain) at c.value_at-value.ensures in
+    let hash = message_hash id.i id.q c.args.c.now c.args.msg.now in
+    let a : ℕ = slice_index c.digits-digits.result i in
+    let digit : a ≡ slice_index (message_digits t id.i id.q c.args.c.now c.args.msg.now) i
+    = ap (λ ds. slice_index ds i) digits ∙ digit-in-front t hash zeros i (omega arith) in
+    let seed : List ℕ = c.args.seed.now in
+    let most : i < 265 = omega (arith, most_chains c.args.t) in
+    let small : a ≤ 255 = omega (arith, ap (λ ds. slice_index ds i) digits, digit-in-chain t hash zeros i (omega arith), last_digit-byte c.args.t) in
+    let signed : get_or c.walk_all-values.result i [] ≡ chain id.i id.q i 0 a (chain_secret id.i seed id.q i)
+    = c.walk_all-values.ensures i (omega arith)
+    ∙ lane-from_seed id.i seed id.q i a _ _ _ _ refl (get_or-replicate 265 i 255 0 most) (c.hashes_to.ensures i most) (get_or-replicate 265 i seed [] most) small in
     let next : value ≡ f i
     = c.copy_from_slice.ensures.after
-    ∙ (signed ∙ ap (λ digit. chain id.i id.q i 0 digit (chain_secret id.i c.args.seed.now id.q i)) digit) in
+    ∙ (signed ∙ ap (λ digit. chain id.i id.q i 0 digit (chain_secret id.i seed id.q i)) digit) in
     let written : take (36 + 32 * (i + 1)) _ ≡ take at out ++ value
     = take-put_mid at (68 + 32 * i - at) out value (36 + 32 * (i + 1)) (omega arith) (omega arith) in
     written ∙ (ap₂ (λ x y. x ++ y) c.loop-i.invariant next

@@ -1,0 +1,98 @@
+//! All chains of a key, each from its start to its end, those with most hashes first, so that few lanes wait for others.
+ghost use Rattle.std.specs.Prelude.{◌≡◌, ℕ, ◌+◌, ◌-◌, ◌%◌, ◌<◌, ◌≤◌, List, [], ◌++◌, length, min, slice_index, slice_index_or};
+ghost use Rattle.lms_lanes.specs.Chains.{walked};
+ghost use Rattle.lms_spec.specs.Bytes.{u16str};
+ghost use Rattle.lms_spec.specs.Hashing.{place};
+ghost use Rattle.lms_params.specs.OtsType.{ots_set_of};
+ghost use Rattle.lms_ots.specs.Orders.{chain_in, IsOrder};
+
+use crate::eights::walk_eight;
+use crate::one_time_key::OtsId;
+use lms_params::OtsType;
+
+/// Takes each chain of a key from its start by its own number of hashes, the first with its byte of `firsts`. What stands
+/// past the chains' values means nothing.
+pub(crate) fn walk_all(
+    t: OtsType,
+    id: OtsId,
+    firsts: &[u8; 265],
+    steps: &[u16; 265],
+    starts: &[[u8; 32]],
+) -> [[u8; 32]; 265]
+    requires { (ots_set_of t).p ≤ length starts.now }
+    ensures { (i : ℕ) → i < (ots_set_of t).p → slice_index_or result i []
+        ≡ walked (place id.i id.q ++ u16str i) (slice_index firsts.now i) (slice_index steps.now i) (slice_index_or starts.now i []) }
+{
+    let order = longest_first(t, steps);
+    let mut ends = [[0; 32]; 265];
+    'eights: for eight in 0..t.p().div_ceil(8) {
+        let chains = eight_of(t, &order, 8 * eight);
+        let values = walk_some(id, &chains, firsts, steps, starts);
+        put(&mut ends, &chains, &values);
+    }
+    ends
+}
+
+/// The chains of a key, those with most hashes first. Each number ends in a chain's, which are its last 16 bits.
+fn longest_first(t: OtsType, steps: &[u16; 265]) -> [u32; 265]
+    ensures { IsOrder result (ots_set_of t).p }
+{
+    let mut order = [0; 265];
+    'chains: for i in 0..t.p() {
+        order[i] = u32::from(u16::MAX - steps[i]) * 65536 + i as u32;
+    }
+    order[..t.p()].sort_unstable();
+    order
+}
+
+/// The eight chains from a place of an order on. Past the order's end its last one stands again.
+fn eight_of(t: OtsType, order: &[u32; 265], from: usize) -> [u16; 8]
+    requires { from < (ots_set_of t).p }
+    ensures { (k : ℕ) → k < 8 → slice_index result k ≡ chain_in order.now (min (from + k) ((ots_set_of t).p - 1)) }
+{
+    let mut chains = [0; 8];
+    'lanes: for k in 0..8 {
+        let place = (from + k).min(t.p() - 1);
+        chains[k] = (order[place] % 65536) as u16;
+    }
+    chains
+}
+
+/// Takes these chains from their starts by their numbers of hashes.
+fn walk_some(
+    id: OtsId,
+    chains: &[u16; 8],
+    firsts: &[u8; 265],
+    steps: &[u16; 265],
+    starts: &[[u8; 32]],
+) -> [[u8; 32]; 8]
+    requires within { (k : ℕ) → k < 8 → slice_index chains.now k < 265 }
+    requires started { (k : ℕ) → k < 8 → slice_index chains.now k < length starts.now }
+    ensures { (k : ℕ) → k < 8 → slice_index_or result k []
+        ≡ walked (place id.i id.q ++ u16str (slice_index chains.now k)) (slice_index firsts.now (slice_index chains.now k))
+        (slice_index steps.now (slice_index chains.now k)) (slice_index_or starts.now (slice_index chains.now k) []) }
+{
+    let mut lane_firsts = [0; 8];
+    let mut lane_steps = [0; 8];
+    let mut lane_starts = [[0; 32]; 8];
+    'lanes: for k in 0..8 {
+        let i = usize::from(chains[k]);
+        lane_firsts[k] = u16::from(firsts[i]);
+        lane_steps[k] = steps[i];
+        lane_starts[k] = starts[i];
+    }
+    walk_eight(id, chains, &lane_firsts, &lane_steps, &lane_starts)
+}
+
+/// Puts the values of eight chains into their places.
+fn put(ends: &mut [[u8; 32]; 265], chains: &[u16; 8], values: &[[u8; 32]; 8])
+    requires { (k : ℕ) → k < 8 → slice_index chains.now k < 265 }
+    ensures stay { (f : ℕ → List ℕ) → ((k : ℕ) → k < 8 → slice_index_or values.now k [] ≡ f (slice_index chains.now k))
+        → (i : ℕ) → slice_index_or ends.old i [] ≡ f i → slice_index_or ends.new i [] ≡ f i }
+    ensures come { (f : ℕ → List ℕ) → ((k : ℕ) → k < 8 → slice_index_or values.now k [] ≡ f (slice_index chains.now k))
+        → (k : ℕ) → k < 8 → slice_index_or ends.new (slice_index chains.now k) [] ≡ f (slice_index chains.now k) }
+{
+    'lanes: for k in 0..8 {
+        ends[usize::from(chains[k])] = values[k];
+    }
+}
