@@ -1,10 +1,11 @@
 use crate::tests::{LEVEL, RANDOMIZER, THREE_LEVELS, cover, key_of, sign, slow_key, vectors};
-use crate::{Forest, HssKey, Levels, verify};
+use crate::{Forest, HssKey, Levels, Progress, verify};
 use hex::FromHex;
 use lms_params::{LmsType, OtsType, OutOfMemory};
 use lms_slow::slow_sign;
 use lms_slow::vectors::Vector;
 use std::process::Abort;
+use std::sync::atomic::{AtomicU64, Ordering};
 use std::test::Fail;
 use std::thread::Threads;
 
@@ -225,5 +226,41 @@ fn covers_and_signs_after_refused_memory(rt: HostRuntime) -> Result<(), Fail> {
         Err(OutOfMemory) => key.public_key(&rt, rt.alloc())?,
     };
     check_accepted(&rt, &public, &signature);
+    Ok(())
+}
+
+/// Adds up what it is told.
+#[derive(Drop)]
+struct Sums {
+    to_do: AtomicU64,
+    done: AtomicU64,
+}
+
+impl Progress for Sums {
+    fn begin(&self, leaves: u64) {
+        self.to_do.fetch_add(leaves, Ordering::SeqCst);
+    }
+
+    fn done(&self, leaves: u64) {
+        self.done.fetch_add(leaves, Ordering::SeqCst);
+    }
+}
+
+/// The top tree alone; then three levels, of which the lower two have two trees that the indices go through.
+#[test]
+fn tells_of_all_leaves(rt: HostRuntime) -> Result<(), Fail> {
+    let key = key_of(&[QUICK; 3])?;
+    let sums = Sums {
+        to_do: AtomicU64::new(0),
+        done: AtomicU64::new(0),
+    };
+    let _public = key.public_key_watched(&rt, rt.alloc(), &sums)?;
+    assert_eq!(rt; sums.to_do.load(Ordering::SeqCst), 32);
+    assert_eq!(rt; sums.done.load(Ordering::SeqCst), 32);
+    assert!(rt; key.capacity() >= 1025);
+    let forest = Forest::cover_watched(&rt, rt.alloc(), key, 1023, 2, &sums)?;
+    drop(forest);
+    assert_eq!(rt; sums.to_do.load(Ordering::SeqCst), 32 + 5 * 32);
+    assert_eq!(rt; sums.done.load(Ordering::SeqCst), 32 + 5 * 32);
     Ok(())
 }
