@@ -26,7 +26,15 @@ pub fn sign_into(t: OtsType, seed: &[u8; 32], id: OtsId, c: &[u8; 32], msg: &[u8
     ensures candidate { LeadsTo (ots_set_of t) id.i id.q out.new msg.now (public_hash_of (ots_set_of t) id.i seed.now id.q) }
 {
     let digits = digits(&message_hash(id, c, msg), t);
-    let values = walk_all(t, id, &[0xff; 265], &hashes_to(&digits), &[*seed; 265]);
+    let mut values = [[0; 32]; 265];
+    walk_all(
+        t,
+        id,
+        &[0xff; 265],
+        &hashes_to(&digits),
+        &[*seed],
+        &mut values,
+    );
     write_head(t, c, out);
     for i in 0..t.p() {
         out[36 + 32 * i..68 + 32 * i].copy_from_slice(&values[i]);

@@ -107,7 +107,8 @@ fn ends_hash(t: OtsType, id: OtsId, digits: &[u8; 265], values: &[[u8; 32]]) -> 
     requires limit { (i : ℕ) → i < (ots_set_of t).p → slice_index digits.now i ≤ last_digit_of (ots_set_of t) }
     ensures { result ≡ ends_hash_of id.i id.q (map (end_from (ots_set_of t) id.i id.q digits.now values.now) (below (ots_set_of t).p)) }
 {
-    let ends = walk_all(t, id, digits, &steps_from(t, digits), values);
+    let mut ends = [[0; 32]; 265];
+    walk_all(t, id, digits, &steps_from(t, digits), values, &mut ends);
     let mut hasher = hasher_at(&id.i, id.q);
     hasher.update(D_PBLC.to_be_bytes());
     for i in 0..t.p() {

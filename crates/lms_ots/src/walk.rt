@@ -10,27 +10,27 @@ use crate::eights::walk_eight;
 use crate::one_time_key::OtsId;
 use lms_params::OtsType;
 
-/// Takes each chain of a key from its start by its own number of hashes, the first with its byte of `firsts`. What stands
-/// past the chains' values means nothing.
+/// Takes each chain of a key from its start by its own number of hashes, the first with its byte of `firsts`, and writes
+/// its end at its number. The last start stands for all chains after it, too. What is written past the chains means nothing.
 pub(crate) fn walk_all(
     t: OtsType,
     id: OtsId,
     firsts: &[u8; 265],
     steps: &[u16; 265],
     starts: &[[u8; 32]],
-) -> [[u8; 32]; 265]
-    requires { (ots_set_of t).p ≤ length starts.now }
-    ensures { (i : ℕ) → i < (ots_set_of t).p → slice_index_or result i []
-        ≡ walked (place id.i id.q ++ u16str i) (slice_index firsts.now i) (slice_index steps.now i) (slice_index_or starts.now i []) }
+    ends: &mut [[u8; 32]; 265],
+)
+    requires { 0 < length starts.now }
+    ensures { (i : ℕ) → i < (ots_set_of t).p → slice_index_or ends.new i []
+        ≡ walked (place id.i id.q ++ u16str i) (slice_index firsts.now i) (slice_index steps.now i)
+        (slice_index_or starts.now (min i (length starts.now - 1)) []) }
 {
     let order = longest_first(t, steps);
-    let mut ends = [[0; 32]; 265];
     'eights: for eight in 0..t.p().div_ceil(8) {
         let chains = eight_of(t, &order, 8 * eight);
         let values = walk_some(id, &chains, firsts, steps, starts);
-        put(&mut ends, &chains, &values);
+        put(ends, &chains, &values);
     }
-    ends
 }
 
 /// The chains of a key, those with most hashes first. Each number ends in a chain's, which are its last 16 bits.
@@ -67,10 +67,10 @@ fn walk_some(
     starts: &[[u8; 32]],
 ) -> [[u8; 32]; 8]
     requires within { (k : ℕ) → k < 8 → slice_index chains.now k < 265 }
-    requires started { (k : ℕ) → k < 8 → slice_index chains.now k < length starts.now }
+    requires started { 0 < length starts.now }
     ensures { (k : ℕ) → k < 8 → slice_index_or result k []
         ≡ walked (place id.i id.q ++ u16str (slice_index chains.now k)) (slice_index firsts.now (slice_index chains.now k))
-        (slice_index steps.now (slice_index chains.now k)) (slice_index_or starts.now (slice_index chains.now k) []) }
+        (slice_index steps.now (slice_index chains.now k)) (slice_index_or starts.now (min (slice_index chains.now k) (length starts.now - 1)) []) }
 {
     let mut lane_firsts = [0; 8];
     let mut lane_steps = [0; 8];
@@ -79,7 +79,7 @@ fn walk_some(
         let i = usize::from(chains[k]);
         lane_firsts[k] = u16::from(firsts[i]);
         lane_steps[k] = steps[i];
-        lane_starts[k] = starts[i];
+        lane_starts[k] = starts[i.min(starts.len() - 1)];
     }
     walk_eight(id, chains, &lane_firsts, &lane_steps, &lane_starts)
 }

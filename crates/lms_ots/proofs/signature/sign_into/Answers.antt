@@ -1,5 +1,6 @@
-use Rattle.std.proofs.Common.{ℕ, ◌≡◌, ◌+◌, ◌-◌, ◌*◌, ◌<◌, ◌≤◌, List, [], ◌++◌, map, take, replicate, get_or, slice_index, refl, sym, ◌∙◌, ap, ap₂, arith, append_assoc, subst}
+use Rattle.std.proofs.Common.{ℕ, ◌≡◌, ◌+◌, ◌-◌, ◌*◌, ◌<◌, ◌≤◌, List, [], ◌∷◌, ◌++◌, map, take, replicate, get_or, slice_index, refl, sym, ◌∙◌, ap, ap₂, arith, append_assoc, subst}
 use Rattle.std.specs.List.{concat}
+use Rattle.std.proofs.Math.Nat.{min-zero}
 use Rattle.std.proofs.lemmas.List.{take_all}
 use Rattle.std.proofs.lemmas.Simd.{get_or-replicate}
 use Rattle.std.proofs.lemmas.Slice.{take-put_mid}
@@ -37,9 +38,9 @@ loop-i-preserved c =
     let seed : List ℕ = c.args.seed.now in
     let most : i < 265 = omega (arith, most_chains c.args.t) in
     let small : a ≤ 255 = omega (arith, ap (λ ds. slice_index ds i) digits, digit-in-chain t hash zeros i (omega arith), last_digit-byte c.args.t) in
-    let signed : get_or c.walk_all-values.result i [] ≡ chain id.i id.q i 0 a (chain_secret id.i seed id.q i)
-    = c.walk_all-values.ensures i (omega arith)
-    ∙ lane-from_seed id.i seed id.q i a _ _ _ _ refl (get_or-replicate 265 i 255 0 most) (c.hashes_to.ensures i most) (get_or-replicate 265 i seed [] most) small in
+    let signed : get_or c.walk_all.new.ends i [] ≡ chain id.i id.q i 0 a (chain_secret id.i seed id.q i)
+    = c.walk_all.ensures i (omega arith)
+    ∙ lane-from_seed id.i seed id.q i a _ _ _ _ refl (get_or-replicate 265 i 255 0 most) (c.hashes_to.ensures i most) (ap (λ k. get_or (seed ∷ []) k []) (min-zero i)) small in
     let next : value ≡ f i
     = c.copy_from_slice.ensures.after
     ∙ (signed ∙ ap (λ digit. chain id.i id.q i 0 digit (chain_secret id.i seed id.q i)) digit) in

@@ -1,4 +1,4 @@
-use Rattle.std.proofs.Common.{ℕ, ◌≡◌, ◌+◌, ◌<◌, ◌≤◌, List, [], ◌++◌, map, get_or, slice_index, refl, sym, ◌∙◌, ap, arith, append_assoc, subst}
+use Rattle.std.proofs.Common.{◌-◌, length, min, ℕ, ◌≡◌, ◌+◌, ◌<◌, ◌≤◌, List, [], ◌++◌, map, get_or, slice_index, refl, sym, ◌∙◌, ap, arith, append_assoc, subst}
 use Rattle.std.specs.List.{concat}
 use Rattle.sha2.specs.Hashers.{Holds256}
 use Rattle.lms_spec.specs.Bytes.{below, u16str}
@@ -18,11 +18,13 @@ loop-i-preserved c =
     let so_far = concat (map f (below i)) in
     let t = ots_set_of c.args.t in
     let lt : i < t.p = omega arith in
-    let end : List ℕ = get_or c.walk_all-ends.result i [] in
+    let end : List ℕ = get_or c.walk_all.new.ends i [] in
+    let own : min i (length c.args.values.now - 1) ≡ i = omega (arith, lt, c.requires.count) in
     let most : last_digit t ≤ 255 = last_digit-byte c.args.t in
     let next : end ≡ f i
-    = c.walk_all-ends.ensures i lt
-    ∙ lane-from_digit id.i id.q i (slice_index c.args.digits.now i) (last_digit t) _ _ _ _ refl (c.steps_from.ensures i lt) refl (c.requires.limit i lt) most in
+    = c.walk_all.ensures i lt
+    ∙ lane-from_digit id.i id.q i (slice_index c.args.digits.now i) (last_digit t) _ _ _ _ refl (c.steps_from.ensures i lt)
+    (ap (λ j. get_or c.args.values.now j []) own) (c.requires.limit i lt) most in
     let more : (prefix ++ so_far) ++ end ≡ prefix ++ concat (map f (below (i + 1)))
     = append_assoc prefix so_far end ∙ ap (λ text. prefix ++ text) (ap (λ text. so_far ++ text) next ∙ sym (concat-below-suc f i)) in
     subst (Holds256 c.update-in-loop-i.new.self) more (c.update-in-loop-i.ensures _ c.loop-i.invariant)

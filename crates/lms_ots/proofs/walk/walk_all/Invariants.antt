@@ -1,4 +1,4 @@
-use Rattle.std.proofs.Common.{◌≡◌, ◌*◌, ◌<◌, ◌++◌, ℕ, [], get_or, slice_index}
+use Rattle.std.proofs.Common.{◌-◌, length, min, ◌≡◌, ◌*◌, ◌<◌, ◌++◌, ℕ, [], get_or, slice_index}
 use Rattle.lms_lanes.specs.Chains.{walked}
 use Rattle.lms_spec.specs.Bytes.{u16str}
 use Rattle.lms_spec.specs.Hashing.{place}
@@ -10,4 +10,4 @@ abbrev pub invariant-eights : goal.invariant-eights
 invariant-eights l = (m : ℕ) → m < 8 * l.eight → m < (ots_set_of l.fn.t).p
     → get_or l.ends (chain_in l.order m) []
     ≡ walked (place l.id.i l.id.q ++ u16str (chain_in l.order m)) (slice_index l.fn.firsts (chain_in l.order m))
-    (slice_index l.fn.steps (chain_in l.order m)) (get_or l.fn.starts (chain_in l.order m) [])
+    (slice_index l.fn.steps (chain_in l.order m)) (get_or l.fn.starts (min (chain_in l.order m) (length l.fn.starts - 1)) [])
