@@ -1,5 +1,5 @@
 //! The public hash that a one-time signature leads to (RFC 8554, 4.6).
-ghost use Rattle.std.specs.Prelude.{ℕ, ◌≡◌, ◌-◌, ◌≤◌, ◌<◌, ◌++◌, List, [], map, length, slice_index, IfSome, IfNone};
+ghost use Rattle.std.specs.Prelude.{ℕ, ◌≡◌, ◌≤◌, ◌<◌, ◌++◌, List, [], map, length, slice_index, IfSome, IfNone};
 ghost use Rattle.sha2.specs.Sha256.{sha256};
 ghost use Rattle.lms_spec.specs.Bytes.{below};
 ghost use Rattle.lms_spec.specs.Parameters.{OtsSet};
@@ -9,9 +9,8 @@ ghost use Rattle.lms_ots.specs.Heads.{ots_head};
 ghost use Rattle.lms_ots.specs.Verifying.{HasTaken};
 
 use crate::hashing::hasher_at;
-use crate::one_time_key::{D_PBLC, OtsId, last_digit};
+use crate::one_time_key::{D_PBLC, OtsId, chain, last_digit};
 use crate::signature::{Signature, message_hasher, message_head};
-use crate::walk::walk_all;
 use lms_params::{OtsType, digits};
 use sha2::{Digest, Sha256};
 
@@ -107,25 +106,11 @@ fn ends_hash(t: OtsType, id: OtsId, digits: &[u8; 265], values: &[[u8; 32]]) -> 
     requires limit { (i : ℕ) → i < (ots_set_of t).p → slice_index digits.now i ≤ last_digit_of (ots_set_of t) }
     ensures { result ≡ ends_hash_of id.i id.q (map (end_from (ots_set_of t) id.i id.q digits.now values.now) (below (ots_set_of t).p)) }
 {
-    let mut ends = [[0; 32]; 265];
-    walk_all(t, id, digits, &steps_from(t, digits), values, &mut ends);
+    let last = last_digit(t);
     let mut hasher = hasher_at(&id.i, id.q);
     hasher.update(D_PBLC.to_be_bytes());
     for i in 0..t.p() {
-        hasher.update(ends[i]);
+        hasher.update(chain(id, i as u16, u16::from(digits[i]), last, &values[i]));
     }
     hasher.finalize()
-}
-
-/// How many steps lead from each digit to the last.
-fn steps_from(t: OtsType, digits: &[u8; 265]) -> [u16; 265]
-    requires { (i : ℕ) → i < (ots_set_of t).p → slice_index digits.now i ≤ last_digit_of (ots_set_of t) }
-    ensures { (i : ℕ) → i < (ots_set_of t).p → slice_index result i ≡ last_digit_of (ots_set_of t) - slice_index digits.now i }
-{
-    let last = last_digit(t);
-    let mut steps = [0; 265];
-    'chains: for i in 0..t.p() {
-        steps[i] = last - u16::from(digits[i]);
-    }
-    steps
 }

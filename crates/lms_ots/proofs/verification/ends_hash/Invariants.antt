@@ -9,4 +9,4 @@ use Rattle.lms_ots.proofs.verification.ends_hash.Given as goal
 
 abbrev pub invariant-loop-i : goal.invariant-loop-i
 invariant-loop-i l =
-    Holds256 l.hasher (place l.fn.id.i l.fn.id.q ++ u16str d_pblc ++ concat (map (end_from (ots_set_of l.fn.t) l.fn.id.i l.fn.id.q l.fn.digits l.fn.values) (below l.i)))
+    Holds256 l.hasher (place l.id.i l.id.q ++ u16str d_pblc ++ concat (map (end_from (ots_set_of l.fn.t) l.id.i l.id.q l.fn.digits l.fn.values) (below l.i)))
