@@ -74,7 +74,7 @@ pub fn make_key<W: World, O: Write>(
     ensures files { SameFilesBut public.now (W.known world.old) (W.known world.new) }
 {
     let lock = lock_state(alloc, world, state)?;
-    if world.exists(state) {
+    if world.exists(&lock) {
         return Err(Fault::StateExists);
     }
     let public_key = key.public_key_watched(rt, alloc, progress)?;

@@ -9,12 +9,12 @@ use Rattle.std.specs.Simd.{first_chunks}
 use Rattle.sha2.specs.Sha256.{sha256}
 use Rattle.lms_spec.specs.Parameters.{ots_set, lms_set}
 use Rattle.lms_spec.specs.Bytes.{u32str, number_of}
-use Rattle.lms_spec.specs.Hss.{capacity_of}
+use Rattle.lms_spec.specs.Hss.{capacity_of, most_levels}
 use Rattle.lms_params.specs.LmsType.{lms_set_of}
 use Rattle.lms_params.specs.OtsType.{ots_set_of}
 use Rattle.lms_params.specs.declared.lms_type.LmsType.{LmsType}
 use Rattle.lms_params.specs.declared.ots_type.OtsType.{OtsType}
-use Rattle.lms_hss.specs.Levels.{IsAdmitted}
+use Rattle.lms_hss.specs.Levels.{IsAdmitted, most_height}
 use Rattle.lms_hss.specs.Keys.{hss_key_of}
 use Rattle.lms_hss.specs.declared.key.HssKey.{HssKey as KeyOfCode}
 use Rattle.lms_image.specs.declared.image.ImageFault.{ImageFault}
@@ -177,11 +177,11 @@ unfoldable pub has_fault : ImageFault → List ℕ → Bool
 has_fault Truncated text = nat_lt (length text) 12
 has_fault NotAnImage text = not (bytes_eq (take 4 text) magic)
 has_fault UnknownVersion text = not (version_in text == 1 || version_in text == 2)
-has_fault BadLevels text = count_in text == 0 || nat_lt 8 (count_in text)
+has_fault BadLevels text = count_in text == 0 || nat_lt most_levels (count_in text)
 has_fault WrongLength text = not (length text == length_of (version_in text) (count_in text))
 has_fault Damaged text = not (bytes_eq (digest_in text) (sha256 (body_in text)))
 has_fault BadType text = not (list_all is_level (levels_in text))
-has_fault TooTall text = nat_lt 60 (heights_in text)
+has_fault TooTall text = nat_lt most_height (heights_in text)
 has_fault CounterTooHigh text = nat_lt (2 ^ heights_in text) (counter_in text)
 has_fault OpeningTooHigh text = nat_lt (counter_in text) (openings_in text)
 has_fault BurntTooHigh text = nat_lt (counter_in text) (burnt_in text)

@@ -3,9 +3,10 @@ use Rattle.std.specs.Prelude.{ℕ, ◌≡◌, ◌+◌, ◌^◌, ◌<◌, ◌≤�
 use Rattle.std.specs.Prelude.Result.{Ok, Err}
 use Rattle.std.specs.List.{concat, list_all}
 use Rattle.lms_spec.specs.Bytes.{u32str}
+use Rattle.lms_spec.specs.Hss.{most_levels}
 use Rattle.lms_params.specs.declared.lms_type.LmsType.{LmsType}
 use Rattle.lms_params.specs.declared.ots_type.OtsType.{OtsType}
-use Rattle.lms_hss.specs.Levels.{IsAdmitted}
+use Rattle.lms_hss.specs.Levels.{IsAdmitted, most_height}
 use Rattle.lms_hss.specs.declared.levels.KeyFault.{KeyFault}
 use Rattle.lms_hss.specs.declared.levels.KeyFault.TheVariants.{NoLevels, TooManyLevels, TooTall as TallLevels}
 use Rattle.lms_image.specs.declared.image.ImageFault.{ImageFault}
@@ -17,7 +18,7 @@ use Rattle.lms_image.specs.Image.{Fields, u64str, magic, code_of, later_text, le
 -- a text that begins as the image of this version and of this many levels does, and goes on with these bytes
 pub record IsHeaded (text rest : List ℕ) (version : Version) (count : ℕ) : Type 0 where
   pub some_level : 1 ≤ count
-  pub eight_at_most : count ≤ 8
+  pub eight_at_most : count ≤ most_levels
   pub parts : text ≡ magic ++ (u32str (code_of version) ++ (u32str count ++ rest))
 
 -- how many bytes the numbers take that stand behind the counter
@@ -59,5 +60,5 @@ refused_as TooManyLevels = BadType
 abbrev pub ReadsLevels : List (List ℕ) → Result (List (LmsType × OtsType)) ImageFault → Type 0
 ReadsLevels texts (Ok levels) = (map level_text levels ≡ texts) × IsAdmitted levels
 ReadsLevels texts (Err BadType) = list_all is_level texts ≡ false
-ReadsLevels texts (Err TooTall) = (list_all is_level texts ≡ true) × (60 < sum_by height_in texts)
+ReadsLevels texts (Err TooTall) = (list_all is_level texts ≡ true) × (most_height < sum_by height_in texts)
 ReadsLevels texts (Err _) = ⊥

@@ -4,7 +4,7 @@ ghost use Rattle.std.specs.Prelude.{◌≡◌, ◌+◌, ◌*◌, ◌≤◌, ◌<
 ghost use Rattle.std.specs.List.{list_all};
 ghost use Rattle.sha2.specs.Sha256.{sha256};
 ghost use Rattle.lms_spec.specs.Bytes.{u32str};
-ghost use Rattle.lms_spec.specs.Hss.{capacity_of};
+ghost use Rattle.lms_spec.specs.Hss.{capacity_of, most_levels};
 ghost use Rattle.lms_hss.specs.Keys.{hss_key_of};
 ghost use Rattle.lms_image.specs.declared.version.Version.TheVariants.{Second};
 ghost use Rattle.lms_image.specs.Image.{image_of, fault_of, head_text, level_text, is_level, IsImage, HasImage};
@@ -231,7 +231,7 @@ struct Parts<'a> {
 impl<'a> Parts<'a> {
     /// Cuts what follows a number of levels, 1 to 8. None exactly where its length isn't theirs in this version.
     fn cut(version: Version, count: usize, rest: &'a [u8]) -> Option<Self>
-        requires { count ≤ 8 }
+        requires { count ≤ most_levels }
         ensures parts { IfSome result (λ p. IsCut count rest.now (record {
           version = version;
           levels = p.levels.now;
@@ -265,7 +265,7 @@ impl<'a> Parts<'a> {
 /// The levels that these bytes name; or `BadType` or `TooTall`, the first that holds.
 fn read_levels(texts: &[[u8; 8]]) -> Result<Levels, ImageFault>
     requires some { 1 ≤ length texts.now }
-    requires at_most { length texts.now ≤ 8 }
+    requires at_most { length texts.now ≤ most_levels }
     ensures { ReadsLevels texts.now result }
 {
     let Some(sets) = read_sets(texts) else {
@@ -291,7 +291,7 @@ fn refused(fault: KeyFault) -> ImageFault
 /// unknown.
 fn read_sets(texts: &[[u8; 8]]) -> Option<[(LmsType, OtsType); 8]>
     requires some { 1 ≤ length texts.now }
-    requires at_most { length texts.now ≤ 8 }
+    requires at_most { length texts.now ≤ most_levels }
     ensures some { IfSome result (λ sets. map level_text (take (length texts.now) sets) ≡ texts.now) }
     ensures none { IfNone result (IsFalse (list_all is_level texts.now)) }
 {

@@ -18,4 +18,3 @@ mod writes;
 
 pub use crate::file_store::FileStore;
 pub use crate::locking::{StateLock, TryLock, lock};
-pub use crate::paths::exists;

@@ -1,7 +1,7 @@
 //! The lock on a store's file.
 ghost use Rattle.std.specs.Prelude.{◌≡◌, IfOk, IfSome, IsTrue, string_bytes};
 
-use crate::paths::{OWNER_ONLY, resolve, sibling};
+use crate::paths::{OWNER_ONLY, exists, resolve, sibling};
 use lms_params::OutOfMemory;
 use std::alloc::Global;
 use std::fs::{File, OpenOptions};
@@ -41,6 +41,12 @@ impl<F> StateLock<F> {
         ensures { result.now ≡ string_bytes self.now.path }
     {
         self.path.as_str()
+    }
+
+    /// Whether there is the state's file, or anything else in its place; true also where that can't be told. So a new state that is
+    /// written only where this is false takes the place of none.
+    pub fn is_of_a_state<R: Files>(&self, files: &R) -> bool {
+        exists(files, self.path())
     }
 }
 

@@ -43,9 +43,8 @@ pub(crate) fn folder_of(path: &str) -> &str
     }
 }
 
-/// Whether there is a file, a folder or a link of this name; true also where that can't be told. So what is written
-/// only where this is false never takes the place of a state.
-pub fn exists<R: Files>(files: &R, name: &str) -> bool {
+/// Whether there is a file, a folder or a link of this name; true also where that can't be told.
+pub(crate) fn exists<R: Files>(files: &R, name: &str) -> bool {
     match fs::symlink_metadata(files, name) {
         Ok(_) => true,
         Err(error) => error.kind() != ErrorKind::NotFound,

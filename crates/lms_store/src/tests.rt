@@ -1,7 +1,8 @@
 mod recording;
 mod replacing;
 
-use crate::{FileStore, exists, lock};
+use crate::paths::exists;
+use crate::{FileStore, lock};
 use lms_book::{ReadFault, StateStore, StoreFault};
 use lms_params::OutOfMemory;
 use std::fs;
@@ -209,14 +210,15 @@ fn a_link_is_followed(rt: HostRuntime) -> Result<(), Fail> {
     Ok(())
 }
 
-/// Whether the lock on a state is had by this name, and its store takes a text once the name is gone.
+/// Whether the lock on a state is had by this name, and still leads to it once the name is gone: the state is there, and its store
+/// takes a text.
 fn leads_past(rt: &HostRuntime, name: &str, text: &[u8]) -> Result<bool, Fail> {
     let Some(held) = lock(rt, rt.alloc(), name)? else {
         return Ok(false);
     };
     fs::remove_file(rt, name)?;
     let mut store = FileStore::locked(rt.alloc(), rt, &held)?;
-    Ok(takes(&mut store, text) && reads(rt, &mut store, text))
+    Ok(held.is_of_a_state(rt) && takes(&mut store, text) && reads(rt, &mut store, text))
 }
 
 /// The store of a lock is where the name led to when it was locked, whatever becomes of the name.

@@ -6,7 +6,7 @@ use crate::contents::{Contents, Taker};
 use crate::world::{World, WorldFault};
 use lms_blocks::read_block;
 use lms_params::OutOfMemory;
-use lms_store::{FileStore, StateLock, TryLock, exists, lock};
+use lms_store::{FileStore, StateLock, TryLock, lock};
 use std::alloc::Global;
 use std::fs::OpenFile;
 use std::io::{ErrorKind, Read};
@@ -62,8 +62,8 @@ where
         fs::write(self.files, name, bytes).map_err(|error| fault_of(&error))
     }
 
-    fn exists(&self, name: &str) -> bool {
-        exists(self.files, name)
+    fn exists(&self, lock: &StateLock<R::File>) -> bool {
+        lock.is_of_a_state(self.files)
     }
 
     fn lock(&self, alloc: Global, name: &str) -> Result<Option<StateLock<R::File>>, OutOfMemory> {

@@ -140,7 +140,7 @@ impl World for MemoryWorld {
             .map_err(|_| WorldFault::OutOfMemory)
     }
 
-    fn exists(&self, _name: &str) -> bool {
+    fn exists(&self, _lock: &MemoryLock) -> bool {
         match &self.state {
             Some(store) => store.text().is_some(),
             None => false,

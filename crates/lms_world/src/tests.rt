@@ -267,9 +267,13 @@ fn a_folder_breaks_off(rt: HostRuntime) -> Result<(), Fail> {
     Ok(())
 }
 
-/// Whether a name exists for the files of the disk.
-fn is_there(rt: &HostRuntime, name: &str) -> bool {
-    DiskWorld::new(rt).exists(name)
+/// Whether the state of a name exists, once it is locked. `None` where it is not.
+fn is_there(rt: &HostRuntime, name: &str) -> Option<bool> {
+    let world = DiskWorld::new(rt);
+    match world.lock(rt.alloc(), name) {
+        Ok(Some(lock)) => Some(world.exists(&lock)),
+        _ => None,
+    }
 }
 
 #[test]
@@ -277,12 +281,17 @@ fn what_can_not_be_told_exists(rt: HostRuntime) -> Result<(), Fail> {
     empty_folder(&rt, "disk_world_names")?;
     fs::write(&rt, "disk_world_names/file", b"".as_slice())?;
     let long = "n".repeat(rt.alloc(), 5000)?;
-    assert!(rt; !is_there(&rt, "disk_world_names/state"));
-    assert!(rt; is_there(&rt, "disk_world_names/file"));
-    assert!(rt; is_there(&rt, "disk_world_names/file/state"));
-    assert!(rt; is_there(&rt, long.as_str()));
+    assert!(rt; is_there(&rt, "disk_world_names/state") == Some(false));
+    assert!(rt; is_there(&rt, "disk_world_names/file") == Some(true));
+    assert!(rt; is_there(&rt, "disk_world_names/file/state").is_none());
+    assert!(rt; is_there(&rt, long.as_str()).is_none());
     let poor = PoorFiles { files: &rt };
-    assert!(rt; DiskWorld::new(&poor).exists("disk_world_names/state"));
+    let world = DiskWorld::new(&poor);
+    let Some(lock) = world.lock(rt.alloc(), "disk_world_names/file")? else {
+        return Err(Fail::from("the state can be locked"));
+    };
+    fs::remove_file(&rt, "disk_world_names/file")?;
+    assert!(rt; world.exists(&lock));
     fs::remove_dir_all(&rt, "disk_world_names")?;
     Ok(())
 }

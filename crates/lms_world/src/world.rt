@@ -65,16 +65,16 @@ pub trait World {
         ensures others { SameFilesBut name.now (known self.old) (known self.new) }
         ensures states { (state : List ℕ) → Stays (known self.old) (known self.new) state };
 
-    /// True where there is a state of this name, and where that can't be found out.
-    fn exists(&self, name: &str) -> bool
-        ensures missing { result ≡ false → (known self.now).may_lack name.now }
-        ensures there { result ≡ true → MayExist (known self.now) name.now };
-
     /// Locks the state of this name, without waiting. `None` where the lock is not available, `OutOfMemory` where memory for
     /// it was refused.
     fn lock(&self, alloc: Global, name: &str) -> Result<Option<Self::Lock>, OutOfMemory>
         ensures used { IfOk result (λ found. found ≡ None → (known self.now).may_be_in_use name.now) }
         ensures locked { IfOk result (λ found. IfSome found (λ lock. is_lock_of lock name.now)) };
+
+    /// True where there is the state of the lock, and where that can't be found out.
+    fn exists(&self, lock: &Self::Lock) -> bool
+        ensures missing { result ≡ false → (state : List ℕ) → is_lock_of lock.now state → (known self.now).may_lack state }
+        ensures there { result ≡ true → (state : List ℕ) → is_lock_of lock.now state → MayExist (known self.now) state };
 
     /// Takes out what keeps the state of the lock. Where there is no such state, its reads fail. No file is changed.
     ///

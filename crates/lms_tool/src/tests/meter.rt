@@ -1,13 +1,18 @@
 //! What a run that works out trees tells on standard error.
+use super::batch::{batch, lines};
 use super::lines::Marked;
+use super::state::{ID, INFO, SEED, keygen, sign_text};
 use crate::meter::{Meter, Wiping};
 use lms_hss::Progress;
+use lms_program::run::run_watched;
+use lms_world::{MemoryWorld, World};
 use std::fmt::Display;
 use std::io;
 use std::io::{Print, Write};
 use std::sync::atomic::{AtomicU64, Ordering};
 use std::sync::{Mutex, Wait};
 use std::test::Fail;
+use std::thread::Threads;
 use std::time::{Clock, Duration};
 
 /// A clock that stands until it is set, in milliseconds.
@@ -122,5 +127,99 @@ fn on_a_terminal_a_line_goes_before_others_come(rt: HostRuntime) -> Result<(), F
     output.write_all(b"more\n")?;
     assert!(rt; errors.is("\r\x1b[K2 of 4 leaves\r\x1b[K4 of 4 leaves\r\x1b[K"));
     assert!(rt; output.writer.0.as_slice() == b"index |0\n|!more\n|");
+    Ok(())
+}
+
+/// Adds up what it is told.
+#[derive(Drop)]
+struct Sums {
+    to_do: AtomicU64,
+    done: AtomicU64,
+}
+
+impl Progress for Sums {
+    fn begin(&self, leaves: u64) {
+        self.to_do.fetch_add(leaves, Ordering::SeqCst);
+    }
+
+    fn done(&self, leaves: u64) {
+        self.done.fetch_add(leaves, Ordering::SeqCst);
+    }
+}
+
+/// Whether a run is done, and tells that it is to work out so many leaves, and of each.
+fn tells_of(
+    rt: &(impl Threads + Wait + AllocGlobal + Sync),
+    words: &[&str],
+    world: &mut MemoryWorld,
+    input: &[u8],
+    leaves: u64,
+) -> bool {
+    let sums = Sums {
+        to_do: AtomicU64::new(0),
+        done: AtomicU64::new(0),
+    };
+    let mut rest = input;
+    let mut output = Vec::new(rt.alloc());
+    let mut errors = Vec::new(rt.alloc());
+    let status = run_watched(
+        rt,
+        rt.alloc(),
+        words,
+        world,
+        &mut rest,
+        &mut output,
+        &mut errors,
+        &sums,
+    );
+    status.code() == 0
+        && sums.to_do.load(Ordering::SeqCst) == leaves
+        && sums.done.load(Ordering::SeqCst) == leaves
+}
+
+#[test]
+fn keygen_sign_and_batch_tell_of_their_leaves(rt: HostRuntime) -> Result<(), Fail> {
+    let mut world = MemoryWorld::new(rt.alloc());
+    world.write("text", b"abc")?;
+    let jobs = lines(rt.alloc(), 2)?;
+    assert!(rt; tells_of(&rt, &keygen("5/2,5/2", SEED, ID), &mut world, b"", 32));
+    assert!(rt; tells_of(&rt, &sign_text(), &mut world, b"", 64));
+    assert!(rt; tells_of(&rt, &batch("2"), &mut world, &jobs, 64));
+    assert!(rt; tells_of(&rt, &INFO, &mut world, b"", 0));
+    Ok(())
+}
+
+/// What prints nothing, and says so.
+#[derive(Drop)]
+struct Closed;
+
+impl Print for Closed {
+    fn print<D: Display + Drop>(&self, _value: D) -> io::Result<()> {
+        Err(io::Error::from(io::ErrorKind::BrokenPipe))
+    }
+
+    fn println<D: Display + Drop>(&self, _value: D) -> io::Result<()> {
+        Err(io::Error::from(io::ErrorKind::BrokenPipe))
+    }
+
+    fn write_all(&self, _bytes: &[u8]) -> io::Result<()> {
+        Err(io::Error::from(io::ErrorKind::BrokenPipe))
+    }
+}
+
+/// Output comes whole where standard error is closed.
+#[test]
+fn what_can_not_be_told_is_left_out(rt: HostRuntime) -> Result<(), Fail> {
+    let clock = SetClock::new();
+    let meter = Meter::new(&clock, &Closed, true);
+    let mut output = Wiping {
+        meter: &meter,
+        writer: Marked(Vec::new(rt.alloc())),
+    };
+    meter.begin(4);
+    clock.set(1500);
+    meter.done(4);
+    output.write_all(b"index 0\n")?;
+    assert!(rt; output.writer.0.as_slice() == b"index 0\n|");
     Ok(())
 }

@@ -16,7 +16,7 @@ returns-clause-made g c =
     let after = g.O.Write.contents c.publish.new.output in
     both_ok c.publish.result _ _ _
     (λ given printed. record {
-      fresh = c.exists.ensures.missing c.if-exists.false;
+      fresh = c.exists.ensures.missing c.if-exists.false _ c.in_ok-lock.ensures.locked;
       stored = (c.publish.ensures.states c.args.state.now).kept _ (c.in_ok-store_key.ensures.stored _ c.in_ok-lock.ensures.locked);
       published = subst (λ (bytes : List ℕ). new.may_give c.args.public.now bytes) c.in_ok-public_key.ensures given;
       printed = subst (λ (n : ℕ). Appends before after (number_line (codes "capacity") n)) c.capacity.ensures.capacity printed;
@@ -33,5 +33,5 @@ returns-clause-failed g c =
     let failed = subst (λ (bytes : List ℕ). IfErr c.publish.result (λ fault. (fault ≡ OutOfMemory) ⊎ ((fault ≡ Output) × IsPrintedLast new c.args.public.now bytes before after)))
     c.in_ok-public_key.ensures c.publish.ensures.failed in
     IfErr-weaker c.publish.result _ _
-    (not_published old stored new c.args.key c.args.state.now c.args.public.now before after (c.exists.ensures.missing c.if-exists.false)
+    (not_published old stored new c.args.key c.args.state.now c.args.public.now before after (c.exists.ensures.missing c.if-exists.false _ c.in_ok-lock.ensures.locked)
     (c.in_ok-store_key.ensures.stored _ c.in_ok-lock.ensures.locked) (c.publish.ensures.states c.args.state.now)) failed

@@ -1,4 +1,4 @@
-use Rattle.std.proofs.Common.{ℕ, List, ◌++◌, take}
+use Rattle.std.proofs.Common.{◌++◌, take}
 use Rattle.lms_world.proofs.Consumed.{consumes-both}
 use Rattle.lms_world.proofs.disk.hand_blocks.Goals as goal
 

@@ -9,6 +9,6 @@ held (Some t) text is there = (t.now, is)
 held None text is there = absurd cc
 
 pub returns-in-Some-clause-there : goal.returns-in-Some-clause-there
-returns-in-Some-clause-there c there =
+returns-in-Some-clause-there c there state locked =
     let text = held c.text.result c.in-Some.store.text c.text.ensures (sym c.is_some.ensures ∙ there) in
     (text.0, ap state_text c.in-Some.is ∙ text.1)
