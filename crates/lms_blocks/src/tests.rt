@@ -29,7 +29,7 @@ impl Read for Halting<'_> {
 fn gives(reader: &mut impl Read, bytes: &[u8]) -> bool {
     let mut block = [0; 4];
     match read_block(reader, &mut block) {
-        Ok(count) => block[..count] == *bytes,
+        Ok(count) => &block[..count] == bytes,
         Err(_) => false,
     }
 }

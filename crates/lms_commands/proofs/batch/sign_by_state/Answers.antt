@@ -1,9 +1,7 @@
 use Rattle.std.proofs.Common.{List, ℕ}
 use Rattle.std.proofs.lemmas.Result.{IfErr-weaker, IfOk-weaker}
-use Rattle.lms_lines.specs.declared.signing.Done.{Done}
 use Rattle.lms_commands.specs.Batches.{FailsToSignJobs, SignsJobs, streams}
 use Rattle.lms_commands.specs.SharedBooks.{IsDoneBy, IsRefusedBy}
-use Rattle.lms_commands.specs.declared.fault.Fault.{Fault}
 use Rattle.lms_commands.proofs.Batches.{done_so, failed_so}
 use Rattle.lms_commands.proofs.Signings.{fresh}
 use Rattle.lms_commands.proofs.batch.sign_by_state.Goals as goal
