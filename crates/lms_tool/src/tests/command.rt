@@ -1,8 +1,31 @@
+//! The words of the command line, read.
 use lms_program::command::{Command, command};
-use std::test::Fail;
+use std::alloc::Global;
+
+/// Whether these words are read as a `keygen` with these levels, seed, id, state and public key.
+fn is_keygen(alloc: Global, words: &[&str], texts: [&str; 5]) -> bool {
+    match command(alloc, words) {
+        Ok(
+            Command::Keygen {
+                levels,
+                seed,
+                id,
+                state,
+                public,
+            },
+        ) => {
+            levels.as_str() == texts[0]
+                && seed.as_str() == texts[1]
+                && id.as_str() == texts[2]
+                && state.as_str() == texts[3]
+                && public.as_str() == texts[4]
+        }
+        _ => false,
+    }
+}
 
 #[test]
-fn reads_keygen(rt: HostRuntime) -> Result<(), Fail> {
+fn reads_keygen(rt: HostRuntime) {
     let words: [&str; 12] = [
         "lms_tool",
         "keygen",
@@ -17,39 +40,36 @@ fn reads_keygen(rt: HostRuntime) -> Result<(), Fail> {
         "--levels",
         "10/8,5/4",
     ];
-    let found = command(rt.alloc(), &words);
-    let Ok(
-        Command::Keygen {
-            levels,
-            seed,
-            id,
-            state,
-            public,
-        },
-    ) = found
-    else {
-        return Err(Fail::from("no keygen"));
-    };
-    assert_eq!(rt; levels.as_str(), "10/8,5/4");
-    assert_eq!(rt; seed.as_str(), "0b");
-    assert_eq!(rt; id.as_str(), "0a");
-    assert_eq!(rt; state.as_str(), "key.state");
-    assert_eq!(rt; public.as_str(), "key.pub");
-    Ok(())
+    let texts = ["10/8,5/4", "0b", "0a", "key.state", "key.pub"];
+    assert!(rt; is_keygen(rt.alloc(), &words, texts));
+}
+
+/// Whether these words are read as an `info` of this state.
+fn is_info(alloc: Global, words: &[&str], of: &str) -> bool {
+    match command(alloc, words) {
+        Ok(Command::Info { state }) => state.as_str() == of,
+        _ => false,
+    }
 }
 
 #[test]
-fn reads_info(rt: HostRuntime) -> Result<(), Fail> {
+fn reads_info(rt: HostRuntime) {
     let words: [&str; 3] = ["lms_tool", "info", "--state=key.state"];
-    let Ok(Command::Info { state }) = command(rt.alloc(), &words) else {
-        return Err(Fail::from("no info"));
-    };
-    assert_eq!(rt; state.as_str(), "key.state");
-    Ok(())
+    assert!(rt; is_info(rt.alloc(), &words, "key.state"));
+}
+
+/// Whether these words are read as a `batch` with this state and this number of workers.
+fn is_batch(alloc: Global, words: &[&str], texts: [&str; 2]) -> bool {
+    match command(alloc, words) {
+        Ok(Command::Batch { state, workers }) => {
+            state.as_str() == texts[0] && workers.as_str() == texts[1]
+        }
+        _ => false,
+    }
 }
 
 #[test]
-fn reads_batch(rt: HostRuntime) -> Result<(), Fail> {
+fn reads_batch(rt: HostRuntime) {
     let words: [&str; 6] = [
         "lms_tool",
         "batch",
@@ -58,16 +78,31 @@ fn reads_batch(rt: HostRuntime) -> Result<(), Fail> {
         "--state",
         "key.state",
     ];
-    let Ok(Command::Batch { state, workers }) = command(rt.alloc(), &words) else {
-        return Err(Fail::from("no batch"));
-    };
-    assert_eq!(rt; state.as_str(), "key.state");
-    assert_eq!(rt; workers.as_str(), "4");
-    Ok(())
+    assert!(rt; is_batch(rt.alloc(), &words, ["key.state", "4"]));
+}
+
+/// Whether these words are read as a `sign` with this state, randomizer, message and signature.
+fn is_sign(alloc: Global, words: &[&str], texts: [&str; 4]) -> bool {
+    match command(alloc, words) {
+        Ok(
+            Command::Sign {
+                state,
+                random,
+                message,
+                out,
+            },
+        ) => {
+            state.as_str() == texts[0]
+                && random.as_str() == texts[1]
+                && message.as_str() == texts[2]
+                && out.as_str() == texts[3]
+        }
+        _ => false,
+    }
 }
 
 #[test]
-fn reads_sign(rt: HostRuntime) -> Result<(), Fail> {
+fn reads_sign(rt: HostRuntime) {
     let words: [&str; 10] = [
         "lms_tool",
         "sign",
@@ -80,21 +115,6 @@ fn reads_sign(rt: HostRuntime) -> Result<(), Fail> {
         "--out",
         "text.sig",
     ];
-    let found = command(rt.alloc(), &words);
-    let Ok(
-        Command::Sign {
-            state,
-            random,
-            message,
-            out,
-        },
-    ) = found
-    else {
-        return Err(Fail::from("no sign"));
-    };
-    assert_eq!(rt; state.as_str(), "key.state");
-    assert_eq!(rt; random.as_str(), "0c");
-    assert_eq!(rt; message.as_str(), "text");
-    assert_eq!(rt; out.as_str(), "text.sig");
-    Ok(())
+    let texts = ["key.state", "0c", "text", "text.sig"];
+    assert!(rt; is_sign(rt.alloc(), &words, texts));
 }
