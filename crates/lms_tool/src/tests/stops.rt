@@ -79,12 +79,50 @@ fn begins_and_stops<S: StateStore + Drop>(
     Ok([first, next_index(&mut book)])
 }
 
+/// What a store does over files that stop.
+#[derive(Clone, Copy)]
+enum Scenario {
+    /// Two indices are asked for, and the files stop in the second request.
+    Reserving,
+    /// `b` is written over `a`, and this write alone fails; then the store is read.
+    Writing,
+}
+
+/// What came of a scenario: the indices, or what was read.
+#[derive(Drop)]
+enum Outcome {
+    Indices([Option<u64>; 2]),
+    Text(Option<Vec<u8>>),
+}
+
+/// What comes of a scenario where the files of this store stop after `k` operations.
+fn carry_out<S: StateStore + Drop>(
+    alloc: Global,
+    store: S,
+    left: &AtomicUsize,
+    k: usize,
+    scenario: Scenario,
+) -> Result<Outcome, Fail> {
+    match scenario {
+        Scenario::Reserving => Ok(Outcome::Indices(begins_and_stops(alloc, store, left, k)?)),
+        Scenario::Writing => Ok(Outcome::Text(text_after(alloc, store, left, k))),
+    }
+}
+
 /// The same over the files of the disk.
-fn stopped_life(rt: &HostRuntime, k: usize) -> Result<[Option<u64>; 2], Fail> {
+fn came(rt: &HostRuntime, path: &str, k: usize, scenario: Scenario) -> Result<Outcome, Fail> {
     let left = counter(rt.alloc(), usize::MAX)?;
     let files = StoppingFiles::new(rt, left.clone()?);
-    let store = FileStore::new(rt.alloc(), &files, STATE)?;
-    begins_and_stops(rt.alloc(), store, &left, k)
+    let store = FileStore::new(rt.alloc(), &files, path)?;
+    carry_out(rt.alloc(), store, &left, k, scenario)
+}
+
+/// The indices that a program gives, of which the second is asked for where it stops after `k` operations.
+fn stopped_life(rt: &HostRuntime, k: usize) -> Result<[Option<u64>; 2], Fail> {
+    match came(rt, STATE, k, Scenario::Reserving)? {
+        Outcome::Indices(indices) => Ok(indices),
+        Outcome::Text(_) => Err(Fail::from("indices come of reservations")),
+    }
 }
 
 /// What three reservations of 1 give: one that is done, one in which the program stops after `k` operations, and one
@@ -107,7 +145,8 @@ fn no_stop_gives_an_index_twice(rt: HostRuntime) -> Result<(), Fail> {
     Ok(())
 }
 
-/// What a store reads after a write of `b` over `a` that alone fails, where its files stop after `k` operations.
+/// What a store reads after a write of `b` over `a` that alone fails, where its files stop after `k` operations. `None` where
+/// another fails.
 fn text_after<S: StateStore + Drop>(
     alloc: Global,
     store: S,
@@ -122,11 +161,14 @@ fn text_after<S: StateStore + Drop>(
     store.read(alloc).ok()
 }
 
-fn read_after(rt: &HostRuntime, k: usize) -> Result<Vec<u8>, Fail> {
-    let left = counter(rt.alloc(), usize::MAX)?;
-    let files = StoppingFiles::new(rt, left.clone()?);
-    let store = FileStore::new(rt.alloc(), &files, "file_store_fails/state")?;
-    Ok(text_after(rt.alloc(), store, &left, k).ok_or("the second write alone fails")?)
+/// Whether it reads this text over the files of the disk.
+fn reads_after(rt: &HostRuntime, k: usize, text: &[u8]) -> Result<bool, Fail> {
+    Ok(
+        match came(rt, "file_store_fails/state", k, Scenario::Writing)? {
+            Outcome::Text(Some(read)) => read.as_slice() == text,
+            _ => false,
+        },
+    )
 }
 
 #[test]
@@ -134,7 +176,7 @@ fn after_a_failed_write_both_texts_are_read(rt: HostRuntime) -> Result<(), Fail>
     empty_folder(&rt, "file_store_fails")?;
     for k in 0..OPERATIONS {
         let left = if k < PLACED { b"a" } else { b"b" };
-        assert!(rt; read_after(&rt, k)?.as_slice() == left.as_slice(), "{k}");
+        assert!(rt; reads_after(&rt, k, left)?, "{k}");
     }
     fs::remove_dir_all(&rt, "file_store_fails")?;
     Ok(())
