@@ -2,6 +2,7 @@ ghost use Rattle.std.specs.Prelude.{◌≡◌, ◌<◌};
 
 use super::states::{
     first_state, has_text, image_of, is_at, is_with, keyed, keyed_with, stated, store_of,
+    turned_state,
 };
 use super::{VERIFY, fails_with, says};
 use lms_params::{LmsType, OtsType};
@@ -123,7 +124,7 @@ fn a_signature_turns_version_1(rt: HostRuntime) -> Result<(), Fail> {
     assert!(rt; says(&rt, &INFO, &mut world, 0, lines));
     assert!(rt; has_text(&world, &first));
     assert!(rt; says(&rt, &sign_text(), &mut world, 0, "index 10\n"));
-    assert!(rt; is_with(&world, &ONE, 11, 1, 0)?);
+    assert!(rt; has_text(&world, &turned_state(rt.alloc())?));
     Ok(())
 }
 
