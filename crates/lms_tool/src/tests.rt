@@ -2,6 +2,7 @@ mod batch;
 mod batch_faults;
 mod command;
 mod disk;
+mod disk_stops;
 mod faults;
 mod large;
 mod lines;

@@ -1,8 +1,7 @@
 //! The program over the files of the disk.
+use super::ends;
 use super::state::{ID, RANDOM, SEED};
-use super::states::first_state;
-use super::stopping::{StoppingFiles, counter};
-use super::{end_of, ends};
+use super::states::{first_state, turned_state};
 use lms_store::lock;
 use lms_world::DiskWorld;
 use std::fs;
@@ -42,7 +41,7 @@ pub(super) const SIGN: [&str; 10] = [
     "program_files/text.sig",
 ];
 
-const VERIFY: [&str; 8] = [
+pub(super) const VERIFY: [&str; 8] = [
     "lms_tool",
     "verify",
     "--public",
@@ -73,7 +72,7 @@ fn prints(
 }
 
 /// The same where no errors are printed.
-fn says(
+pub(super) fn says(
     rt: &(impl Threads + Wait + AllocGlobal + Sync),
     files: &HostRuntime,
     words: &[&str],
@@ -135,11 +134,6 @@ fn goes_a_whole_round(rt: HostRuntime) -> Result<(), Fail> {
     end(&rt)
 }
 
-/// Whether the state is a file of this many bytes.
-fn state_has(rt: &HostRuntime, bytes: u64) -> Result<bool, Fail> {
-    Ok(fs::metadata(rt, "program_files/key.state")?.len() == bytes)
-}
-
 /// Whether the state is a file of these bytes.
 fn state_is(rt: &HostRuntime, bytes: &[u8]) -> Result<bool, Fail> {
     Ok(fs::read(rt, "program_files/key.state")?.as_slice() == bytes)
@@ -155,7 +149,7 @@ fn opens_a_state_of_version_1(rt: HostRuntime) -> Result<(), Fail> {
     assert!(rt; says(&rt, &rt, &INFO, 0, lines));
     assert!(rt; state_is(&rt, &first)?);
     assert!(rt; says(&rt, &rt, &SIGN, 0, "index 10\n"));
-    assert!(rt; state_has(&rt, 124)?);
+    assert!(rt; state_is(&rt, &turned_state(rt.alloc())?)?);
     let lines = "levels 5/8\ncounter 11\ncapacity 32\nleft 21\nopenings 1\nburnt 0\n";
     assert!(rt; says(&rt, &rt, &INFO, 0, lines));
     end(&rt)
@@ -276,17 +270,6 @@ fn may_not_change_the_folder(rt: HostRuntime) -> Result<(), Fail> {
     end(&rt)
 }
 
-/// A state that cannot be looked up is taken for one that is there: the files stop once the lock is got.
-#[test]
-fn a_state_that_can_not_be_told_is_there(rt: HostRuntime) -> Result<(), Fail> {
-    begin(&rt)?;
-    let files = StoppingFiles::new(&rt, counter(rt.alloc(), 4)?);
-    let mut world = DiskWorld::new(&files);
-    assert!(rt; ends(&rt, &KEYGEN, &mut world, 3, "", "error: state exists\n"));
-    assert!(rt; fs::metadata(&rt, "program_files/key.pub").is_err());
-    end(&rt)
-}
-
 /// Whether a command that may neither read nor write the file of a name ends with this status and this line, or may do it
 /// all the same.
 fn fails_without(
@@ -343,65 +326,5 @@ fn may_not_use_a_file(rt: HostRuntime) -> Result<(), Fail> {
             "error: cannot write output\n"
         )?
     );
-    end(&rt)
-}
-
-/// Whether a `sign` is done, for which the program stops after `k` operations on files.
-fn signs_within(
-    rt: &(impl Threads + Wait + AllocGlobal + Sync),
-    files: &HostRuntime,
-    k: usize,
-) -> Result<bool, Fail> {
-    let files = StoppingFiles::new(files, counter(rt.alloc(), k)?);
-    let mut world = DiskWorld::new(&files);
-    Ok(end_of(rt, &SIGN, &mut world)?.status == 0)
-}
-
-/// How many operations on files a `sign` takes: four read the message, three lock the state, three read it, seven replace
-/// it, and two write the signature.
-const OPERATIONS: usize = 19;
-
-/// After how many of them the state is replaced.
-const PLACED: usize = 16;
-
-/// Whether a `sign` in which the program stops after `k` operations is done only where none is left, and writes its
-/// signature only where the state is replaced.
-fn stops_after(
-    rt: &(impl Threads + Wait + AllocGlobal + Sync),
-    files: &HostRuntime,
-    k: usize,
-) -> Result<bool, Fail> {
-    let signed = signs_within(rt, files, k)?;
-    let wrote = fs::metadata(files, "program_files/text.sig").is_ok();
-    Ok(signed == (k == OPERATIONS) && (!wrote || k >= PLACED))
-}
-
-/// Whether the next `sign` after `k` operations has an index of its own.
-fn signs_after(
-    rt: &(impl Threads + Wait + AllocGlobal + Sync),
-    files: &HostRuntime,
-    k: usize,
-) -> bool {
-    let next = if k < PLACED { "index 0\n" } else { "index 1\n" };
-    says(rt, files, &SIGN, 0, next) && says(rt, files, &VERIFY, 0, "valid\n")
-}
-
-/// Whether a new key signs with an index of its own after a `sign` in which the program stops after `k` operations.
-fn outlives_a_stop(
-    rt: &(impl Threads + Wait + AllocGlobal + Sync),
-    files: &HostRuntime,
-    k: usize,
-) -> Result<bool, Fail> {
-    begin(files)?;
-    let made = says(rt, files, &KEYGEN, 0, "capacity 32\n");
-    Ok(made && stops_after(rt, files, k)? && signs_after(rt, files, k))
-}
-
-/// Where the program stops at any operation of a `sign`, the next one signs with an index of its own.
-#[test]
-fn stops_at_every_operation(rt: HostRuntime) -> Result<(), Fail> {
-    for k in 0..=OPERATIONS {
-        assert!(rt; outlives_a_stop(&rt, &rt, k)?, "{k}");
-    }
     end(&rt)
 }
