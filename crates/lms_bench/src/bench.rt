@@ -1,7 +1,8 @@
 //! A case and what it works on.
-use crate::case::{Case, ID, MESSAGE, Operation, RANDOMIZER, SEED, TREE, key_of};
+use crate::case::{Case, Operation, TREE, key_of};
 use anyhow::Result;
 use lms_ots::{candidate, public_hash, sign_into};
+use lms_yardstick::{ID, MESSAGE, RANDOMIZER, SEED};
 
 /// What is run again and again while its time is taken.
 pub trait Timed {

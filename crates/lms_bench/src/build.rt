@@ -1,13 +1,14 @@
 //! What all processors work out.
 ghost use Rattle.std.specs.Prelude.{◌^◌, ◌<◌, IfOk};
 
-use crate::case::{MESSAGE, SEED, key_of};
-use crate::compressions::tree_compressions;
-use crate::hierarchy::{COVERED, Hierarchy, signature};
-use crate::signed_level::{cover_compressions, signed_levels};
+use crate::case::key_of;
+use crate::hierarchy::{COVERED, forest, signature};
 use anyhow::Result;
 use lms_params::{LmsType, OtsType};
 use lms_tree::{BandTree, WholeTree};
+use lms_yardstick::{
+    Hierarchy, MESSAGE, SEED, cover_compressions, signed_levels, tree_compressions,
+};
 use std::alloc::Global;
 use std::fmt;
 use std::thread::Threads;
@@ -50,7 +51,7 @@ impl Build {
         match self {
             Build::Whole(lms, ots) | Build::Band(lms, ots) => Ok(tree_compressions(lms, ots)),
             Build::Cover(hierarchy) => {
-                let signature = signature(&hierarchy.forest(rt, alloc)?)?;
+                let signature = signature(&forest(rt, alloc, hierarchy)?)?;
                 let levels = signed_levels(alloc, &hierarchy.key()?, &MESSAGE, &signature)?;
                 Ok(cover_compressions(&levels))
             }
@@ -67,7 +68,7 @@ impl Build {
                 let _tree = BandTree::build(rt, alloc, key_of(lms, ots, SEED), 0, 0)?;
             }
             Build::Cover(hierarchy) => {
-                let _forest = hierarchy.forest(rt, alloc)?;
+                let _forest = forest(rt, alloc, hierarchy)?;
             }
         }
         Ok(())

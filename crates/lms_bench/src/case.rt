@@ -1,23 +1,11 @@
 //! What is timed, and how many compressions it needs.
 ghost use Rattle.std.specs.Prelude.{◌≡◌};
 
-use crate::compressions::{Signed, public_hash_compressions, tree_compressions};
 use lms_ots::OtsId;
 use lms_params::{LmsType, OtsType};
 use lms_tree::TreeKey;
+use lms_yardstick::{ID, MESSAGE, RANDOMIZER, Signed, public_hash_compressions, tree_compressions};
 use std::fmt;
-
-/// The seed that each case begins with.
-pub const SEED: [u8; 32] = [0x11; 32];
-
-pub const ID: OtsId = OtsId {
-    i: [0x22; 16],
-    q: 5,
-};
-
-pub const RANDOMIZER: [u8; 32] = [0x33; 32];
-
-pub const MESSAGE: [u8; 3] = *b"abc";
 
 /// The set of the tree whose root is worked out.
 pub const TREE: LmsType = LmsType::H10;

@@ -1,11 +1,11 @@
 //! Compressions and bytes, counted: what the figures of `measure` are held against.
 use crate::build::Build;
-use crate::compressions::{public_hash_compressions, tree_compressions};
 use crate::held::Held;
 use crate::hierarchy::{COVERED, VERIFIED};
 use crate::hss_bench::{Signing, Verification};
 use anyhow::Result;
 use lms_params::{LmsType, OtsType};
+use lms_yardstick::{public_hash_compressions, tree_compressions};
 use std::thread::Threads;
 
 /// Prints each count. `stdout`, beside `src/`, has the compressions as a program in Python counts them, which makes the same

@@ -1,12 +1,12 @@
 //! The bytes that the trees of a forest hold.
 ghost use Rattle.std.specs.Prelude.{◌<◌, IfOk};
 
-use crate::case::{SEED, key_of};
-use crate::hierarchy::Hierarchy;
+use crate::case::key_of;
 use anyhow::{Result, ensure};
 use lms_hss::Forest;
 use lms_params::{LmsType, OtsType, lms_sig_len};
 use lms_tree::BandTree;
+use lms_yardstick::{Hierarchy, SEED};
 use std::alloc::Global;
 use std::thread::Threads;
 

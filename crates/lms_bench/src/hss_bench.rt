@@ -3,11 +3,12 @@ ghost use Rattle.std.specs.Prelude.{◌≤◌, length};
 ghost use Rattle.lms_hss.specs.Covered.{IsCovered};
 
 use crate::bench::Timed;
-use crate::case::MESSAGE;
-use crate::hierarchy::{Hierarchy, signature};
-use crate::signed_level::{signature_compressions, signed_levels, verification_compressions};
+use crate::hierarchy::{forest, signature};
 use anyhow::Result;
 use lms_hss::{Forest, HssKey, verify};
+use lms_yardstick::{
+    Hierarchy, MESSAGE, signature_compressions, signed_levels, verification_compressions,
+};
 use std::alloc::Global;
 use std::thread::Threads;
 
@@ -25,7 +26,7 @@ impl Verification {
     pub fn new(rt: &(impl Threads + Sync), alloc: Global, hierarchy: Hierarchy) -> Result<Self> {
         let key = hierarchy.key()?;
         let public = key.public_key(rt, alloc)?;
-        let signature = signature(&hierarchy.forest(rt, alloc)?)?;
+        let signature = signature(&forest(rt, alloc, hierarchy)?)?;
         Ok(Verification {
             key,
             public,
@@ -70,7 +71,7 @@ impl Signing {
     /// The signing under a key of these levels.
     pub fn new(rt: &(impl Threads + Sync), alloc: Global, hierarchy: Hierarchy) -> Result<Self> {
         let key = hierarchy.key()?;
-        let forest = hierarchy.forest(rt, alloc)?;
+        let forest = forest(rt, alloc, hierarchy)?;
         let signature = signature(&forest)?;
         Ok(Signing {
             key,

@@ -5,48 +5,33 @@
 //! ratio of its time to that of as many bare digests of 55 bytes, each the least of several rounds. For trees that all
 //! processors build it prints the compressions a second; how many times as many these are as one thread makes with bare
 //! digests; what share they are of what such a thread on each processor makes; and how long it takes to start and join
-//! threads that do nothing. For places of pools that threads claim at once it prints the claims a second beside bare
-//! additions to one word; for batches the signatures a second that one worker and several make; and how fast job lines are
-//! read and answers written. Last come the bytes that a forest holds. With the argument `cover` it makes one such forest, and with
+//! threads that do nothing. Last come the bytes that a forest holds. With the argument `cover` it makes one such forest, and with
 //! `tall` it works out a tree of height 20 and signs by it.
 #![tactic(auto)]
 
-mod batches;
 mod bench;
 mod build;
 mod case;
-mod claims;
-mod compressions;
 mod counts;
 mod held;
 mod hierarchy;
 mod hss_bench;
-mod lines;
 mod measure;
-mod measure_batches;
-mod signed_level;
-mod stopwatch;
 mod tall;
-mod workers;
 
-use crate::batches::{Batches, SMALL};
 use crate::bench::{Bench, Timed};
 use crate::build::BUILDS;
-use crate::case::{CASES, Case, MESSAGE, SEED};
-use crate::claims::time_claims;
+use crate::case::{CASES, Case};
 use crate::counts::print_counts;
 use crate::held::cover;
 use crate::hierarchy::{COVERED, VERIFIED};
 use crate::hss_bench::{Signing, Verification};
-use crate::lines::{ANSWERING, Lines, answered};
 use crate::measure::measure;
 use crate::tall::sign_tall;
-use crate::workers::WORKERS;
 use anyhow::{Result, bail};
+use lms_yardstick::SEED;
 use std::env;
-use std::sync::Wait;
 use std::thread::Threads;
-use std::time::{Clock, CpuClock};
 
 fn main(rt: HostRuntime) -> Result<()> {
     let words: Vec<String> = env::args(&rt)?.collect(rt.alloc())?;
@@ -60,9 +45,7 @@ fn main(rt: HostRuntime) -> Result<()> {
 }
 
 /// Runs each case once and prints its name, and what the cases need.
-fn run_once(
-    rt: &(impl Print + AllocGlobal + Clock + CpuClock + Threads + Wait + Sync),
-) -> Result<()> {
+fn run_once(rt: &(impl Print + AllocGlobal + Threads + Sync)) -> Result<()> {
     for (operation, ots) in CASES {
         let case = Case { operation, ots };
         let _value = Bench::new(case).run(SEED);
@@ -78,32 +61,5 @@ fn run_once(
         build.run(rt, rt.alloc())?;
         println!(rt; "{build}")?;
     }
-    for workers in WORKERS {
-        time_claims(rt, workers)?;
-        println!(rt; "IndexPool::claim threads={}", workers.count())?;
-    }
-    run_batches_once(rt)?;
     print_counts(rt)
-}
-
-/// Signs four jobs by each number of workers, and four of job lines.
-fn run_batches_once<R>(rt: &R) -> Result<()>
-where
-    R: Print + AllocGlobal + Clock + CpuClock + Threads + Wait + Sync,
-{
-    let batches = Batches::new(rt.alloc(), SMALL, 4, &MESSAGE)?;
-    for workers in WORKERS {
-        batches.sign(rt, workers)?;
-        println!(rt;
-            "SigningService::sign_batch {SMALL} workers={}",
-            workers.count()
-        )?;
-    }
-    let mut lines = Lines::new(rt.alloc(), 4)?;
-    let (jobs, _time) = lines.jobs(rt)?;
-    println!(rt; "read_jobs")?;
-    let signed = answered(rt, jobs)?;
-    lines.time_write(rt, &signed.batch)?;
-    println!(rt; "write_batch {ANSWERING}")?;
-    Ok(())
 }

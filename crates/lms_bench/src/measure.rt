@@ -1,25 +1,17 @@
 //! The timing.
-ghost use Rattle.std.specs.Prelude.{◌≤◌};
-
-use crate::batches::SIGNED;
 use crate::bench::{Bench, Timed};
 use crate::build::{BUILDS, Build};
 use crate::case::{CASES, Case};
-use crate::claims::{COUNT, time_additions, time_claims};
 use crate::held::Held;
 use crate::hierarchy::{COVERED, VERIFIED};
 use crate::hss_bench::{Signing, Verification};
-use crate::measure_batches::{measure_batches, measure_lines};
-use crate::workers::{WORKERS, Workers};
 use anyhow::Result;
 use lms_params::{LmsType, OtsType};
-use rayon::prelude::*;
-use sha2::{Digest, Sha256};
-use std::sync::Wait;
+use lms_yardstick::{time_digests, time_digests_at_once};
 use std::thread::Threads;
 use std::time::{Clock, CpuClock, Duration, Instant};
 
-/// How often each time is taken. The least counts; of claims it is the sum.
+/// How often each time is taken. The least counts.
 const ROUNDS: u32 = 20;
 
 /// How many compressions a round makes, at least, and how many bare digests stand beside a build.
@@ -28,10 +20,8 @@ const COMPRESSIONS_A_ROUND: u64 = 1 << 16;
 /// The heights at which a band tree is timed beside a whole one.
 const BOTH: [LmsType; 2] = [LmsType::H5, LmsType::H10];
 
-/// Times each case, each build, claims, batches and lines, and weighs a forest.
-pub fn measure(
-    rt: &(impl Print + AllocGlobal + Clock + CpuClock + Threads + Wait + Sync),
-) -> Result<()> {
+/// Times each case and each build, and weighs a forest.
+pub fn measure(rt: &(impl Print + AllocGlobal + Clock + CpuClock + Threads + Sync)) -> Result<()> {
     measure_in_one_thread(rt)?;
     for build in BUILDS {
         measure_build(rt, build)?;
@@ -39,13 +29,6 @@ pub fn measure(
     for lms in BOTH {
         measure_band(rt, lms)?;
     }
-    for workers in WORKERS {
-        measure_claims(rt, workers)?;
-    }
-    for hierarchy in SIGNED {
-        measure_batches(rt, hierarchy)?;
-    }
-    measure_lines(rt)?;
     let bands = Held::with_bands(rt, rt.alloc())?;
     print_held(rt, "in bands", bands)?;
     print_held(rt, "in whole trees", Held::with_whole_trees())
@@ -156,29 +139,6 @@ fn least_build(
     Ok((least.0.min(processor), least.1.min(clock)))
 }
 
-/// Prints how many places are claimed a second, how many bare additions as many threads make, and the ratio of the times. All are of
-/// the rounds together: how much threads contend changes from round to round, and the least times would be of different ones.
-fn measure_claims(
-    rt: &(impl Print + AllocGlobal + Clock + Threads + Sync),
-    workers: Workers,
-) -> Result<()> {
-    let mut own = Duration::ZERO;
-    let mut bare = Duration::ZERO;
-    for _ in 0..ROUNDS {
-        own = own.saturating_add(time_claims(rt, workers)?);
-        bare = bare.saturating_add(time_additions(rt, workers)?);
-    }
-    let count = f64::from(ROUNDS) * COUNT as f64;
-    let claimed = count / own.as_secs_f64();
-    let added = count / bare.as_secs_f64();
-    let ratio = own.as_secs_f64() / bare.as_secs_f64();
-    let threads = workers.count();
-    println!(rt;
-        "IndexPool::claim threads={threads}: {claimed:.0} a second, bare additions {added:.0} a second, ratio {ratio:.2}"
-    )?;
-    Ok(())
-}
-
 /// Prints the bytes that a forest holds.
 fn print_held(rt: &impl Print, form: &str, held: Held) -> Result<()> {
     let Held { at_most, then } = held;
@@ -195,68 +155,9 @@ fn time_build(rt: &(impl AllocGlobal + Clock + Threads + Sync), build: Build) ->
     Ok(start.elapsed(rt)?)
 }
 
-/// The time of so many bare digests, cut into as many parts, at once by a thread for each processor, up to 32.
-pub fn time_digests_at_once(
-    rt: &(impl AllocGlobal + Clock + Threads + Sync),
-    digests: u64,
-    threads: usize,
-) -> Result<Duration>
-    requires { 1 ≤ threads }
-{
-    let each = digests / threads as u64;
-    let mut texts = vec![in rt.alloc(); [0; 55]; threads]?;
-    let start = Instant::now(rt)?;
-    par_for_each_mut(rt, &mut texts, |_place: usize, text: &mut [u8; 55]| {
-        // The threads' own texts stand apart in memory, so no two of them share a cache line.
-        let mut own = *text;
-        make_digests(&mut own, each);
-        *text = own;
-    });
-    let time = start.elapsed(rt)?;
-    for text in &texts {
-        ensure_made(text, each)?;
-    }
-    Ok(time)
-}
-
 /// The processor time of so many runs.
 fn time_runs<T: Timed>(clock: &impl CpuClock, timed: &mut T, runs: u64) -> Result<Duration> {
     let start = clock.thread_cpu_time()?;
     timed.repeat(runs)?;
     Ok(clock.thread_cpu_time()?.saturating_sub(start))
-}
-
-/// The processor time of so many digests of 55 bytes, each a single compression.
-pub fn time_digests(clock: &impl CpuClock, digests: u64) -> Result<Duration> {
-    let mut text = [0; 55];
-    let start = clock.thread_cpu_time()?;
-    make_digests(&mut text, digests);
-    let time = clock.thread_cpu_time()?.saturating_sub(start);
-    ensure_made(&text, digests)?;
-    Ok(time)
-}
-
-/// Looks at the last digest, so that none of them can be left out.
-fn ensure_made(text: &[u8; 55], digests: u64) -> Result<()> {
-    anyhow::ensure!(
-        digests == 0 || text[54] != 0 || text[53] != 0 || text[52] != 0,
-        "the digests ended in zeros"
-    );
-    Ok(())
-}
-
-/// Makes so many digests, each of a text that has the one before in it.
-fn make_digests(text: &mut [u8; 55], digests: u64) {
-    for some in 0..digests.div_ceil(256) {
-        let made = some.saturating_mul(256);
-        make_some_digests(text, digests.saturating_sub(made).min(256));
-    }
-}
-
-/// Makes a few digests. Within two loops they are compiled to their fastest form.
-fn make_some_digests(text: &mut [u8; 55], digests: u64) {
-    for _ in 0..digests {
-        let digest = Sha256::digest(*text);
-        text[23..].copy_from_slice(&digest);
-    }
 }

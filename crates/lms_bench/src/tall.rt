@@ -1,9 +1,8 @@
 //! A tall tree, worked out once, and a signature by its last leaf.
-use crate::case::{MESSAGE, RANDOMIZER};
-use crate::hierarchy::Hierarchy;
 use anyhow::{Result, ensure};
 use lms_hss::{Forest, verify};
 use lms_params::{LmsType, OtsType};
+use lms_yardstick::{Hierarchy, MESSAGE, RANDOMIZER};
 use std::thread::Threads;
 
 /// The key of a tall tree that is worked out the soonest.

@@ -33,14 +33,8 @@ fn main(rt: HostRuntime) -> ExitCode {
             words.as_slice(),
             &mut DiskWorld::new(&rt),
             &mut rt.reader(),
-            &mut Wiping {
-                meter: &meter,
-                writer: rt.stdout(),
-            },
-            &mut Wiping {
-                meter: &meter,
-                writer: rt.stderr(),
-            },
+            &mut Wiping::new(&meter, rt.stdout()),
+            &mut Wiping::new(&meter, rt.stderr()),
             &meter,
         ),
         Err(fault) => report(fault, &mut errors),

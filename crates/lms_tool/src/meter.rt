@@ -104,8 +104,14 @@ impl<'r, C: Clock + Sync, P: Print + Sync> Progress for Meter<'r, C, P> {
 /// A writer before whose writes the meter's line goes.
 #[derive(Drop)]
 pub struct Wiping<'m, 'r, C, P, W> {
-    pub meter: &'m Meter<'r, C, P>,
+    meter: &'m Meter<'r, C, P>,
     pub writer: W,
+}
+
+impl<'m, 'r, C, P, W> Wiping<'m, 'r, C, P, W> {
+    pub fn new(meter: &'m Meter<'r, C, P>, writer: W) -> Self {
+        Wiping { meter, writer }
+    }
 }
 
 impl<'m, 'r, C: Clock, P: Print, W: Write> Write for Wiping<'m, 'r, C, P, W> {

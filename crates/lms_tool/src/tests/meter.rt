@@ -16,6 +16,7 @@ use std::thread::Threads;
 use std::time::{Clock, Duration};
 
 /// A clock that stands until it is set, in milliseconds.
+#[derive(Drop)]
 struct SetClock {
     milliseconds: AtomicU64,
 }
@@ -108,10 +109,7 @@ fn on_a_terminal_a_line_goes_before_others_come(rt: HostRuntime) -> Result<(), F
     let clock = SetClock::new();
     let errors = Kept::new(&rt);
     let meter = Meter::new(&clock, &errors, true);
-    let mut output = Wiping {
-        meter: &meter,
-        writer: Marked(Vec::new(rt.alloc())),
-    };
+    let mut output = Wiping::new(&meter, Marked(Vec::new(rt.alloc())));
     meter.begin(4);
     clock.set(1499);
     meter.done(1);
@@ -126,7 +124,7 @@ fn on_a_terminal_a_line_goes_before_others_come(rt: HostRuntime) -> Result<(), F
     output.flush()?;
     output.write_all(b"more\n")?;
     assert!(rt; errors.is("\r\x1b[K2 of 4 leaves\r\x1b[K4 of 4 leaves\r\x1b[K"));
-    assert!(rt; output.writer.0.as_slice() == b"index |0\n|!more\n|");
+    assert!(rt; output.writer.0.as_slice() == b"index |0\n|!more\n|".as_slice());
     Ok(())
 }
 
@@ -212,14 +210,11 @@ impl Print for Closed {
 fn what_can_not_be_told_is_left_out(rt: HostRuntime) -> Result<(), Fail> {
     let clock = SetClock::new();
     let meter = Meter::new(&clock, &Closed, true);
-    let mut output = Wiping {
-        meter: &meter,
-        writer: Marked(Vec::new(rt.alloc())),
-    };
+    let mut output = Wiping::new(&meter, Marked(Vec::new(rt.alloc())));
     meter.begin(4);
     clock.set(1500);
     meter.done(4);
     output.write_all(b"index 0\n")?;
-    assert!(rt; output.writer.0.as_slice() == b"index 0\n|");
+    assert!(rt; output.writer.0.as_slice() == b"index 0\n|".as_slice());
     Ok(())
 }
