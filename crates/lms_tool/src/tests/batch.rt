@@ -187,7 +187,22 @@ fn signs_an_empty_message(rt: HostRuntime) -> Result<(), Fail> {
     Ok(())
 }
 
-/// Whether a batch on a state of index 5 ends so, with nothing answered, and uses no index.
+/// Whether a batch on a state with this counter ends so, with nothing answered, and uses no index.
+fn refuses_at(
+    rt: &(impl Threads + Wait + AllocGlobal + Sync),
+    counter: u64,
+    workers: &str,
+    input: &[u8],
+    status: u8,
+    errors: &str,
+) -> Result<bool, Fail> {
+    let mut world = keyed(rt.alloc(), &ONE, counter)?;
+    let end = end_of_batch(rt, &mut world, workers, input)?;
+    let is_said = end.status == status && end.errors.as_str() == errors;
+    Ok(is_said && end.output.is_empty() && is_at(&world, &ONE, counter)?)
+}
+
+/// The same, on a state of index 5.
 fn refuses(
     rt: &(impl Threads + Wait + AllocGlobal + Sync),
     workers: &str,
@@ -195,10 +210,7 @@ fn refuses(
     status: u8,
     errors: &str,
 ) -> Result<bool, Fail> {
-    let mut world = keyed(rt.alloc(), &ONE, 5)?;
-    let end = end_of_batch(rt, &mut world, workers, input)?;
-    let is_said = end.status == status && end.errors.as_str() == errors;
-    Ok(is_said && end.output.is_empty() && is_at(&world, &ONE, 5)?)
+    refuses_at(rt, 5, workers, input, status, errors)
 }
 
 /// Whether these lines are refused so with each number of workers.
@@ -304,10 +316,10 @@ fn refuses_too_many_jobs(rt: HostRuntime) -> Result<(), Fail> {
 
 #[test]
 fn refuses_more_jobs_than_indices(rt: HostRuntime) -> Result<(), Fail> {
-    let text = lines(rt.alloc(), 28)?;
-    let line = "error: exhausted: 27 left\n";
+    let text = lines(rt.alloc(), 33)?;
+    let line = "error: exhausted: 32 left\n";
     for workers in WORKERS {
-        assert!(rt; refuses(&rt, workers, &text, 4, line)?, "{workers}");
+        assert!(rt; refuses_at(&rt, 0, workers, &text, 4, line)?, "{workers}");
     }
     Ok(())
 }
