@@ -7,39 +7,39 @@ use Rattle.std.specs.Simd.Lanes.{zip2, Each1}
 use Rattle.lms_lanes.specs.Lanes.{AreVectors, EachLane, lane_of}
 
 -- a vector's own lanes
-pub own : (v : List ℕ) → length v ≡ 8 → EachLane v (slice_index v)
-own v wide = record { wide = wide; lane = λ k lt. refl }
+pub EachLane-self : (v : List ℕ) → length v ≡ 8 → EachLane v (slice_index v)
+EachLane-self v wide = record { wide = wide; lane = λ k lt. refl }
 
 -- an operator on one vector
-pub each : {v : List ℕ} {f : ℕ → ℕ} (op : ℕ → ℕ) → EachLane v f → EachLane (map op v) (λ k. op (f k))
-each {v} op x = record {
+pub EachLane-map : {v : List ℕ} {f : ℕ → ℕ} (op : ℕ → ℕ) → EachLane v f → EachLane (map op v) (λ k. op (f k))
+EachLane-map {v} op x = record {
   wide = length-map v op ∙ x.wide;
   lane = λ k lt. get_or-map op v k 0 0 (omega (arith, x.wide)) ∙ rw (x.lane k lt) refl;
 }
 
 -- an operator on two vectors
-pub both : {v w : List ℕ} {f g : ℕ → ℕ} (op : ℕ → ℕ → ℕ) → EachLane v f → EachLane w g → EachLane (zip2 op v w) (λ k. op (f k) (g k))
-both {v} {w} op x y = record {
+pub EachLane-zip2 : {v w : List ℕ} {f g : ℕ → ℕ} (op : ℕ → ℕ → ℕ) → EachLane v f → EachLane w g → EachLane (zip2 op v w) (λ k. op (f k) (g k))
+EachLane-zip2 {v} {w} op x y = record {
   wide = length-zip2 op v w (x.wide ∙ sym y.wide) ∙ x.wide;
   lane = λ k lt.
       get_or-zip2 op v w k 0 0 0 (omega (arith, x.wide)) (omega (arith, y.wide)) ∙ rw (x.lane k lt, y.lane k lt) refl;
 }
 
 -- one word in each lane
-pub splat : (word : ℕ) → EachLane (replicate 8 word) (λ _. word)
-splat word = record { wide = length-replicate 8 word; lane = λ k lt. get_or-replicate 8 k word 0 lt }
+pub EachLane-splat : (word : ℕ) → EachLane (replicate 8 word) (λ _. word)
+EachLane-splat word = record { wide = length-replicate 8 word; lane = λ k lt. get_or-replicate 8 k word 0 lt }
 
 -- the same lanes, said in another way
-pub said : {v : List ℕ} {f g : ℕ → ℕ} → EachLane v f → ((k : ℕ) → k < 8 → f k ≡ g k) → EachLane v g
-said x e = record { wide = x.wide; lane = λ k lt. x.lane k lt ∙ e k lt }
+pub EachLane-equal : {v : List ℕ} {f g : ℕ → ℕ} → EachLane v f → ((k : ℕ) → k < 8 → f k ≡ g k) → EachLane v g
+EachLane-equal x e = record { wide = x.wide; lane = λ k lt. x.lane k lt ∙ e k lt }
 
 -- one of several vectors
-pub one_of : (count : ℕ) (vs : List (List ℕ)) (i : ℕ) → AreVectors count vs → i < count → EachLane (get_or vs i []) (slice_index (get_or vs i []))
-one_of count vs i vectors lt = own (get_or vs i []) (Each1-get_or (λ v. length v ≡ 8) vs i [] (omega (arith, vectors.long)) vectors.wide)
+pub EachLane-get_or : (count : ℕ) (vs : List (List ℕ)) (i : ℕ) → AreVectors count vs → i < count → EachLane (get_or vs i []) (slice_index (get_or vs i []))
+EachLane-get_or count vs i vectors lt = EachLane-self (get_or vs i []) (Each1-get_or (λ v. length v ≡ 8) vs i [] (omega (arith, vectors.long)) vectors.wide)
 
 -- a lane fits its word
-pub fits_lane : (v : List ℕ) (k : ℕ) → length v ≡ 8 → Each1 (Fits w32) v → k < 8 → Fits w32 (slice_index v k)
-fits_lane v k wide fits lt = Each1-get_or (Fits w32) v k 0 (omega (arith, wide)) fits
+pub Fits-lane : (v : List ℕ) (k : ℕ) → length v ≡ 8 → Each1 (Fits w32) v → k < 8 → Fits w32 (slice_index v k)
+Fits-lane v k wide fits lt = Each1-get_or (Fits w32) v k 0 (omega (arith, wide)) fits
 
 pub length-lane_of : (count : ℕ) (vs : List (List ℕ)) (k : ℕ) → AreVectors count vs → length (lane_of vs k) ≡ count
 length-lane_of count vs k vectors = length-map vs (λ v. slice_index v k) ∙ vectors.long

@@ -4,10 +4,10 @@ use Rattle.std.proofs.lemmas.Bool.{ltb-true, ltb-false}
 use Rattle.sha2.specs.Sha256.{sha256}
 use Rattle.lms_lanes.specs.Chains.{walked}
 
-pub goes_on : (head value before after : List ℕ) (first i steps : ℕ) → before ≡ walked head first (min i steps) value
+pub walked-next : (head value before after : List ℕ) (first i steps : ℕ) → before ≡ walked head first (min i steps) value
     → (i < steps → after ≡ sha256 (head ++ (first + i) % 256 ∷ before)) → (steps ≤ i → after ≡ before)
     → after ≡ walked head first (min (i + 1) steps) value
-goes_on head value before after first i steps so_far taken left = by (ltb i steps) refl
+walked-next head value before after first i steps so_far taken left = by (ltb i steps) refl
   where
     by : (b : Bool) → ltb i steps ≡ b → after ≡ walked head first (min (i + 1) steps) value
     by true e =

@@ -4,7 +4,7 @@ use Rattle.sha2.specs.Sha256.{add32, digest_bytes, first_words}
 use Rattle.lms_lanes.specs.Lanes.{lane_of}
 use Rattle.lms_lanes.specs.Chains.{short_padding}
 use Rattle.lms_lanes.proofs.ChainText.{opened_word, words_of_step}
-use Rattle.lms_lanes.proofs.Lanes.{lane_of_eight, one_of, splat, word_of_lane}
+use Rattle.lms_lanes.proofs.Lanes.{lane_of_eight, EachLane-get_or, EachLane-splat, word_of_lane}
 use Rattle.lms_lanes.proofs.blocks.block_at.Goals as goal
 
 pub returns : goal.returns
@@ -12,11 +12,11 @@ returns c =
     let head = c.args.head.now in
     let value = c.args.value.now in
     let first = c.requires.head in
-    let h0 = one_of 6 head 0 first (omega arith) in
-    let h1 = one_of 6 head 1 first (omega arith) in
-    let h2 = one_of 6 head 2 first (omega arith) in
-    let h3 = one_of 6 head 3 first (omega arith) in
-    let h4 = one_of 6 head 4 first (omega arith) in
+    let h0 = EachLane-get_or 6 head 0 first (omega arith) in
+    let h1 = EachLane-get_or 6 head 1 first (omega arith) in
+    let h2 = EachLane-get_or 6 head 2 first (omega arith) in
+    let h3 = EachLane-get_or 6 head 3 first (omega arith) in
+    let h4 = EachLane-get_or 6 head 4 first (omega arith) in
     let v0 = c.opened.ensures.words in
     let v1 = c.joined.ensures in
     let v2 = c.joined-2.ensures in
@@ -26,8 +26,8 @@ returns c =
     let v6 = c.joined-6.ensures in
     let v7 = c.joined-7.ensures in
     let v8 = c.ended.ensures in
-    let zeros = splat 0 in
-    let bits = splat 440 in
+    let zeros = EachLane-splat 0 in
+    let bits = EachLane-splat 440 in
     record {
       vectors = record {
         long = refl;

@@ -1,7 +1,7 @@
 use Rattle.std.proofs.Common.{◌≡◌, ◌∙◌, [], get_or, min, slice_index, ap, arith}
 use Rattle.sha2.specs.Sha256.{digest_bytes}
 use Rattle.lms_lanes.specs.Chains.{walked}
-use Rattle.lms_lanes.proofs.Walks.{goes_on}
+use Rattle.lms_lanes.proofs.Walks.{walked-next}
 use Rattle.lms_lanes.proofs.chains.hash_chains.Goals as goal
 
 pub steps-preserved : goal.steps-preserved
@@ -12,7 +12,7 @@ steps-preserved c = record {
       let first = c.widened-first.ensures.lanes.lane k lt in
       let count = c.widened-count.ensures.lanes.lane k lt in
       let next = c.step-next.ensures.lanes k lt head (c.head_words-head.ensures.lanes k lt) in
-      goes_on head (get_or c.args.values.now k []) _ _ (slice_index c.args.firsts.now k) c.steps.i (slice_index c.args.steps.now k) (c.steps.invariant.lanes k lt)
+      walked-next head (get_or c.args.values.now k []) _ _ (slice_index c.args.firsts.now k) c.steps.i (slice_index c.args.steps.now k) (c.steps.invariant.lanes k lt)
       (λ more. ap (λ h. digest_bytes h 8) (c.chosen-after.ensures.taken k lt (omega (arith, count))) ∙ rw (first) at next)
       (λ over. ap (λ h. digest_bytes h 8) (c.chosen-after.ensures.left k lt (omega (arith, count))));
 }

@@ -2,7 +2,7 @@ use Rattle.std.proofs.Common.{◌<◌, ◌∙◌, ℕ, [], ◌∷◌, get_or, ar
 use Rattle.std.specs.Simd.Lanes.{zip2}
 use Rattle.sha2.specs.Sha256.{add32}
 use Rattle.lms_lanes.specs.Lanes.{EachLane}
-use Rattle.lms_lanes.proofs.Lanes.{both, lane_of_eight, one_of}
+use Rattle.lms_lanes.proofs.Lanes.{EachLane-zip2, lane_of_eight, EachLane-get_or}
 use Rattle.lms_lanes.proofs.rounds.added.Goals as goal
 
 pub returns : goal.returns
@@ -12,7 +12,7 @@ returns c =
     let first = c.requires.first in
     let second = c.requires.second in
     let sum : (i : ℕ) → i < 8 → EachLane (zip2 add32 (get_or h i []) (get_or v i [])) (λ k. add32 (slice_index (get_or h i []) k) (slice_index (get_or v i []) k)) =
-    λ i lt. both add32 (one_of 8 h i first lt) (one_of 8 v i second lt) in
+    λ i lt. EachLane-zip2 add32 (EachLane-get_or 8 h i first lt) (EachLane-get_or 8 v i second lt) in
     let s0 = sum 0 (omega arith) in
     let s1 = sum 1 (omega arith) in
     let s2 = sum 2 (omega arith) in

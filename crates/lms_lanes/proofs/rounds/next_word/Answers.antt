@@ -1,5 +1,5 @@
 use Rattle.std.proofs.Common.{◌+◌, ◌%◌, ◌≡◌, arith, refl}
-use Rattle.lms_lanes.proofs.Lanes.{both, one_of, said, word_of_lane}
+use Rattle.lms_lanes.proofs.Lanes.{EachLane-zip2, EachLane-get_or, EachLane-equal, word_of_lane}
 use Rattle.lms_lanes.proofs.rounds.next_word.Goals as goal
 
 pub returns-clause-value : goal.returns-clause-value
@@ -8,9 +8,9 @@ returns-clause-value c =
     let p = c.args.place in
     let vectors = c.requires.vectors in
     let same : p % 16 ≡ p = omega arith in
-    said
-    (both _ (both _ (both _ c.small_sigma1.ensures (one_of 16 w ((p + 9) % 16) vectors (omega arith))) c.small_sigma0.ensures)
-    (one_of 16 w p vectors (omega arith)))
+    EachLane-equal
+    (EachLane-zip2 _ (EachLane-zip2 _ (EachLane-zip2 _ c.small_sigma1.ensures (EachLane-get_or 16 w ((p + 9) % 16) vectors (omega arith))) c.small_sigma0.ensures)
+    (EachLane-get_or 16 w p vectors (omega arith)))
     (λ k lt.
     rw (
       same,
