@@ -6,6 +6,12 @@ ghost use Rattle.lms_lanes.specs.Chains.{HasHead, ended_word, joined_word, short
 
 use std::simd::prelude::*;
 
+/// The bits of a hashed text, 55 bytes, which the last word of its padding counts (FIPS 180-4, 5.1.1).
+const TEXT_BITS: u32 = 440;
+
+/// The byte in which the padding begins: a bit 1 (5.1.1).
+const PADDING_START: u32 = 0x80;
+
 /// The words of the blocks of step `i`, whose byte is i more than `first`.
 #[inline(always)]
 pub(crate) fn block_at(head: &[u32x8; 6], first: u32x8, i: u16, value: &[u32x8; 8]) -> [u32x8; 16]
@@ -32,7 +38,7 @@ pub(crate) fn block_at(head: &[u32x8; 6], first: u32x8, i: u16, value: &[u32x8; 
         joined(value[6], value[7]),
         ended(value[7]),
         u32x8::splat(0),
-        u32x8::splat(440),
+        u32x8::splat(TEXT_BITS),
     ]
 }
 
@@ -68,5 +74,5 @@ fn joined(x: u32x8, y: u32x8) -> u32x8
 fn ended(x: u32x8) -> u32x8
     ensures { EachLane result (λ k. ended_word (slice_index x k)) }
 {
-    (x << 8) + u32x8::splat(0x80)
+    (x << 8) + u32x8::splat(PADDING_START)
 }
