@@ -1,5 +1,5 @@
 -- Chains as they are walked in lanes.
-use Rattle.std.proofs.Common.{ℕ, zero, suc, ◌≡◌, ◌+◌, ◌%◌, ◌<◌, ◌≤◌, ◌∙◌, List, [], ◌∷◌, ◌++◌, slice_index, refl, ap₂, arith, lit≤}
+use Rattle.std.proofs.Common.{ℕ, zero, suc, ◌≡◌, ◌+◌, ◌-◌, ◌%◌, ◌<◌, ◌≤◌, ◌∙◌, List, [], ◌∷◌, ◌++◌, slice_index, refl, ap₂, arith, lit≤}
 use Rattle.sha2.specs.Sha256.{sha256}
 use Rattle.lms_lanes.specs.Chains.{walked}
 use Rattle.lms_spec.specs.Bytes.{u16str}
@@ -8,6 +8,15 @@ use Rattle.lms_spec.specs.Ots.{chain, last_digit}
 use Rattle.lms_params.specs.OtsType.{ots_set_of}
 use Rattle.lms_params.specs.declared.ots_type.OtsType.{OtsType}
 use Rattle.lms_params.specs.declared.ots_type.OtsType.TheVariants.{W1, W2, W4, W8}
+
+-- from a digit on
+pub walked-chain : (id : List ℕ) (q i from steps : ℕ) (value : List ℕ) → from + steps ≤ 256
+    → walked (place id q ++ u16str i) from steps value ≡ chain id q i from steps value
+unfolding chain_step
+walked-chain id q i from zero value most = refl
+walked-chain id q i from (suc n) value most =
+    let byte : (from + n) % 256 ≡ from + n = omega (arith, most) in
+    ap₂ (λ byte x. sha256 ((place id q ++ u16str i) ++ byte ∷ x)) byte (walked-chain id q i from n value (omega (arith, most)))
 
 -- from the seed on, whose hash is the secret
 pub walked-secret : (id seed : List ℕ) (q i digit : ℕ) → digit ≤ 255
@@ -38,6 +47,12 @@ pub lane-from_seed : (id seed : List ℕ) (q i digit number byte steps : ℕ) (s
 lane-from_seed id seed q i digit number byte steps start en eb es ev most =
     let hashes : steps ≡ suc digit = omega (arith, es) in
     (λ j. walked (place id q ++ u16str (en j)) (eb j) (hashes j) (ev j)) ∙ walked-secret id seed q i digit most
+
+pub lane-from_digit : (id : List ℕ) (q i from to byte steps : ℕ) (start value : List ℕ)
+    → byte ≡ from → steps ≡ to - from → start ≡ value → from ≤ to → to ≤ 255
+    → walked (place id q ++ u16str i) byte steps start ≡ chain id q i from (to - from) value
+lane-from_digit id q i from to byte steps start value eb es ev order most =
+    (λ j. walked (place id q ++ u16str i) (eb j) (es j) (ev j)) ∙ walked-chain id q i from (to - from) value (omega (arith, order, most))
 
 pub last_digit-byte : (t : OtsType) → last_digit (ots_set_of t) ≤ 255
 last_digit-byte W1 = lit≤ tt

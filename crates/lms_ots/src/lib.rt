@@ -4,6 +4,7 @@
 //! the leaves apart.
 #![tactic(auto)]
 
+mod chain_ends;
 mod chain_hashes;
 mod eights;
 mod hashing;
@@ -12,6 +13,7 @@ mod signature;
 mod verification;
 mod walk;
 
+pub use crate::chain_ends::{ByEights, ChainEnds, OneByOne};
 pub use crate::hashing::hasher_at;
 pub use crate::one_time_key::{OtsId, chain, public_hash, secret};
 pub use crate::signature::sign_into;

@@ -1,4 +1,7 @@
-use crate::{OtsId, Verifier, candidate, chain, hasher_at, public_hash, secret, sign_into};
+use crate::{
+    ByEights, ChainEnds, OneByOne, OtsId, Verifier, candidate, chain, hasher_at, public_hash,
+    secret, sign_into,
+};
 use hex::FromHex;
 use lms_params::{LmsType, OtsType};
 use lms_slow::SlowTree;
@@ -117,31 +120,61 @@ fn refuses_other_sets_and_lengths(rt: HostRuntime) -> Result<(), Fail> {
     Ok(())
 }
 
-/// The candidate of `abc`, which comes in pieces.
-fn by_pieces(ots: OtsType, id: OtsId, text: &[u8]) -> Option<[u8; 32]> {
+/// The candidate of a message, which comes in pieces.
+fn by_pieces<C: ChainEnds>(
+    ots: OtsType,
+    id: OtsId,
+    text: &[u8],
+    msg: &[u8; 3],
+    chains: C,
+) -> Option<[u8; 32]> {
     let mut verifier = Verifier::begin(ots, id, text)?;
-    verifier.update(b"a");
+    verifier.update(&msg[..1]);
     verifier.update(b"");
-    verifier.update(b"bc");
-    Some(verifier.finish())
+    verifier.update(&msg[1..]);
+    Some(verifier.finish(chains))
 }
 
-/// The candidate of `abc`, which another hasher takes.
-fn by_hash(ots: OtsType, id: OtsId, text: &[u8]) -> Option<[u8; 32]> {
+/// The candidate of a message, which another hasher takes.
+fn by_hash<C: ChainEnds>(
+    ots: OtsType,
+    id: OtsId,
+    text: &[u8],
+    msg: &[u8; 3],
+    chains: C,
+) -> Option<[u8; 32]> {
     let verifier = Verifier::begin(ots, id, text)?;
     let mut hasher = Sha256::new();
     hasher.update(verifier.head());
-    hasher.update(b"abc");
-    Some(verifier.finish_by_hash(&hasher.finalize()))
+    hasher.update(msg);
+    Some(verifier.finish_by_hash(&hasher.finalize(), chains))
+}
+
+/// Whether this is the candidate of a message, however it is handed over and its chains are taken to their ends.
+fn is_candidate(ots: OtsType, id: OtsId, text: &[u8], msg: &[u8; 3], expected: [u8; 32]) -> bool {
+    by_pieces(ots, id, text, msg, OneByOne) == Some(expected)
+        && by_pieces(ots, id, text, msg, ByEights) == Some(expected)
+        && by_hash(ots, id, text, msg, OneByOne) == Some(expected)
+        && by_hash(ots, id, text, msg, ByEights) == Some(expected)
+}
+
+/// A signature leads to its key's public hash in all ways, and with another message in all ways to one other hash.
+fn check_ways(rt: &(impl Abort + AllocGlobal), ots: OtsType) -> Result<(), Fail> {
+    let text = signature(rt.alloc(), ots, 5)?;
+    let id = OtsId { i: ID, q: 5 };
+    let public = public_hash(ots, &SEED, id);
+    assert!(rt; is_candidate(ots, id, &text, b"abc", public), "{ots:?}");
+    let other = candidate(ots, id, &text, b"abd").unwrap_or(public);
+    assert!(rt; other != public, "{ots:?}");
+    assert!(rt; is_candidate(ots, id, &text, b"abd", other), "{ots:?}");
+    Ok(())
 }
 
 #[test]
-fn takes_a_message_in_pieces(rt: HostRuntime) -> Result<(), Fail> {
-    let text = signature(rt.alloc(), OtsType::W4, 5)?;
-    let id = OtsId { i: ID, q: 5 };
-    let public = public_hash(OtsType::W4, &SEED, id);
-    assert!(rt; by_pieces(OtsType::W4, id, &text) == Some(public));
-    assert!(rt; by_hash(OtsType::W4, id, &text) == Some(public));
+fn finds_one_candidate_in_all_ways(rt: HostRuntime) -> Result<(), Fail> {
+    for ots in [OtsType::W1, OtsType::W2, OtsType::W4, OtsType::W8] {
+        check_ways(&rt, ots)?;
+    }
     Ok(())
 }
 

@@ -1,15 +1,14 @@
 //! The public hash that a one-time signature leads to (RFC 8554, 4.6).
-ghost use Rattle.std.specs.Prelude.{ℕ, ◌≡◌, ◌≤◌, ◌<◌, ◌++◌, List, [], map, length, slice_index, IfSome, IfNone};
+ghost use Rattle.std.specs.Prelude.{ℕ, ◌≡◌, ◌++◌, List, [], IfSome, IfNone};
 ghost use Rattle.sha2.specs.Sha256.{sha256};
-ghost use Rattle.lms_spec.specs.Bytes.{below};
 ghost use Rattle.lms_spec.specs.Parameters.{OtsSet};
-ghost use Rattle.lms_spec.specs.Ots.{last_digit as last_digit_of, end_from, ends_hash as ends_hash_of, message_hash as message_hash_of, IsOtsSignature, LeadsTo};
+ghost use Rattle.lms_spec.specs.Ots.{message_hash as message_hash_of, IsOtsSignature, LeadsTo};
 ghost use Rattle.lms_params.specs.OtsType.{ots_set_of};
 ghost use Rattle.lms_ots.specs.Heads.{ots_head};
 ghost use Rattle.lms_ots.specs.Verifying.{HasTaken};
 
-use crate::hashing::hasher_at;
-use crate::one_time_key::{D_PBLC, OtsId, chain, last_digit};
+use crate::chain_ends::{ByEights, ChainEnds};
+use crate::one_time_key::OtsId;
 use crate::signature::{Signature, message_hasher, message_head};
 use lms_params::{OtsType, digits};
 use sha2::{Digest, Sha256};
@@ -22,7 +21,7 @@ pub fn candidate(t: OtsType, id: OtsId, sig: &[u8], msg: &[u8]) -> Option<[u8; 3
 {
     let mut verifier = Verifier::begin(t, id, sig)?;
     verifier.update(msg);
-    Some(verifier.finish())
+    Some(verifier.finish(ByEights))
 }
 
 /// Finds the public hash that a signature leads to (RFC 8554, 4.6), for a message that comes in pieces of any lengths:
@@ -61,12 +60,12 @@ impl<'a> Verifier<'a> {
     }
 
     /// The public hash that the signature and the message lead to (4.6).
-    pub fn finish(self) -> [u8; 32]
+    pub fn finish<C: ChainEnds>(self, chains: C) -> [u8; 32]
         ensures { (t : OtsSet) (id : List ℕ) (q : ℕ) (signature message : List ℕ)
             → HasTaken self.entry t id q signature message → LeadsTo t id q signature message result }
     {
         let hash = self.hasher.finalize();
-        candidate_by_hash(self.signature, self.id, &hash)
+        candidate_by_hash(self.signature, self.id, &hash, chains)
     }
 
     /// The 54 bytes that the hash of a message has before it: I, q, D_MESG and C (4.5).
@@ -79,17 +78,22 @@ impl<'a> Verifier<'a> {
 
     /// The public hash that the signature leads to with a message of which another hasher made the SHA-256, over `head`
     /// and the message (4.6). What this one has taken plays no part.
-    pub fn finish_by_hash(self, hash: &[u8; 32]) -> [u8; 32]
+    pub fn finish_by_hash<C: ChainEnds>(self, hash: &[u8; 32], chains: C) -> [u8; 32]
         ensures { (t : OtsSet) (id : List ℕ) (q : ℕ) (signature taken message : List ℕ)
             → HasTaken self.entry t id q signature taken → hash.now ≡ sha256 (ots_head id q signature ++ message)
             → LeadsTo t id q signature message result }
     {
-        candidate_by_hash(self.signature, self.id, hash)
+        candidate_by_hash(self.signature, self.id, hash, chains)
     }
 }
 
 /// The public hash that a signature leads to, from the hash of the message (4.6).
-fn candidate_by_hash(signature: Signature, id: OtsId, hash: &[u8; 32]) -> [u8; 32]
+fn candidate_by_hash<C: ChainEnds>(
+    signature: Signature,
+    id: OtsId,
+    hash: &[u8; 32],
+    chains: C,
+) -> [u8; 32]
     ensures { (text message : List ℕ)
         → IsOtsSignature (ots_set_of signature.entry.t) signature.entry.randomizer.now signature.entry.values.now text
         → hash.now ≡ message_hash_of id.i id.q signature.entry.randomizer.now message
@@ -97,20 +101,5 @@ fn candidate_by_hash(signature: Signature, id: OtsId, hash: &[u8; 32]) -> [u8; 3
 {
     let Signature { t, values, .. } = signature;
     let digits = digits(hash, t);
-    ends_hash(t, id, &digits, values)
-}
-
-/// The hash of the ends that the chains have, from values that stand at these digits (4.6).
-fn ends_hash(t: OtsType, id: OtsId, digits: &[u8; 265], values: &[[u8; 32]]) -> [u8; 32]
-    requires count { length values.now ≡ (ots_set_of t).p }
-    requires limit { (i : ℕ) → i < (ots_set_of t).p → slice_index digits.now i ≤ last_digit_of (ots_set_of t) }
-    ensures { result ≡ ends_hash_of id.i id.q (map (end_from (ots_set_of t) id.i id.q digits.now values.now) (below (ots_set_of t).p)) }
-{
-    let last = last_digit(t);
-    let mut hasher = hasher_at(&id.i, id.q);
-    hasher.update(D_PBLC.to_be_bytes());
-    for i in 0..t.p() {
-        hasher.update(chain(id, i as u16, u16::from(digits[i]), last, &values[i]));
-    }
-    hasher.finalize()
+    chains.ends_hash(t, id, &digits, values)
 }

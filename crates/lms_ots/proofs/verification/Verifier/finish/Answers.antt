@@ -7,7 +7,7 @@ use Rattle.lms_ots.proofs.verification.Verifier.finish.Goals as goal
 
 pub returns : goal.returns
 unfolding message_hash
-returns c t id q signature message taken =
+returns g c t id q signature message taken =
     let of_self = c.args.self.signature in
     rw (taken.set_is, taken.id_is, taken.leaf_is)
     at (c.candidate_by_hash.ensures signature message

@@ -8,7 +8,7 @@ use Rattle.lms_ots.proofs.verification.Verifier.finish_by_hash.Goals as goal
 
 pub returns : goal.returns
 unfolding message_hash
-returns c t id q signature before message taken hashed =
+returns g c t id q signature before message taken hashed =
     let of_self = c.args.self.signature in
     rw (taken.set_is, taken.id_is, taken.leaf_is)
     at (c.candidate_by_hash.ensures signature message

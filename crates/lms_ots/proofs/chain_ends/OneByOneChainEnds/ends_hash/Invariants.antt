@@ -5,7 +5,7 @@ use Rattle.lms_spec.specs.Bytes.{below, u16str}
 use Rattle.lms_spec.specs.Hashing.{d_pblc, place}
 use Rattle.lms_spec.specs.Ots.{end_from}
 use Rattle.lms_params.specs.OtsType.{ots_set_of}
-use Rattle.lms_ots.proofs.verification.ends_hash.Given as goal
+use Rattle.lms_ots.proofs.chain_ends.OneByOneChainEnds.ends_hash.Given as goal
 
 abbrev pub invariant-loop-i : goal.invariant-loop-i
 invariant-loop-i l =

@@ -6,7 +6,7 @@ use Rattle.lms_spec.specs.Hashing.{d_pblc, place}
 use Rattle.lms_spec.specs.Ots.{chain, end_from, ends_hash}
 use Rattle.lms_spec.proofs.Below.{concat-below-suc}
 use Rattle.lms_params.specs.OtsType.{ots_set_of}
-use Rattle.lms_ots.proofs.verification.ends_hash.Goals as goal
+use Rattle.lms_ots.proofs.chain_ends.OneByOneChainEnds.ends_hash.Goals as goal
 
 pub loop-i-preserved : goal.loop-i-preserved
 loop-i-preserved c =

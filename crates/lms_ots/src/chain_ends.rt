@@ -1,0 +1,68 @@
+//! The ends of a signature's chains, in two ways: one chain after another, or eight side by side.
+ghost use Rattle.std.specs.Prelude.{ℕ, ◌≡◌, ◌-◌, ◌≤◌, ◌<◌, List, map, length, slice_index};
+ghost use Rattle.lms_spec.specs.Bytes.{below};
+ghost use Rattle.lms_spec.specs.Ots.{last_digit as last_digit_of, end_from, ends_hash as ends_hash_of};
+ghost use Rattle.lms_params.specs.OtsType.{ots_set_of};
+
+use crate::hashing::hasher_at;
+use crate::one_time_key::{D_PBLC, OtsId, chain, last_digit};
+use crate::walk::walk_all;
+use lms_params::OtsType;
+use sha2::{Digest, Sha256};
+
+/// The way in which a verifier takes the chains of a signature to their ends. All ways answer the same; they differ in time, code
+/// and stack.
+pub trait ChainEnds: Copy {
+    /// The hash of the ends that the chains have, from values that stand at these digits (RFC 8554, 4.6). There must be
+    /// `t.p()` values, and no digit of theirs above the last.
+    fn ends_hash(self, t: OtsType, id: OtsId, digits: &[u8; 265], values: &[[u8; 32]]) -> [u8; 32]
+        requires count { length values.now ≡ (ots_set_of t).p }
+        requires limit { (i : ℕ) → i < (ots_set_of t).p → slice_index digits.now i ≤ last_digit_of (ots_set_of t) }
+        ensures { result ≡ ends_hash_of id.i id.q (map (end_from (ots_set_of t) id.i id.q digits.now values.now) (below (ots_set_of t).p)) };
+}
+
+/// One chain after another: where stack and code are scarce, as in boot loaders. A verification takes less than 4 KiB of stack.
+#[derive(Clone, Copy)]
+pub struct OneByOne;
+
+impl ChainEnds for OneByOne {
+    fn ends_hash(self, t: OtsType, id: OtsId, digits: &[u8; 265], values: &[[u8; 32]]) -> [u8; 32] {
+        let last = last_digit(t);
+        let mut hasher = hasher_at(&id.i, id.q);
+        hasher.update(D_PBLC.to_be_bytes());
+        for i in 0..t.p() {
+            hasher.update(chain(id, i as u16, u16::from(digits[i]), last, &values[i]));
+        }
+        hasher.finalize()
+    }
+}
+
+/// Eight chains side by side, in the lanes of vectors: everywhere else. A verification takes some 16 KiB of stack.
+#[derive(Clone, Copy)]
+pub struct ByEights;
+
+impl ChainEnds for ByEights {
+    fn ends_hash(self, t: OtsType, id: OtsId, digits: &[u8; 265], values: &[[u8; 32]]) -> [u8; 32] {
+        let mut ends = [[0; 32]; 265];
+        walk_all(t, id, digits, &steps_from(t, digits), values, &mut ends);
+        let mut hasher = hasher_at(&id.i, id.q);
+        hasher.update(D_PBLC.to_be_bytes());
+        for i in 0..t.p() {
+            hasher.update(ends[i]);
+        }
+        hasher.finalize()
+    }
+}
+
+/// How many steps lead from each digit to the last.
+fn steps_from(t: OtsType, digits: &[u8; 265]) -> [u16; 265]
+    requires { (i : ℕ) → i < (ots_set_of t).p → slice_index digits.now i ≤ last_digit_of (ots_set_of t) }
+    ensures { (i : ℕ) → i < (ots_set_of t).p → slice_index result i ≡ last_digit_of (ots_set_of t) - slice_index digits.now i }
+{
+    let last = last_digit(t);
+    let mut steps = [0; 265];
+    'chains: for i in 0..t.p() {
+        steps[i] = last - u16::from(digits[i]);
+    }
+    steps
+}
