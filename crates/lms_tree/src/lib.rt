@@ -21,5 +21,6 @@ pub use crate::node_source::NodeSource;
 pub use crate::progress::{Progress, Unwatched};
 pub use crate::signing::{public_bytes, sign_into};
 pub use crate::tree_key::TreeKey;
-pub use crate::verification::{Verifier, signature_len, verify};
+pub use crate::verification::{Verifier, signature_len, verify, verify_with};
 pub use crate::whole_tree::WholeTree;
+pub use lms_ots::{ByEights, ChainEnds, OneByOne};

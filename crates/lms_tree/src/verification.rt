@@ -10,21 +10,29 @@ ghost use Rattle.lms_tree.specs.Parts.{IsLmsPublicKey, IsLmsSignature, HasSignat
 ghost use Rattle.lms_tree.specs.Verifying.{HasTaken};
 
 use crate::nodes::{inner_hash, leaf_count, leaf_hash};
-use lms_ots::OtsId;
+use lms_ots::{ByEights, ChainEnds, OtsId};
 use lms_params::{LmsType, OtsType, lms_sig_len, split_u32};
 
 #[cfg(test)]
 mod tests;
 
-/// Whether a signature is accepted for a message under a public key (RFC 8554, 5.4.2). The three may have any length.
+/// Whether a signature is accepted for a message under a public key (RFC 8554, 5.4.2). The three may have any length. Its chains are
+/// taken to their ends by eights.
 pub fn verify(public: &[u8], msg: &[u8], sig: &[u8]) -> bool
+    ensures { IsTrue result ↔ LmsAccepts public.now msg.now sig.now }
+{
+    verify_with(public, msg, sig, ByEights)
+}
+
+/// The same, with the signature's chains taken to their ends in this way.
+pub fn verify_with<C: ChainEnds>(public: &[u8], msg: &[u8], sig: &[u8], chains: C) -> bool
     ensures { IsTrue result ↔ LmsAccepts public.now msg.now sig.now }
 {
     let Some(mut verifier) = Verifier::begin(public, sig) else {
         return false;
     };
     verifier.update(msg);
-    verifier.finish()
+    verifier.finish(chains)
 }
 
 /// Verifies a signature (RFC 8554, 5.4.2) of a message that comes in pieces of any lengths: `begin`, `update` with each
@@ -68,11 +76,11 @@ impl<'a> Verifier<'a> {
     }
 
     /// Whether the signature is accepted for the message (5.4.2).
-    pub fn finish(self) -> bool
+    pub fn finish<C: ChainEnds>(self, chains: C) -> bool
         ensures { (public signature message : List ℕ)
             → HasTaken self.entry public signature message → (IsTrue result ↔ LmsAccepts public message signature) }
     {
-        let ots_public = self.ots.finish();
+        let ots_public = self.ots.finish(chains);
         is_root(&self.key, self.leaf, &ots_public, self.path)
     }
 
@@ -85,12 +93,12 @@ impl<'a> Verifier<'a> {
 
     /// Whether the signature is accepted for a message of which another hasher made the SHA-256, over `head` and the
     /// message (5.4.2). What this one has taken plays no part.
-    pub fn finish_by_hash(self, hash: &[u8; 32]) -> bool
+    pub fn finish_by_hash<C: ChainEnds>(self, hash: &[u8; 32], chains: C) -> bool
         ensures { (public signature taken message : List ℕ)
             → HasTaken self.entry public signature taken → hash.now ≡ sha256 (lms_head public signature ++ message)
             → (IsTrue result ↔ LmsAccepts public message signature) }
     {
-        let ots_public = self.ots.finish_by_hash(hash);
+        let ots_public = self.ots.finish_by_hash(hash, chains);
         is_root(&self.key, self.leaf, &ots_public, self.path)
     }
 }

@@ -1,5 +1,8 @@
 //! Messages that come in pieces, and messages that another hasher takes.
-use crate::{NodeSource, TreeKey, Verifier, WholeTree, public_bytes, sign_into};
+use crate::{
+    ByEights, ChainEnds, NodeSource, OneByOne, TreeKey, Verifier, WholeTree, public_bytes,
+    sign_into,
+};
 use lms_params::{LmsType, OtsType, lms_sig_len};
 use sha2::{Digest, Sha256};
 use std::alloc::AllocError;
@@ -7,33 +10,45 @@ use std::process::Abort;
 use std::test::Fail;
 
 /// The verdict on a message that comes in two pieces.
-fn by_pieces(public: &[u8], first: &[u8], second: &[u8], signature: &[u8]) -> bool {
+fn by_pieces<C: ChainEnds>(
+    public: &[u8],
+    first: &[u8],
+    second: &[u8],
+    signature: &[u8],
+    chains: C,
+) -> bool {
     let Some(mut verifier) = Verifier::begin(public, signature) else {
         return false;
     };
     verifier.update(first);
     verifier.update(second);
-    verifier.finish()
+    verifier.finish(chains)
 }
 
 /// The verdict on a message that another hasher takes.
-fn by_hash(public: &[u8], message: &[u8], signature: &[u8]) -> bool {
+fn by_hash<C: ChainEnds>(public: &[u8], message: &[u8], signature: &[u8], chains: C) -> bool {
     let Some(verifier) = Verifier::begin(public, signature) else {
         return false;
     };
     let mut hasher = Sha256::new();
     hasher.update(verifier.head());
     hasher.update(message);
-    verifier.finish_by_hash(&hasher.finalize())
+    verifier.finish_by_hash(&hasher.finalize(), chains)
 }
 
-/// A signature of `abc` is valid in all ways, and with another message or another length in none.
+/// Whether a signature of `abc` is valid in all ways, and with another message in none.
+fn judges<C: ChainEnds>(public: &[u8], signature: &[u8], chains: C) -> bool {
+    by_pieces(public, b"", b"abc", signature, chains)
+        && by_pieces(public, b"ab", b"c", signature, chains)
+        && by_hash(public, b"abc", signature, chains)
+        && !by_pieces(public, b"c", b"ab", signature, chains)
+        && !by_hash(public, b"abd", signature, chains)
+}
+
+/// A signature of `abc` is judged alike with its chains taken to their ends in both ways, and at another length in none.
 fn check_ways(rt: &impl Abort, public: &[u8], signature: &[u8]) {
-    assert!(rt; by_pieces(public, b"", b"abc", signature));
-    assert!(rt; by_pieces(public, b"ab", b"c", signature));
-    assert!(rt; by_hash(public, b"abc", signature));
-    assert!(rt; !by_pieces(public, b"c", b"ab", signature));
-    assert!(rt; !by_hash(public, b"abd", signature));
+    assert!(rt; judges(public, signature, OneByOne));
+    assert!(rt; judges(public, signature, ByEights));
     let shorter = signature.get(1..).unwrap_or(&[]);
     assert!(rt; Verifier::begin(public, shorter).is_none());
 }

@@ -4,7 +4,7 @@ use Rattle.lms_tree.proofs.Acceptance.{accepts-when-root}
 use Rattle.lms_tree.proofs.verification.Verifier.finish.Goals as goal
 
 pub returns : goal.returns
-returns c public_key signature message taken =
+returns g c public_key signature message taken =
     let key = c.args.self.key in
     let t = ots_set_of key.ots in
     accepts-when-root (lms_set_of key.lms) t key.i key.root public_key taken.q taken.ots_part c.args.self.path.now message signature c.finish-ots_public.result c.args.self.leaf c.is_root.result

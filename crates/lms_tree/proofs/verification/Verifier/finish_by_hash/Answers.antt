@@ -7,7 +7,7 @@ use Rattle.lms_tree.proofs.Heads.{head-by-parts}
 use Rattle.lms_tree.proofs.verification.Verifier.finish_by_hash.Goals as goal
 
 pub returns : goal.returns
-returns c public_key signature before message taken hashed =
+returns g c public_key signature before message taken hashed =
     let key = c.args.self.key in
     let m = lms_set_of key.lms in
     let t = ots_set_of key.ots in
