@@ -19,5 +19,5 @@ pub use crate::forest::Forest;
 pub use crate::key::{HssKey, same_key};
 pub use crate::levels::{KeyFault, Levels};
 pub use crate::text::LevelsText;
-pub use crate::verification::{LMS_KEY_LEN, Verifier, verify};
-pub use lms_tree::{Progress, Unwatched};
+pub use crate::verification::{LMS_KEY_LEN, Verifier, verify, verify_with};
+pub use lms_tree::{ByEights, ChainEnds, OneByOne, Progress, Unwatched};

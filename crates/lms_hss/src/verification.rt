@@ -9,20 +9,28 @@ ghost use Rattle.lms_hss.specs.Verifying.{HasTaken};
 
 use crate::levels::MOST_LEVELS;
 use lms_params::split_u32;
-use lms_tree::signature_len;
+use lms_tree::{ByEights, ChainEnds, signature_len};
 
 /// The bytes of an LMS public key (5.3).
 pub const LMS_KEY_LEN: usize = 56;
 
-/// Whether a signature is accepted for a message under a public key (RFC 8554, 6.3). The three may have any length.
+/// Whether a signature is accepted for a message under a public key (RFC 8554, 6.3). The three may have any length. The chains of
+/// all levels are taken to their ends by eights.
 pub fn verify(public: &[u8], msg: &[u8], sig: &[u8]) -> bool
     ensures { IsTrue result ↔ HssAccepts public.now msg.now sig.now }
 {
-    let Some(mut verifier) = Verifier::begin(public, sig) else {
+    verify_with(public, msg, sig, ByEights)
+}
+
+/// The same, with the chains of all levels taken to their ends in this way.
+pub fn verify_with<C: ChainEnds>(public: &[u8], msg: &[u8], sig: &[u8], chains: C) -> bool
+    ensures { IsTrue result ↔ HssAccepts public.now msg.now sig.now }
+{
+    let Some(mut verifier) = Verifier::begin(public, sig, chains) else {
         return false;
     };
     verifier.update(msg);
-    verifier.finish()
+    verifier.finish(chains)
 }
 
 /// Verifies a signature (RFC 8554, 6.3) of a message that comes in pieces of any lengths: `begin`, `update` with each
@@ -36,7 +44,7 @@ impl<'a> Verifier<'a> {
     /// Before the first byte of the message. The key and the signature may have any length; None is for those that have no
     /// head, under which no message is accepted: they have not their form, or a level's signature of the key below it is not
     /// valid. These are all verified here, since they sign keys and not the message.
-    pub fn begin(public: &'a [u8], sig: &'a [u8]) -> Option<Self>
+    pub fn begin<C: ChainEnds>(public: &'a [u8], sig: &'a [u8], chains: C) -> Option<Self>
         ensures some { IfSome result (λ v. HasTaken v public.now sig.now []) }
         ensures none { IfNone result ((message : List ℕ) → ¬ HssAccepts public.now message sig.now) }
         ensures no_head { IfNone result ((head : List ℕ) → ¬ IsMessageHead public.now sig.now head) }
@@ -46,7 +54,7 @@ impl<'a> Verifier<'a> {
         if levels == 0 || levels > MOST_LEVELS as u32 || signed_keys != levels - 1 {
             return None;
         }
-        let signed = Bottom::below(signed_keys, top_key, signatures)?;
+        let signed = Bottom::below(signed_keys, top_key, signatures, chains)?;
         let bottom = lms_tree::Verifier::begin(signed.key, signed.signature)?;
         Some(Verifier { bottom })
     }
@@ -68,20 +76,20 @@ impl<'a> Verifier<'a> {
 
     /// Whether the signature is accepted for a message of which another hasher made the SHA-256, over `head` and the
     /// message (6.3). What this one has taken plays no part.
-    pub fn finish_by_hash(self, hash: &[u8; 32]) -> bool
+    pub fn finish_by_hash<C: ChainEnds>(self, hash: &[u8; 32], chains: C) -> bool
         ensures { (public signature taken head message : List ℕ)
             → HasTaken self.entry public signature taken → IsMessageHead public signature head → hash.now ≡ sha256 (head ++ message)
             → (IsTrue result ↔ HssAccepts public message signature) }
     {
-        self.bottom.finish_by_hash(hash)
+        self.bottom.finish_by_hash(hash, chains)
     }
 
     /// Whether the signature is accepted for the message (6.3).
-    pub fn finish(self) -> bool
+    pub fn finish<C: ChainEnds>(self, chains: C) -> bool
         ensures { (public signature message : List ℕ)
             → HasTaken self.entry public signature message → (IsTrue result ↔ HssAccepts public message signature) }
     {
-        self.bottom.finish()
+        self.bottom.finish(chains)
     }
 }
 
@@ -95,7 +103,12 @@ struct Bottom<'a> {
 impl<'a> Bottom<'a> {
     /// Goes down so many signed keys, each accepted by the one above. None exactly where there are not so many: no message is
     /// accepted then.
-    fn below(signed_keys: u32, key: &'a [u8], signatures: &'a [u8]) -> Option<Self>
+    fn below<C: ChainEnds>(
+        signed_keys: u32,
+        key: &'a [u8],
+        signatures: &'a [u8],
+        chains: C,
+    ) -> Option<Self>
         ensures some { IfSome result (λ bottom. (message : List ℕ)
             → (AcceptsThrough signed_keys key.now message signatures.now ↔ LmsAccepts bottom.key.now message bottom.signature.now)) }
         ensures reached { IfSome result (λ bottom. Reaches signed_keys key.now signatures.now bottom.key.now bottom.signature.now) }
@@ -109,7 +122,7 @@ impl<'a> Bottom<'a> {
         };
         while left > 0 {
             let next = SignedKey::parse(bottom.key, bottom.signature)?;
-            if !lms_tree::verify(bottom.key, next.key, next.signature) {
+            if !lms_tree::verify_with(bottom.key, next.key, next.signature, chains) {
                 return None;
             }
             bottom = Bottom {

@@ -1,6 +1,6 @@
 //! Messages that come in pieces, and messages that another hasher takes.
 use crate::tests::{LEVEL, RANDOMIZER, slow_key, vectors};
-use crate::{Verifier, verify};
+use crate::{ByEights, ChainEnds, OneByOne, Verifier, verify, verify_with};
 use lms_slow::vectors::Vector;
 use lms_slow::{slow_public, slow_sign};
 use sha2::{Digest, Sha256};
@@ -8,36 +8,55 @@ use std::process::Abort;
 use std::test::Fail;
 
 /// The verdict on a message that comes in pieces of this length, after an empty one.
-fn by_pieces(public: &[u8], message: &[u8], signature: &[u8], length: usize) -> bool {
-    let Some(mut verifier) = Verifier::begin(public, signature) else {
+fn by_pieces<C: ChainEnds>(
+    public: &[u8],
+    message: &[u8],
+    signature: &[u8],
+    length: usize,
+    chains: C,
+) -> bool {
+    let Some(mut verifier) = Verifier::begin(public, signature, chains) else {
         return false;
     };
     verifier.update(&[]);
     for piece in message.chunks(length.max(1)) {
         verifier.update(piece);
     }
-    verifier.finish()
+    verifier.finish(chains)
 }
 
 /// The verdict on a message that another hasher takes.
-fn by_hash(public: &[u8], message: &[u8], signature: &[u8]) -> bool {
-    let Some(verifier) = Verifier::begin(public, signature) else {
+fn by_hash<C: ChainEnds>(public: &[u8], message: &[u8], signature: &[u8], chains: C) -> bool {
+    let Some(verifier) = Verifier::begin(public, signature, chains) else {
         return false;
     };
     let mut hasher = Sha256::new();
     hasher.update(verifier.head());
     hasher.update(message);
-    verifier.finish_by_hash(&hasher.finalize())
+    verifier.finish_by_hash(&hasher.finalize(), chains)
 }
 
-/// Whether this is the verdict on a message, however it is handed over.
+/// Whether this is the verdict on a message, however it is handed over, with chains taken to their ends in this way.
+fn is_verdict_with<C: ChainEnds>(
+    public: &[u8],
+    message: &[u8],
+    signature: &[u8],
+    valid: bool,
+    chains: C,
+) -> bool {
+    verify_with(public, message, signature, chains) == valid
+        && by_pieces(public, message, signature, 1, chains) == valid
+        && by_pieces(public, message, signature, 55, chains) == valid
+        && by_pieces(public, message, signature, 64, chains) == valid
+        && by_pieces(public, message, signature, message.len(), chains) == valid
+        && by_hash(public, message, signature, chains) == valid
+}
+
+/// Whether this is the verdict on a message in all ways.
 fn is_verdict(public: &[u8], message: &[u8], signature: &[u8], valid: bool) -> bool {
     verify(public, message, signature) == valid
-        && by_pieces(public, message, signature, 1) == valid
-        && by_pieces(public, message, signature, 55) == valid
-        && by_pieces(public, message, signature, 64) == valid
-        && by_pieces(public, message, signature, message.len()) == valid
-        && by_hash(public, message, signature) == valid
+        && is_verdict_with(public, message, signature, valid, OneByOne)
+        && is_verdict_with(public, message, signature, valid, ByEights)
 }
 
 /// A signature by another implementation is valid in all ways, and of its message without the first byte in none.

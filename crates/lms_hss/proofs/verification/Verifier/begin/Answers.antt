@@ -7,7 +7,7 @@ use Rattle.lms_hss.proofs.TopKeys.{accepts-by-numbers}
 use Rattle.lms_hss.proofs.verification.Verifier.begin.Goals as goal
 
 pub returns-clause-some : goal.returns-clause-some
-returns-clause-some c =
+returns-clause-some g c =
     let levels = c.in_ok-levels in
     let signed_keys = c.in_ok-signed_keys in
     let signed = c.in_ok-signed.signed in
@@ -35,7 +35,7 @@ returns-clause-some c =
     }
 
 pub returns-in_err-bottom-clause-no_head : goal.returns-in_err-bottom-clause-no_head
-returns-in_err-bottom-clause-no_head c =
+returns-in_err-bottom-clause-no_head g c =
     let levels = c.in_ok-levels in
     let signed_keys = c.in_ok-signed_keys in
     let signed = c.in_ok-signed.signed in
