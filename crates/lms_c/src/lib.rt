@@ -1,6 +1,7 @@
 //! HSS/LMS verification for C (RFC 8554, 6.3): a static library, whose header is include/lms.h.
 //!
-//! No call allocates, starts a thread, waits or keeps anything. A slice is a pointer and a length to C.
+//! No call allocates, starts a thread, waits or keeps anything. A slice is a pointer and a length to C. Chains are taken to their
+//! ends one by one, so that 4 KiB of stack are enough.
 #![tactic(auto)]
 
 ghost use Rattle.std.specs.Prelude.{ℕ, ◌≡◌, List, ◌++◌, false, ◌↔◌, IsTrue};
@@ -9,14 +10,14 @@ ghost use Rattle.lms_spec.specs.Hss.{HssAccepts};
 ghost use Rattle.lms_hss.specs.Bottoms.{IsMessageHead};
 ghost use Rattle.lms_c.specs.Pieces.{joined};
 
-use lms_hss::Verifier;
+use lms_hss::{OneByOne, Verifier};
 
 /// Whether a signature is accepted for a message under a public key (RFC 8554, 6.3). The three may have any length.
 #[unsafe(no_mangle)]
 pub extern "C" fn lms_verify(public: &[u8], message: &[u8], signature: &[u8]) -> bool
     ensures { IsTrue result ↔ HssAccepts public.now message.now signature.now }
 {
-    lms_hss::verify(public, message, signature)
+    lms_hss::verify_with(public, message, signature, OneByOne)
 }
 
 /// A piece of a message.
@@ -31,13 +32,13 @@ pub struct LmsPiece<'a> {
 pub extern "C" fn lms_verify_pieces(public: &[u8], pieces: &[LmsPiece], signature: &[u8]) -> bool
     ensures { IsTrue result ↔ HssAccepts public.now (joined pieces.now) signature.now }
 {
-    let Some(mut verifier) = Verifier::begin(public, signature) else {
+    let Some(mut verifier) = Verifier::begin(public, signature, OneByOne) else {
         return false;
     };
     for piece in pieces {
         verifier.update(piece.bytes);
     }
-    verifier.finish()
+    verifier.finish(OneByOne)
 }
 
 /// Writes the 54 bytes that the hash of a message has before it, I, q, D_MESG and C (RFC 8554, 4.5), for a caller that
@@ -49,7 +50,7 @@ pub extern "C" fn lms_message_head(public: &[u8], signature: &[u8], head: &mut [
     ensures no_head { result ≡ false → (head : List ℕ) → ¬ IsMessageHead public.now signature.now head }
     ensures unwritten { result ≡ false → head.new ≡ head.old }
 {
-    let Some(verifier) = Verifier::begin(public, signature) else {
+    let Some(verifier) = Verifier::begin(public, signature, OneByOne) else {
         return false;
     };
     *head = verifier.head();
@@ -64,8 +65,8 @@ pub extern "C" fn lms_verify_hash(public: &[u8], signature: &[u8], hash: &[u8; 3
         → (IsTrue result ↔ HssAccepts public.now message signature.now) }
     ensures head { IsTrue result → (head : List ℕ) × IsMessageHead public.now signature.now head }
 {
-    let Some(verifier) = Verifier::begin(public, signature) else {
+    let Some(verifier) = Verifier::begin(public, signature, OneByOne) else {
         return false;
     };
-    verifier.finish_by_hash(hash)
+    verifier.finish_by_hash(hash, OneByOne)
 }
