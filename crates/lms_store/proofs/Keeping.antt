@@ -3,7 +3,7 @@ use Rattle.std.proofs.Common.{◌≡◌, ◌∙◌, ℕ, ◌<◌, ◌-◌, List,
 use Rattle.std.proofs.lemmas.List.{length-reverse, get_or-reverse}
 use Rattle.std.proofs.lemmas.List.Elements.{All-cons, All-take, All-get_or, All-from_get_or, All-weaker, All-contains, All-contains_itself, Contains-append_left, Contains-push}
 use Rattle.lms_book.specs.Stops.{Texts, IsAmong, or_else}
-use Rattle.lms_store.specs.FileStores.{FileWrite, Knows, Leaves, kept_of, last_certain, left_by, most_tried, texts_now, tried_since}
+use Rattle.lms_store.specs.FileStores.{FileWrite, Knows, Leaves, kept_of, last_certain, left_after, most_tried, texts_now, tried_since}
 
 -- the texts tried since the certain one, and that one behind them; any where none is certain
 abbrev pub left_of : Option (List ℕ) → List (List ℕ) → Texts
@@ -15,7 +15,7 @@ left_tried None tried text = refl
 left_tried (Some certain) tried text = refl
 
 left_once_more : (stored : Bool) (text : List ℕ) (certain : Option (List ℕ)) (tried : List (List ℕ)) (before : Texts) → before ≡ left_of certain tried
-    → left_by stored text before ≡ left_of (if stored then Some text else certain) (if stored then [] else text ∷ tried)
+    → left_after stored text before ≡ left_of (if stored then Some text else certain) (if stored then [] else text ∷ tried)
 left_once_more true text certain tried before is = refl
 left_once_more false text certain tried before is = ap (or_else text) is ∙ left_tried certain tried text
 

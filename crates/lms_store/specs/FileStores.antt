@@ -18,14 +18,14 @@ pub record FileState : Type 0 where
   pub failures : ℕ
 
 -- the texts of which a stop leaves one after a write of this text, which was stored for certain or not, by those before it
-abbrev pub left_by : Bool → List ℕ → Texts → Texts
-left_by true text before = only text
-left_by false text before = or_else text before
+abbrev pub left_after : Bool → List ℕ → Texts → Texts
+left_after true text before = only text
+left_after false text before = or_else text before
 
 -- the texts of which a stop after these writes leaves one; before any write it may be any
 abbrev pub texts_now : List FileWrite → Texts
 texts_now [] = None
-texts_now (newest ∷ older) = left_by newest.stored newest.text (texts_now older)
+texts_now (newest ∷ older) = left_after newest.stored newest.text (texts_now older)
 
 -- those before each of the writes, the first write first
 abbrev pub texts_before : List FileWrite → List Texts
@@ -80,16 +80,16 @@ abbrev pub Knows : List FileWrite → List ℕ → Type 0
 Knows writes text = (kept_after writes ≡ []) ⊎ Contains (kept_after writes) text
 
 -- what a write of this text answers and leaves
-abbrev pub Replaces : {T : Type 0} → FileState → List ℕ → Result T StoreFault → FileState → Type 0
-Replaces old text (Ok done) new = (length text ≤ longest_text) × (new ≡ written old text true)
-Replaces old text (Err fault) new =
+abbrev pub RecordsWrite : {T : Type 0} → FileState → List ℕ → Result T StoreFault → FileState → Type 0
+RecordsWrite old text (Ok done) new = (length text ≤ longest_text) × (new ≡ written old text true)
+RecordsWrite old text (Err fault) new =
     ((length text ≤ longest_text) × (new ≡ failed (written old text false))) ⊎ ((longest_text < length text) × (new ≡ failed old))
 
 -- what a read answers and leaves
-abbrev pub Reads : FileState → Result (Vec ℕ) ReadFault → FileState → Type 0
-Reads old (Ok text) new = Knows old.writes text.items × (new ≡ old)
-Reads old (Err Device) new = new ≡ failed old
-Reads old (Err OutOfMemory) new = new ≡ old
+abbrev pub ReadsKnown : FileState → Result (Vec ℕ) ReadFault → FileState → Type 0
+ReadsKnown old (Ok text) new = Knows old.writes text.items × (new ≡ old)
+ReadsKnown old (Err Device) new = new ≡ failed old
+ReadsKnown old (Err OutOfMemory) new = new ≡ old
 
 -- the folder that holds a file, by what stands before its name
 abbrev pub folder_by : Option (List ℕ) → List ℕ

@@ -137,7 +137,7 @@ impl<'a, R: Files> FileStore<'a, R> {
 }
 
 impl<R: Files + Sync> StateStore for FileStore<'_, R> {
-    ghost use Rattle.lms_store.specs.FileStores.{view_of, Reads, Replaces};
+    ghost use Rattle.lms_store.specs.FileStores.{view_of, ReadsKnown, RecordsWrite};
     ghost use Rattle.lms_book.specs.Stops.{ReadsStore, WritesStore};
 
     ghost seen = { view_of };
@@ -150,7 +150,7 @@ impl<R: Files + Sync> StateStore for FileStore<'_, R> {
     #[tactic(auto, using(crate::proofs::Keeping::knows_leaves))]
     fn read(&mut self, alloc: Global) -> Result<Vec<u8>, ReadFault>
         ensures seen { ReadsStore (Unit {0}) (view_of self.old) result (view_of self.new) }
-        ensures reads { Reads self.old result self.new }
+        ensures known { ReadsKnown self.old result self.new }
     {
         match self.fetch(alloc) {
             Ok(text) if self.writes.knows(&text) => Ok(text),
@@ -167,7 +167,7 @@ impl<R: Files + Sync> StateStore for FileStore<'_, R> {
     /// step fails. A crash at any point leaves the file with the old bytes or with these. It takes no memory.
     fn replace(&mut self, text: &[u8]) -> Result<(), StoreFault>
         ensures writes { WritesStore text.now (view_of self.old) result (view_of self.new) }
-        ensures replaces { Replaces self.old text.now result self.new }
+        ensures recorded { RecordsWrite self.old text.now result self.new }
     {
         let Some(kept) = Text::new(text) else {
             self.fail();
