@@ -3,7 +3,7 @@ ghost use Rattle.std.specs.Prelude.{◌≡◌, IfOk};
 ghost use Rattle.lms_store.specs.FileStores.{fresh, failed};
 
 use crate::locking::StateLock;
-use crate::paths::{OWNER_ONLY, folder_of, resolve, sibling};
+use crate::paths::{OWNER_ONLY, folder_of, sibling};
 use crate::record::Record;
 use lms_book::{ReadFault, StateStore, StoreFault, Text};
 use lms_params::OutOfMemory;
@@ -23,8 +23,6 @@ pub struct FileStore<'a, R: Files> {
     state: String,
     draft: String,
     folder: String,
-    // Where false, nobody knows which file the name leads to.
-    resolved: bool,
     writes: Record,
     failures: u64,
 }
@@ -42,19 +40,8 @@ impl<'a, R: Files> Model for FileStore<'a, R> {
 }
 
 impl<'a, R: Files> FileStore<'a, R> {
-    /// The store in the file of this name, which need not be there yet. A symbolic link is followed once, here; where it
-    /// can't be told where it leads, every read and every write fails. `OutOfMemory` where memory for the paths is refused.
-    pub fn new(alloc: Global, files: &'a R, name: &str) -> Result<Self, OutOfMemory>
-        ensures { IfOk result (λ store. store ≡ fresh) }
-    {
-        match resolve(files, alloc, name) {
-            Ok(path) => Self::over(alloc, files, path, true),
-            Err(error) if error.kind() == ErrorKind::OutOfMemory => Err(OutOfMemory),
-            Err(_) => Self::over(alloc, files, String::from_str(alloc, name)?, false),
-        }
-    }
-
-    /// The store in the file that this lock is of: no name is resolved anew. `OutOfMemory` where memory for the paths is refused.
+    /// The store in the file that this lock is of; the file need not be there yet. Hold the lock as long as the store is used.
+    /// `OutOfMemory` where memory for the paths is refused.
     pub fn locked(
         alloc: Global,
         files: &'a R,
@@ -62,14 +49,7 @@ impl<'a, R: Files> FileStore<'a, R> {
     ) -> Result<Self, OutOfMemory>
         ensures { IfOk result (λ store. store ≡ fresh) }
     {
-        let path = String::from_str(alloc, lock.path())?;
-        Self::over(alloc, files, path, true)
-    }
-
-    /// The store in the file of this path, where `resolved`.
-    fn over(alloc: Global, files: &'a R, state: String, resolved: bool) -> Result<Self, OutOfMemory>
-        ensures { IfOk result (λ store. store ≡ fresh) }
-    {
+        let state = String::from_str(alloc, lock.path())?;
         let draft = sibling(alloc, state.as_str(), ".new")?;
         let folder = String::from_str(alloc, folder_of(state.as_str()))?;
         Ok(FileStore {
@@ -77,24 +57,13 @@ impl<'a, R: Files> FileStore<'a, R> {
             state,
             draft,
             folder,
-            resolved,
             writes: Record::new(),
             failures: 0,
         })
     }
 
-    /// An error where the name could not be resolved.
-    fn reach(&self) -> io::Result<()> {
-        if self.resolved {
-            Ok(())
-        } else {
-            Err(io::Error::from(ErrorKind::InvalidFilename))
-        }
-    }
-
     /// The file whole.
     fn fetch(&self, alloc: Global) -> io::Result<Vec<u8>> {
-        self.reach()?;
         let mut file = fs::open(self.files, self.state.as_str())?;
         let mut text = Vec::new(alloc);
         file.read_to_end(&mut text)?;
@@ -105,7 +74,6 @@ impl<'a, R: Files> FileStore<'a, R> {
     /// the old state; one after it, until the folder is flushed, the old or the new one. The folder is opened first, so that
     /// one that can't be opened changes nothing.
     fn put(&self, text: &[u8]) -> io::Result<()> {
-        self.reach()?;
         let folder = fs::open(self.files, self.folder.as_str())?;
         self.write_draft(text)?;
         fs::rename(self.files, self.draft.as_str(), self.state.as_str())?;

@@ -2,12 +2,14 @@ mod recording;
 mod replacing;
 
 use crate::paths::exists;
-use crate::{FileStore, lock};
+use crate::{FileStore, TryLock, lock};
 use lms_book::{ReadFault, StateStore, StoreFault};
 use lms_params::OutOfMemory;
+use std::alloc::Global;
 use std::fs;
 use std::fs::Permissions;
 use std::os::unix::fs::{MetadataExt, PermissionsExt, symlink};
+use std::rt::Files;
 use std::test::Fail;
 
 /// Makes an empty folder, in place of one that an earlier run left.
@@ -25,15 +27,31 @@ fn reads(rt: &HostRuntime, store: &mut impl StateStore, text: &[u8]) -> bool {
     }
 }
 
-/// Whether a new store in the file reads this text.
-fn holds(rt: &HostRuntime, name: &str, text: &[u8]) -> Result<bool, Fail> {
-    let mut store = FileStore::new(rt.alloc(), rt, name)?;
-    Ok(reads(rt, &mut store, text))
+/// The store of a state over these files, whose lock is let go at once, so that a test can look into the same file by another
+/// store. `None` where the lock can't be had.
+fn store_over<'a, R: Files>(
+    alloc: Global,
+    files: &'a R,
+    name: &str,
+) -> Result<Option<FileStore<'a, R>>, OutOfMemory>
+where
+    R::File: TryLock,
+{
+    match lock(files, alloc, name)? {
+        Some(held) => Ok(Some(FileStore::locked(alloc, files, &held)?)),
+        None => Ok(None),
+    }
 }
 
 /// The store in a file.
 fn store_in<'a>(rt: &'a HostRuntime, name: &str) -> Result<FileStore<'a, HostRuntime>, Fail> {
-    Ok(FileStore::new(rt.alloc(), rt, name)?)
+    Ok(store_over(rt.alloc(), rt, name)?.ok_or("the lock is free")?)
+}
+
+/// Whether a new store in the file reads this text.
+fn holds(rt: &HostRuntime, name: &str, text: &[u8]) -> Result<bool, Fail> {
+    let mut store = store_in(rt, name)?;
+    Ok(reads(rt, &mut store, text))
 }
 
 /// Whether a store takes this text.
@@ -122,6 +140,13 @@ fn is_out_of_reach(rt: &HostRuntime, name: &str) -> Result<bool, Fail> {
     Ok(refuses(&mut store, b"b") && reads_none(rt, &mut store, ReadFault::Device))
 }
 
+/// Whether a state can be neither written nor read once its folder is gone.
+fn is_lost_with(rt: &HostRuntime, folder: &str, name: &str) -> Result<bool, Fail> {
+    let mut store = store_in(rt, name)?;
+    fs::remove_dir_all(rt, folder)?;
+    Ok(refuses(&mut store, b"b") && reads_none(rt, &mut store, ReadFault::Device))
+}
+
 /// Whether the lock on a state of this name can be had.
 fn can_be_locked(rt: &HostRuntime, name: &str) -> Result<bool, Fail> {
     Ok(lock(rt, rt.alloc(), name)?.is_some())
@@ -131,11 +156,11 @@ fn can_be_locked(rt: &HostRuntime, name: &str) -> Result<bool, Fail> {
 fn what_can_not_be_reached_fails(rt: HostRuntime) -> Result<(), Fail> {
     make_obstacles(&rt)?;
     assert!(rt; is_out_of_reach(&rt, "file_store_faults/folder")?);
-    assert!(rt; is_out_of_reach(&rt, "file_store_faults/file/state")?);
-    assert!(rt; is_out_of_reach(&rt, "file_store_faults/none/state")?);
-    assert!(rt; is_out_of_reach(&rt, "file_store_faults/link")?);
-    assert!(rt; holds(&rt, "file_store_faults/file", b"a")?);
+    assert!(rt; is_lost_with(&rt, "file_store_faults/folder", "file_store_faults/folder/state")?);
+    assert!(rt; !can_be_locked(&rt, "file_store_faults/file/state")?);
+    assert!(rt; !can_be_locked(&rt, "file_store_faults/none/state")?);
     assert!(rt; !can_be_locked(&rt, "file_store_faults/link")?);
+    assert!(rt; holds(&rt, "file_store_faults/file", b"a")?);
     fs::remove_dir_all(&rt, "file_store_faults")?;
     Ok(())
 }
@@ -165,14 +190,11 @@ fn a_store_takes_many_writes(rt: HostRuntime) -> Result<(), Fail> {
 }
 
 /// A store, made at the first or at the second try.
-fn second_try<'a>(
-    rt: &'a HostRuntime,
-    name: &str,
-) -> Result<FileStore<'a, HostRuntime>, OutOfMemory> {
-    if let Ok(store) = FileStore::new(rt.alloc(), rt, name) {
+fn second_try<'a>(rt: &'a HostRuntime, name: &str) -> Result<FileStore<'a, HostRuntime>, Fail> {
+    if let Ok(Some(store)) = store_over(rt.alloc(), rt, name) {
         return Ok(store);
     }
-    FileStore::new(rt.alloc(), rt, name)
+    store_in(rt, name)
 }
 
 /// With one request for memory refused, as by `tests/refused`: a store is made and read at the second try at the latest, and

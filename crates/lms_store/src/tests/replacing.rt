@@ -1,7 +1,7 @@
 //! What a store asks of its files, in which order, and what a failure of one operation leaves.
 use super::recording::{Journal, RecordingFiles};
-use super::{empty_folder, holds, reads, reads_none, refuses, takes};
-use crate::{FileStore, TryLock, lock};
+use super::{empty_folder, holds, reads, reads_none, refuses, store_over, takes};
+use crate::{TryLock, lock};
 use lms_book::{ReadFault, StateStore};
 use std::alloc::Global;
 use std::fs;
@@ -252,32 +252,20 @@ fn a_read_tells_want_of_memory(rt: HostRuntime) -> Result<(), Fail> {
 
 const NAME: &str = "file_store_resolves/state";
 
-/// Whether want of memory while the name is resolved is told, by a store and by a lock, and another failure gives no lock.
+/// Whether want of memory while the name is resolved is told, and another failure gives no lock.
 fn tells_of_a_name<R: Files>(alloc: Global, files: &R, journal: &Journal) -> Result<bool, Fail>
 where
     R::File: TryLock,
 {
     journal.fail(0, ErrorKind::OutOfMemory)?;
-    let store_wants = FileStore::new(alloc, files, NAME).is_err();
-    journal.fail(0, ErrorKind::OutOfMemory)?;
-    let lock_wants = lock(files, alloc, NAME).is_err();
+    let wants = lock(files, alloc, NAME).is_err();
     journal.fail(0, ErrorKind::Other)?;
-    Ok(store_wants && lock_wants && lock(files, alloc, NAME)?.is_none())
+    let none = lock(files, alloc, NAME)?.is_none();
+    journal.fail(usize::MAX, ErrorKind::Other)?;
+    Ok(wants && none)
 }
 
-/// What a store does whose name could not be resolved.
-fn reach_nothing(
-    end: &impl Abort,
-    rt: &HostRuntime,
-    store: &mut impl StateStore,
-) -> Result<(), Fail> {
-    assert!(end; reads_none(rt, store, ReadFault::Device));
-    assert!(end; refuses(store, b"new"));
-    assert!(end; holds(rt, NAME, b"old")?);
-    Ok(())
-}
-
-/// The same of the name, which is resolved first.
+/// The same of the name, which is resolved first, for the lock. Once that goes well, the store is there.
 #[test]
 fn a_name_tells_want_of_memory(rt: HostRuntime) -> Result<(), Fail> {
     empty_folder(&rt, "file_store_resolves")?;
@@ -298,7 +286,7 @@ enum Scenario {
     Link,
     /// Reads fail.
     Reads,
-    /// The name can't be resolved.
+    /// The name can't be resolved at first.
     Name,
 }
 
@@ -318,7 +306,10 @@ fn carry_out(
         Scenario::Knows => know_what_was_tried(end, rt, store, journal),
         Scenario::Link => pass_a_link(end, rt, store, journal),
         Scenario::Reads => fail_to_read(end, rt, store, journal),
-        Scenario::Name => reach_nothing(end, rt, store),
+        Scenario::Name => {
+            assert!(end; reads(rt, store, b"old"));
+            Ok(())
+        }
     }
 }
 
@@ -333,8 +324,7 @@ fn over_recorded_files(
     let files = RecordingFiles::new(rt.alloc(), rt, &journal)?;
     if let Scenario::Name = scenario {
         assert!(end; tells_of_a_name(rt.alloc(), &files, &journal)?);
-        journal.fail(0, ErrorKind::Other)?;
     }
-    let mut store = FileStore::new(rt.alloc(), &files, name)?;
+    let mut store = store_over(rt.alloc(), &files, name)?.ok_or("the lock is free")?;
     carry_out(end, rt, &mut store, &journal, scenario)
 }

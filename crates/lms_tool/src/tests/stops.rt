@@ -4,9 +4,10 @@ use lms_book::{Book, StateStore};
 use lms_hss::{HssKey, Levels};
 use lms_image::{Image, encode_image};
 use lms_params::{LmsType, OtsType};
-use lms_store::FileStore;
+use lms_store::{FileStore, TryLock, lock};
 use std::alloc::Global;
 use std::fs;
+use std::rt::Files;
 use std::sync::Arc;
 use std::sync::atomic::{AtomicUsize, Ordering};
 use std::test::Fail;
@@ -61,9 +62,22 @@ fn begins<S: StateStore + Drop>(alloc: Global, store: S) -> Result<Option<u64>, 
     Ok(next_index(&mut book))
 }
 
+/// The store of a state over these files, whose lock is let go at once: each test has one store at a time.
+fn store_over<'a, R: Files>(
+    alloc: Global,
+    files: &'a R,
+    path: &str,
+) -> Result<FileStore<'a, R>, Fail>
+where
+    R::File: TryLock,
+{
+    let held = lock(files, alloc, path)?.ok_or("the lock is free")?;
+    Ok(FileStore::locked(alloc, files, &held)?)
+}
+
 /// The index that the true files give after the program starts again.
 fn next_life(rt: &HostRuntime) -> Result<Option<u64>, Fail> {
-    begins(rt.alloc(), FileStore::new(rt.alloc(), rt, STATE)?)
+    begins(rt.alloc(), store_over(rt.alloc(), rt, STATE)?)
 }
 
 /// The indices that a program gives which begins with this store: one, and one for which its files stop after `k` operations.
@@ -113,7 +127,7 @@ fn carry_out<S: StateStore + Drop>(
 fn came(rt: &HostRuntime, path: &str, k: usize, scenario: Scenario) -> Result<Outcome, Fail> {
     let left = counter(rt.alloc(), usize::MAX)?;
     let files = StoppingFiles::new(rt, left.clone()?);
-    let store = FileStore::new(rt.alloc(), &files, path)?;
+    let store = store_over(rt.alloc(), &files, path)?;
     carry_out(rt.alloc(), store, &left, k, scenario)
 }
 
