@@ -21,9 +21,11 @@ pub struct MemoryWorld {
     in_use: bool,
 }
 
-/// The lock of the state in memory, whatever its name.
+/// The lock of the state in memory, whatever its name. Only a world gives one.
 #[derive(Drop)]
-pub struct MemoryLock;
+pub struct MemoryLock {
+    made: (),
+}
 
 /// The bytes of a file in memory.
 #[derive(Drop)]
@@ -151,7 +153,7 @@ impl World for MemoryWorld {
         if self.in_use {
             Ok(None)
         } else {
-            Ok(Some(MemoryLock))
+            Ok(Some(MemoryLock { made: () }))
         }
     }
 
