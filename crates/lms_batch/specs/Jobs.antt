@@ -5,11 +5,16 @@ use Rattle.lms_spec.specs.Profile.{hss_signature, hss_public_key}
 use Rattle.lms_hss.specs.Covered.{longest_lease}
 use Rattle.lms_hss.specs.Keys.{hss_key_of}
 use Rattle.lms_hss.specs.declared.key.HssKey.{HssKey as KeyOfCode}
+use Rattle.lms_pool.specs.Rule.{most_seats}
 use Rattle.lms_batch.specs.declared.job.Job.{Job}
 
 -- the most jobs of a batch
 abbrev pub most_jobs : ℕ
 most_jobs = longest_lease
+
+-- the most workers of a batch, each of which has a seat
+abbrev pub most_workers : ℕ
+most_workers = most_seats
 
 -- a randomizer and a message
 pub record JobText : Type 0 where

@@ -1,6 +1,6 @@
 //! The workers of a batch, each in a thread of its own where one can be started.
 ghost use Rattle.std.specs.Prelude.{◌≡◌, ◌+◌, ◌<◌, ◌≤◌, ◌^◌, All, IfOk, IfErr, length, vec_len, vec_capacity};
-ghost use Rattle.lms_batch.specs.Jobs.{texts_of};
+ghost use Rattle.lms_batch.specs.Jobs.{most_workers, texts_of};
 ghost use Rattle.lms_batch.specs.Batches.{none_of};
 ghost use Rattle.lms_batch.specs.Answers.{IsAnswerTo};
 
@@ -96,8 +96,8 @@ fn gathered<'a>(collector: Collector<'a>, workers: Vec<Worker<'a>>) -> Batch
     collector.finish()
 }
 
-/// Signs the jobs by the indices of the lease, one for each, by 1 to 64 workers, but no more than there are jobs. Tells `progress`
-/// how many leaves of the lease's forest are worked out.
+/// Signs the jobs by the indices of the lease, one for each, by 1 to `MOST_WORKERS` workers, but no more than there are jobs.
+/// Tells `progress` how many leaves of the lease's forest are worked out.
 ///
 /// `OutOfMemory` where memory is refused before any worker runs, with the lease handed back as it was.
 pub(crate) fn sign_leased<R: Threads + Sync, G: Gate>(
@@ -110,7 +110,7 @@ pub(crate) fn sign_leased<R: Threads + Sync, G: Gate>(
     progress: &impl Progress,
 ) -> Result<Batch, (OutOfMemory, Lease)>
     requires some { 1 ≤ workers }
-    requires at_most { workers ≤ 64 }
+    requires at_most { workers ≤ most_workers }
     requires jobs { 1 ≤ length jobs.now }
     requires len { lease.len ≡ length jobs.now }
     ensures ok { IfOk result (IsAnswerTo lease.key lease.start (texts_of jobs.now)) }

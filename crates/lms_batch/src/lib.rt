@@ -20,4 +20,4 @@ pub use crate::gate::{Gate, OpenGate};
 pub use crate::job::{Job, MOST_JOBS};
 pub use crate::open_lease::{OpenLease, SignFault};
 pub use crate::receipt::Receipt;
-pub use crate::service::{BatchFault, SigningService};
+pub use crate::service::{BatchFault, MOST_WORKERS, SigningService};

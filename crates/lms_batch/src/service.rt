@@ -2,7 +2,7 @@
 ghost use Rattle.std.specs.Prelude.{◌≡◌, ◌<◌, ◌≤◌, ◌+◌, ◌↔◌, Err, IfOk, IsOk, length};
 ghost use Rattle.lms_spec.specs.Hss.{capacity_of};
 ghost use Rattle.lms_hss.specs.Keys.{hss_key_of};
-ghost use Rattle.lms_batch.specs.Jobs.{most_jobs, texts_of};
+ghost use Rattle.lms_batch.specs.Jobs.{most_jobs, most_workers, texts_of};
 ghost use Rattle.lms_batch.specs.Answers.{IsAnswerTo, IsBatchOfNone, CountsBatch, CouldBeReserved, start_of};
 
 use crate::collector::Batch;
@@ -20,6 +20,9 @@ use thiserror::Error;
 
 #[cfg(test)]
 mod tests;
+
+/// The most workers of a batch.
+pub const MOST_WORKERS: usize = 64;
 
 /// Why no batch was made.
 #[derive(Clone, Copy, Debug, PartialEq, Eq, Error)]
@@ -72,9 +75,9 @@ impl<S: StateStore, E: Tally, G: Tally, B: Tally> SigningService<S, E, G, B> {
     }
 
     /// Reserves as many indices as there are jobs, 1 to `MOST_JOBS`, from a start on, and signs the job at place k, counted from 0, by
-    /// index start + k: by 1 to 64 workers at once, the caller's thread among them, but no more than there are jobs. Waits for
-    /// the book's lock, and for the workers. For no jobs it answers `Complete` with start 0 and no signatures, and reserves
-    /// nothing.
+    /// index start + k: by 1 to `MOST_WORKERS` workers at once, the caller's thread among them, but no more than there are jobs.
+    /// Waits for the book's lock, and for the workers. For no jobs it answers `Complete` with start 0 and no signatures, and
+    /// reserves nothing.
     ///
     /// `TooMany` over `MOST_JOBS` jobs, with nothing reserved. `Book` where the reservation is refused, as `SharedBook::reserve`
     /// answers it. `OutOfMemory` where memory is refused after it, before any worker ran: its indices sign nothing. A worker
@@ -91,7 +94,7 @@ impl<S: StateStore, E: Tally, G: Tally, B: Tally> SigningService<S, E, G, B> {
         gate: &W,
     ) -> Result<Batch, BatchFault>
         requires some { 1 ≤ workers }
-        requires at_most { workers ≤ 64 }
+        requires at_most { workers ≤ most_workers }
         ensures answer { IfOk result (λ batch. IsAnswerTo self.now.book.key (start_of batch) (texts_of jobs.now) batch) }
         ensures within { IfOk result (λ batch. start_of batch + length jobs.now ≤ capacity_of (hss_key_of self.now.book.key)) }
         ensures none { length jobs.now ≡ 0 → IsOk result × IfOk result IsBatchOfNone }
@@ -114,7 +117,7 @@ impl<S: StateStore, E: Tally, G: Tally, B: Tally> SigningService<S, E, G, B> {
         progress: &impl Progress,
     ) -> Result<Batch, BatchFault>
         requires some { 1 ≤ workers }
-        requires at_most { workers ≤ 64 }
+        requires at_most { workers ≤ most_workers }
         ensures answer { IfOk result (λ batch. IsAnswerTo self.now.book.key (start_of batch) (texts_of jobs.now) batch) }
         ensures within { IfOk result (λ batch. start_of batch + length jobs.now ≤ capacity_of (hss_key_of self.now.book.key)) }
         ensures none { length jobs.now ≡ 0 → IsOk result × IfOk result IsBatchOfNone }

@@ -1,5 +1,6 @@
 //! `batch`: job lines signed by the next indices of a key's state.
 ghost use Rattle.std.specs.Prelude.{◌≡◌, ◌≤◌, ℕ, List, [], ◌∷◌, length, IfErr, IfOk, OnOk};
+ghost use Rattle.lms_batch.specs.Jobs.{most_workers};
 ghost use Rattle.lms_shared_book.specs.Desks.{BlankFits, sums};
 ghost use Rattle.lms_commands.specs.Batches.{FailsToBatch, FailsToSignJobs, IsSilent, SignsAllJobs, SignsJobs, streams};
 ghost use Rattle.lms_world.specs.Known.{SameFiles};
@@ -82,7 +83,7 @@ fn sign_by_state<W: World, I: Read, O: Write>(
     progress: &impl Progress,
 ) -> Result<Done, Fault>
     requires some { 1 ≤ workers }
-    requires at_most { workers ≤ 64 }
+    requires at_most { workers ≤ most_workers }
     ensures signed { IfOk result (λ done. (state : List ℕ) → W.is_lock_of lock.now state
         → SignsJobs (W.known world.old) (W.known world.new) state
         (streams (I.remaining input.old) (O.contents output.old)) (streams (I.remaining input.new) (O.contents output.new))
@@ -110,7 +111,7 @@ fn sign_by_book<S: StateStore, I: Read, O: Write>(
     progress: &impl Progress,
 ) -> (Result<Done, Fault>, Book<S>)
     requires some { 1 ≤ workers }
-    requires at_most { workers ≤ 64 }
+    requires at_most { workers ≤ most_workers }
     ensures done { IfOk result.0 (λ done. IsDoneBy book (streams (I.remaining input.old) (O.contents output.old))
         (streams (I.remaining input.new) (O.contents output.new)) done result.1) }
     ensures refused { IfErr result.0 (λ fault. IsRefusedBy book (streams (I.remaining input.old) (O.contents output.old))
@@ -139,7 +140,7 @@ fn sign_shared<E: Tally, G: Tally, B: Tally, S: StateStore, I: Read, O: Write>(
     progress: &impl Progress,
 ) -> (Result<Done, Fault>, Book<S>)
     requires some { 1 ≤ workers }
-    requires at_most { workers ≤ 64 }
+    requires at_most { workers ≤ most_workers }
     requires same { book ≡ E.book }
     requires entries { BlankFits blanks.entries E.name E.parts 2 }
     requires given { BlankFits blanks.given G.name G.parts 2 }
@@ -177,7 +178,7 @@ fn sign_at_desk<E: Tally, G: Tally, B: Tally, S: StateStore, I: Read, O: Write>(
     progress: &impl Progress,
 ) -> Result<Done, Fault>
     requires some { 1 ≤ workers }
-    requires at_most { workers ≤ 64 }
+    requires at_most { workers ≤ most_workers }
     requires one { desks.old ≡ sums 0 0 0 ∷ [] }
     ensures done { IfOk result (λ done. IsDoneAtDesk service.now (streams (I.remaining input.old) (O.contents output.old))
         (streams (I.remaining input.new) (O.contents output.new)) done desks.new) }

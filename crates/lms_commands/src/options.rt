@@ -8,6 +8,7 @@ ghost use Rattle.lms_commands.specs.Options.{AreWorkers, IsLevelsText, IsWorkers
 
 use crate::levels_fault::LevelsTextFault;
 use hex::FromHex;
+use lms_batch::MOST_WORKERS;
 use lms_params::{LmsType, OtsType};
 use std::alloc::{AllocError, Global};
 
@@ -45,7 +46,7 @@ pub(crate) fn pair_from(piece: &str) -> Option<(LmsType, OtsType)>
     Some((lms_type_from(height)?, ots_type_from(width)?))
 }
 
-/// The number of workers of a text: a decimal number from 1 to 64, without leading zeros. None exactly where the text is no
+/// The number of workers of a text: a decimal number from 1 to `MOST_WORKERS`, without leading zeros. None exactly where the text is no
 /// such number.
 pub(crate) fn workers_from(text: &str) -> Option<usize>
     ensures some { IfSome result (λ workers. IsWorkers text.now workers) }
@@ -57,7 +58,7 @@ pub(crate) fn workers_from(text: &str) -> Option<usize>
         return None;
     }
     match text.parse::<usize>() {
-        Ok(workers) if 1 <= workers && workers <= 64 => Some(workers),
+        Ok(workers) if 1 <= workers && workers <= MOST_WORKERS => Some(workers),
         _ => None,
     }
 }

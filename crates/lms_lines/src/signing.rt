@@ -1,5 +1,6 @@
 //! Job lines signed by a service.
 ghost use Rattle.std.specs.Prelude.{◌≡◌, ◌≢◌, ◌≤◌, IfOk, IfErr, count_by, is_some};
+ghost use Rattle.lms_batch.specs.Jobs.{most_workers};
 ghost use Rattle.lms_lines.specs.SignedLines.{IsDone, IsLinesFault, signatures_in};
 
 use crate::answers::write_batch;
@@ -42,8 +43,9 @@ pub enum LinesFault {
     Write,
 }
 
-/// Reads job lines to their end, signs them as one batch by 1 to 64 workers, and writes a line for each signature, in the order
-/// of the jobs. Waits for the book's lock and for the workers. `signed` is less than `asked` where a worker was refused memory.
+/// Reads job lines to their end, signs them as one batch by 1 to `MOST_WORKERS` workers, and writes a line for each signature,
+/// in the order of the jobs. Waits for the book's lock and for the workers. `signed` is less than `asked` where a worker was
+/// refused memory.
 ///
 /// `Jobs` where the lines are not read, as `read_jobs` says; `Batch` as `SigningService::sign_batch` says, but for too many
 /// jobs, which `Jobs` tells; `Write` where the writer failed, after a beginning of the lines.
@@ -65,7 +67,7 @@ where
     I: Read,
     O: Write,
     requires some { 1 ≤ workers }
-    requires at_most { workers ≤ 64 }
+    requires at_most { workers ≤ most_workers }
     ensures done { IfOk result (IsDone service.now (I.remaining reader.old) (I.remaining reader.new)
         (O.contents writer.old) (O.contents writer.new) desk.old desk.new) }
     ensures fault { IfErr result (IsLinesFault service.now (I.remaining reader.old) (I.remaining reader.new)
@@ -98,7 +100,7 @@ where
     O: Write,
     P: Progress,
     requires some { 1 ≤ workers }
-    requires at_most { workers ≤ 64 }
+    requires at_most { workers ≤ most_workers }
     ensures done { IfOk result (IsDone service.now (I.remaining reader.old) (I.remaining reader.new)
         (O.contents writer.old) (O.contents writer.new) desk.old desk.new) }
     ensures fault { IfErr result (IsLinesFault service.now (I.remaining reader.old) (I.remaining reader.new)

@@ -1,6 +1,7 @@
 //! Leases of the tests, and pools over them.
 ghost use Rattle.std.specs.Prelude.{◌≡◌, ◌≤◌, All, IfOk, vec_len};
 ghost use Rattle.lms_hss.specs.Covered.{longest_lease};
+ghost use Rattle.lms_pool.specs.Rule.{most_seats};
 
 use crate::{DrawSeat, IndexPool};
 use lms_book::{Book, Lease, MemoryStore};
@@ -61,7 +62,7 @@ pub(crate) fn pool(
 ) -> Result<(IndexPool, Vec<DrawSeat>), Fail>
     requires some { 1 ≤ len }
     requires at_most { len ≤ longest_lease }
-    requires seats { (1 ≤ seats) × (seats ≤ 64) }
+    requires seats { (1 ≤ seats) × (seats ≤ most_seats) }
     ensures pool { IfOk result (λ r. (r.0.len ≡ len) × (r.0.seats ≡ seats)) }
     ensures seats { IfOk result (λ r. (vec_len r.1 ≡ seats) × All (λ seat. seat.pool ≡ r.0) r.1.items) }
 {

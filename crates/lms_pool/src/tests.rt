@@ -1,4 +1,5 @@
 ghost use Rattle.std.specs.Prelude.{◌≡◌, ◌≤◌, All, IfOk};
+ghost use Rattle.lms_pool.specs.Rule.{most_seats};
 
 use crate::fixtures::{lease, pool};
 use crate::{DrawSeat, Ended, IndexPool, MissingSeats, Tally};
@@ -260,7 +261,7 @@ fn drawn_at_once<R: Threads + Sync + AllocGlobal>(
 ) -> Result<Tally, Fail>
     requires some { 1 ≤ len }
     requires at_most { len ≤ 1024 }
-    requires seats { (1 ≤ seats) × (seats ≤ 64) }
+    requires seats { (1 ≤ seats) × (seats ≤ most_seats) }
 {
     let (pool, seats) = pool(rt.alloc(), 0, len, seats)?;
     let all = drawn_by_all(rt, rt.alloc(), &pool, seats, most, stops)?;

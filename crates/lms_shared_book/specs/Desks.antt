@@ -7,6 +7,10 @@ use Rattle.lms_book.specs.declared.refusals.BookFault.TheVariants.{Exhausted, Ou
 use Rattle.lms_book.specs.History.{given_of, burnt_of}
 use Rattle.lms_book.specs.States.{BookState, LeaseState}
 
+-- the most desks of a shared book
+abbrev pub most_desks : ℕ
+most_desks = 64
+
 -- numbers of entries, of indices received and of indices burnt
 pub record Sums : Type 0 where
   pub entries : ℕ

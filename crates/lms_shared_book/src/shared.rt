@@ -2,7 +2,7 @@
 ghost use Rattle.std.specs.Prelude.{◌≡◌, ◌+◌, ◌<◌, ◌≤◌, length, replicate, IfOk, IfErr, OnOk};
 ghost use Rattle.std.specs.Fn.{FnOnceReturnsAt};
 ghost use Rattle.lms_hss.specs.Covered.{longest_lease};
-ghost use Rattle.lms_shared_book.specs.Desks.{sums, plus, total, sums_of, BlankFits, Counts};
+ghost use Rattle.lms_shared_book.specs.Desks.{most_desks, sums, plus, total, sums_of, BlankFits, Counts};
 ghost use Rattle.lms_shared_book.specs.Shared.{IsAfter, IsFound, IsSettled};
 
 use crate::counted::CountedBook;
@@ -61,7 +61,7 @@ impl<S: StateStore, E: Tally, G: Tally, B: Tally> SharedBook<S, E, G, B> {
         desks: usize,
     ) -> Result<(Self, Vec<Desk<E, G, B>>), (OutOfMemory, Book<S>, Blanks)>
         requires some { 1 ≤ desks }
-        requires at_most { desks ≤ 64 }
+        requires at_most { desks ≤ most_desks }
         requires entries { BlankFits blanks.entries E.name E.parts (desks + 1) }
         requires given { BlankFits blanks.given G.name G.parts (desks + 1) }
         requires burnt { BlankFits blanks.burnt B.name B.parts (desks + 1) }

@@ -7,7 +7,7 @@ mod outcome;
 
 use super::{BatchFault, SigningService};
 use crate::fixtures::{LEVELS, book_of, job, public_key, store_at};
-use crate::{Gate, Job, OpenGate};
+use crate::{Gate, Job, MOST_WORKERS, OpenGate};
 use gates::Meeting;
 use lms_book::{Book, BookFault, Entry, Left, MemoryStore};
 use lms_params::OutOfMemory;
@@ -37,7 +37,7 @@ fn counts<E: Tally, G: Tally, B: Tally>(desk: &Desk<E, G, B>) -> (u64, u64, u64)
     (desk.entries(), desk.received(), desk.burnt())
 }
 
-/// Asks for a batch of so many of the jobs, by 1 to 64 workers.
+/// Asks for a batch of so many of the jobs, by 1 to `MOST_WORKERS` workers.
 fn answer_at<E: Tally, G: Tally, B: Tally, W: Gate>(
     rt: &(impl AllocGlobal + Threads + Wait + Sync),
     service: &SigningService<MemoryStore, E, G, B>,
@@ -46,7 +46,7 @@ fn answer_at<E: Tally, G: Tally, B: Tally, W: Gate>(
     length: usize,
 ) -> Answer {
     let length = length.min(asked.jobs.len());
-    let workers = asked.workers.clamp(1, 64);
+    let workers = asked.workers.clamp(1, MOST_WORKERS);
     let jobs = &asked.jobs[..length];
     let batch = service.sign_batch(rt, rt.alloc(), desk, jobs, workers, asked.gate);
     Answer {

@@ -1,5 +1,5 @@
 ghost use Rattle.std.specs.Prelude.{◌≡◌, ◌≤◌, ◌+◌};
-ghost use Rattle.lms_shared_book.specs.Desks.{BlankFits};
+ghost use Rattle.lms_shared_book.specs.Desks.{most_desks, BlankFits};
 
 use super::SharedBook;
 use crate::fixtures::{opened, reserved, small_store, tall_store};
@@ -239,7 +239,7 @@ fn many_desks<E: Tally, G: Tally, B: Tally>(
     desks: usize,
 ) -> Result<(), Fail>
     requires some { 1 ≤ desks }
-    requires at_most { desks ≤ 64 }
+    requires at_most { desks ≤ most_desks }
     requires same { book ≡ E.book }
     requires entries { BlankFits blanks.entries E.name E.parts (desks + 1) }
     requires given { BlankFits blanks.given G.name G.parts (desks + 1) }
@@ -254,7 +254,7 @@ fn many_desks<E: Tally, G: Tally, B: Tally>(
 
 fn desks_of_a_new_book(rt: &(impl Abort + AllocGlobal + Wait), desks: usize) -> Result<(), Fail>
     requires some { 1 ≤ desks }
-    requires at_most { desks ≤ 64 }
+    requires at_most { desks ≤ most_desks }
 {
     let book = opened(rt.alloc(), tall_store(rt.alloc())?)?;
     many_desks::<Brand, Brand, Brand>(rt, book, blanks(desks as u64 + 1), desks)
