@@ -97,7 +97,7 @@ impl fmt::Display for Fault {
 
     fn fmt<W: fmt::Write>(&self, f: &mut fmt::Formatter<W>) -> fmt::Result {
         match *self {
-            Fault::BadLevels => write!(f, "{}", LevelsTextFault::Bad),
+            Fault::BadLevels => f.write_str("bad levels"),
             Fault::TooManyLevels => f.write_str("too many levels"),
             Fault::TooTall => f.write_str("too tall"),
             Fault::BadSeed => f.write_str("bad seed"),
@@ -115,7 +115,7 @@ impl fmt::Display for Fault {
                 write!(f, "{}", BookFault::Store { start, len })
             }
             Fault::Exhausted { left } => write!(f, "{}", BookFault::Exhausted { left }),
-            Fault::OutOfMemory => f.write_str("out of memory"),
+            Fault::OutOfMemory => write!(f, "{}", BookFault::OutOfMemory),
             Fault::OutOfMemoryBurnt { count } => write!(f, "out of memory: {count} burnt"),
             Fault::Partial { signed, asked } => { write!(f, "partial: {signed} of {asked} signed") }
             Fault::Input => f.write_str("cannot read input"),
