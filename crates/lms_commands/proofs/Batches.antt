@@ -31,7 +31,7 @@ use Rattle.lms_commands.specs.Faults.{of_lines}
 use Rattle.lms_commands.specs.declared.fault.Fault.{Fault}
 use Rattle.lms_world.specs.Known.{IsOldOr, Known, Stays, Text}
 use Rattle.lms_commands.specs.SharedBooks.{IsDoneBy, IsRefusedBy, at_one_desk}
-use Rattle.lms_commands.specs.Signing.{BurnsIndices, MayBeImageOf, LacksIndices, Opens, UsesIndices}
+use Rattle.lms_commands.specs.Signing.{MayBurnIndices, MayBeImageOf, MayLackIndices, Opens, MayUseIndices}
 use Rattle.lms_commands.proofs.Signings.{IsFresh, image_is}
 
 same_sums : (a b : Sums) → a.entries ≡ b.entries → a.received ≡ b.received → a.burnt ≡ b.burnt → a ≡ b
@@ -121,7 +121,7 @@ module _ (old new : Known) (state : Text) (start left : BookState) (store : Stor
         only = λ text holds. (taken text).0 (subst (λ (s : StoreView). MayLeave s text) is (only text holds));
       }
 
-  uses_none : IsSettled start (sums 0 0 0) left → UsesIndices 0 old new state start.key start.base
+  uses_none : IsSettled start (sums 0 0 0) left → MayUseIndices 0 old new state start.key start.base
   uses_none settled = record {
     openings = start.openings;
     burnt = start.burnt;
@@ -132,7 +132,7 @@ module _ (old new : Known) (state : Text) (start left : BookState) (store : Stor
   }
 
   -- where they were given, the image that counts them is left
-  uses : (n : ℕ) → IsSettled start (sums 1 (suc n) 0) left → UsesIndices (suc n) old new state start.key start.base
+  uses : (n : ℕ) → IsSettled start (sums 1 (suc n) 0) left → MayUseIndices (suc n) old new state start.key start.base
   uses n settled =
       let made = (one_given start (suc n) settled.entries left (omega arith) settled.after settled.all).makes in
       let text = image_of start.key (start.base + suc n) (start.openings + 1) start.burnt in
@@ -147,7 +147,7 @@ module _ (old new : Known) (state : Text) (start left : BookState) (store : Stor
       }
 
   -- where they were burnt, the state is what it was, or counts them
-  burns : (n : ℕ) → 1 ≤ n → IsSettled start (sums 1 0 n) left → BurnsIndices n old new state start.base
+  burns : (n : ℕ) → 1 ≤ n → IsSettled start (sums 1 0 n) left → MayBurnIndices n old new state start.base
   burns n some settled =
       let made = (one_burnt start n settled.entries left some settled.after settled.all).makes in
       let either : IsOldOr (image_of start.key (start.base + n) (start.openings + 1) start.burnt) old new state
@@ -156,12 +156,12 @@ module _ (old new : Known) (state : Text) (start left : BookState) (store : Stor
       (start.key, start.openings, start.burnt, counted, omega (arith, made.0, is_fresh.used), opened, either)
 
   -- a batch that was read used as many indices as there are jobs
-  used_by : (n : ℕ) (sum : Sums) → sum ≡ plus (sums 0 0 0) (sums (min 1 n) n 0) → IsSettled start sum left → UsesIndices n old new state start.key start.base
+  used_by : (n : ℕ) (sum : Sums) → sum ≡ plus (sums 0 0 0) (sums (min 1 n) n 0) → IsSettled start sum left → MayUseIndices n old new state start.key start.base
   used_by zero sum is settled = uses_none (subst (λ (s : Sums). IsSettled start s left) is settled)
   used_by (suc n) sum is settled = uses n (subst (λ (s : Sums). IsSettled start s left) (is ∙ from_some n) settled)
 
   -- so many, and there are some
-  used_some : (n : ℕ) → 1 ≤ n → IsSettled start (sums 1 n 0) left → UsesIndices n old new state start.key start.base
+  used_some : (n : ℕ) → 1 ≤ n → IsSettled start (sums 1 n 0) left → MayUseIndices n old new state start.key start.base
   used_some zero some settled = absurd (omega (arith, some))
   used_some (suc n) some settled = uses n settled
 
@@ -170,7 +170,7 @@ module _ (old new : Known) (state : Text) (start left : BookState) (store : Stor
   signs_batch before after sum batch is settled = record {
     key = start.key;
     index = start.base;
-    used = used_by (length is.jobs) sum is.counted settled;
+    may_be_used = used_by (length is.jobs) sum is.counted settled;
     answer = is.answer;
     start = λ some. starts_at start (length is.jobs) batch (is.reserved some) ∙ is_fresh.used;
   }
@@ -208,7 +208,7 @@ module _ (old new : Known) (state : Text) (start left : BookState) (store : Stor
   lines_failed before after (lines.Batch (unsigned.Book (book.Exhausted rest))) sum is settled =
       let n = length is.jobs in
       let (full, left_is, same) = (refused_so start n (book.Exhausted rest) is.reserved).1 in
-      let lacks : LacksIndices n old state rest = (
+      let lacks : MayLackIndices n old state rest = (
         start.key,
         start.base,
         start.openings,
@@ -225,7 +225,7 @@ module _ (old new : Known) (state : Text) (start left : BookState) (store : Stor
       let refused = (refused_so start n (book.Store first len) is.reserved).1 in
       let here : start.base ≡ first = sym (refused.1 ∙ is_fresh.used) in
       let burnt = burns n is.some (subst (λ (s : Sums). IsSettled start s left) (is.counted.1 ∙ from_none _) settled) in
-      (is.jobs, is.read, (is.counted.0, subst (BurnsIndices n old new state) here burnt))
+      (is.jobs, is.read, (is.counted.0, subst (MayBurnIndices n old new state) here burnt))
   lines_failed before after (lines.Batch (unsigned.OutOfMemory burnt)) sum is settled =
       let n = length is.jobs in
       let used = used_some n is.some (subst (λ (s : Sums). IsSettled start s left) (is.counted.1 ∙ from_none _) settled) in

@@ -36,13 +36,13 @@ pub signed_still : (old mid new : Known) (state : Text) (random message signatur
     → Stays mid new state → SignsNext old new state random message signature index
 signed_still old mid new state random message signature index is stays = record {
   key = is.key;
-  used = record {
-    openings = is.used.openings;
-    burnt = is.used.burnt;
-    counted = is.used.counted;
-    within = is.used.within;
-    opened = is.used.opened;
-    stored = stays.kept _ is.used.stored;
+  may_be_used = record {
+    openings = is.may_be_used.openings;
+    burnt = is.may_be_used.burnt;
+    counted = is.may_be_used.counted;
+    within = is.may_be_used.within;
+    opened = is.may_be_used.opened;
+    stored = stays.kept _ is.may_be_used.stored;
   };
   signature_is = is.signature_is;
   accepted = is.accepted;
@@ -60,7 +60,7 @@ not_delivered old new state random message out before after randomizer text sign
         signature = signature;
         index = index;
         randomizer_read = read;
-        text_given = given;
+        text_may_be_given = given;
         signed = signed;
       };
       printed_last = last;

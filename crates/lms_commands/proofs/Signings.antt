@@ -14,7 +14,7 @@ use Rattle.lms_book.specs.Books.{burnt_now, counter, next_image}
 use Rattle.lms_book.proofs.Leaving.{leaves_failed, only_has}
 use Rattle.lms_commands.specs.Faults.{of_signing}
 use Rattle.lms_world.specs.Known.{IsOldOr, Known, Stays, Text}
-use Rattle.lms_commands.specs.Signing.{FailsToSignNext, GivesOne, MayBeImageOf, SignsNext, SignsNothing, UsesIndices}
+use Rattle.lms_commands.specs.Signing.{FailsToSignNext, GivesOne, MayBeImageOf, SignsNext, SignsNothing, MayUseIndices}
 use Rattle.lms_commands.specs.declared.signing.SignFault.{SignFault}
 use Rattle.lms_commands.specs.declared.signing.SignFault.TheVariants as unsigned
 
@@ -49,7 +49,7 @@ module _ (old new : Known) (state : Text) (before after : BookState) (store : St
       }
 
   -- its next index is used
-  uses_next : GivesOne before after → UsesIndices 1 old new state before.key before.base
+  uses_next : GivesOne before after → MayUseIndices 1 old new state before.key before.base
   uses_next gives =
       let text = image_of before.key (before.base + 1) (before.openings + 1) before.burnt in
       let there : MayLeave after.store text = subst (λ (s : StoreView). MayLeave s text) (sym gives.stored) (only_has (next_image 1 before) text (sym (image_is 1 before is_fresh))) in
@@ -91,7 +91,7 @@ module _ (old new : Known) (state : Text) (before after : BookState) (store : St
       → SignsNext old new state random message signature index
   next_signed random message signature index gives at is accepted = record {
     key = before.key;
-    used = subst (λ (n : ℕ). UsesIndices 1 old new state before.key n) (sym (at ∙ is_fresh.used)) (uses_next gives);
+    may_be_used = subst (λ (n : ℕ). MayUseIndices 1 old new state before.key n) (sym (at ∙ is_fresh.used)) (uses_next gives);
     signature_is = is;
     accepted = accepted;
   }

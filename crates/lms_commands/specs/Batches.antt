@@ -10,7 +10,7 @@ use Rattle.lms_lines.specs.JobsTexts.{HasTooManyJobs, IsFirstBadLine, ReadsJobs}
 use Rattle.lms_lines.specs.SignedLines.{signatures_in}
 use Rattle.lms_world.specs.Known.{Known, Stays, Text}
 use Rattle.lms_commands.specs.Options.{AreWorkers}
-use Rattle.lms_commands.specs.Signing.{BurnsIndices, LacksIndices, MayBeBadState, Opens, UsesIndices}
+use Rattle.lms_commands.specs.Signing.{MayBurnIndices, MayLackIndices, MayBeBadState, Opens, MayUseIndices}
 use Rattle.lms_commands.specs.declared.fault.Fault.{Fault}
 use Rattle.lms_commands.specs.declared.fault.Fault.TheVariants.{BadWorkers, BadJob, TooManyJobs, StateInUse, ReadState, BadState, WriteStateBurnt, Exhausted, OutOfMemory, OutOfMemoryBurnt, Input, Output, Partial}
 
@@ -26,7 +26,7 @@ streams input output = record { input = input; output = output }
 pub record SignsBatch (old new : Known) (state : Text) (jobs : List JobText) (batch : Batch) : Type 0 where
   pub key : KeyOfCode
   pub index : ℕ
-  pub used : UsesIndices (length jobs) old new state key index
+  pub may_be_used : MayUseIndices (length jobs) old new state key index
   pub answer : IsAnswerTo key (start_of batch) jobs batch
   pub start : 1 ≤ length jobs → start_of batch ≡ index
 
@@ -70,12 +70,12 @@ FailsToSignJobs old new state before after Input = Opens old state × Stays old 
 FailsToSignJobs old new state before after (BadJob line) = Opens old state × IfSome before.input (λ text. IsFirstBadLine text line) × Stays old new state
 FailsToSignJobs old new state before after TooManyJobs = Opens old state × IfSome before.input HasTooManyJobs × Stays old new state
 FailsToSignJobs old new state before after (Exhausted left) =
-    AreRead before after (λ jobs. LacksIndices (length jobs) old state left) × Stays old new state
+    AreRead before after (λ jobs. MayLackIndices (length jobs) old state left) × Stays old new state
 FailsToSignJobs old new state before after (WriteStateBurnt start len) =
-    AreRead before after (λ jobs. (len ≡ length jobs) × BurnsIndices (length jobs) old new state start)
+    AreRead before after (λ jobs. (len ≡ length jobs) × MayBurnIndices (length jobs) old new state start)
 FailsToSignJobs old new state before after OutOfMemory = Stays old new state
 FailsToSignJobs old new state before after (OutOfMemoryBurnt count) = AreRead before after (λ jobs.
-    (count ≡ length jobs) × ((key : KeyOfCode) × (index : ℕ) × UsesIndices (length jobs) old new state key index))
+    (count ≡ length jobs) × ((key : KeyOfCode) × (index : ℕ) × MayUseIndices (length jobs) old new state key index))
 FailsToSignJobs old new state before after (Partial signed asked) = (signed ≢ asked) × SignsJobs old new state before after signed asked
 FailsToSignJobs old new state before after Output = SignsJobsInVain old new state before after
 FailsToSignJobs old new state before after _ = ⊥

@@ -53,11 +53,12 @@ IsNoKey levels seed id BadId = AreTaken levels × IsHexOf 32 seed × ¬ IsHexOf 
 IsNoKey levels seed id OutOfMemory = Unit {0}
 IsNoKey levels seed id _ = ⊥
 
--- there was no state, and now there is that of this key with nothing counted; its public key is in a file, and its capacity is printed
+-- there may have been no state, and now there may be that of this key with nothing counted; a file may have its public key, and its
+-- capacity is printed
 pub record MakesKey (old new : Known) (key : KeyOfCode) (state public : Text) (before after : Option (List ℕ)) : Type 0 where
-  pub fresh : old.may_lack state
-  pub stored : new.may_hold state (image_of key 0 0 0)
-  pub published : new.may_give public (hss_public_key (hss_key_of key))
+  pub may_be_fresh : old.may_lack state
+  pub may_be_stored : new.may_hold state (image_of key 0 0 0)
+  pub may_be_published : new.may_give public (hss_public_key (hss_key_of key))
   pub printed : Appends before after (number_line (codes "capacity") (capacity_of (hss_key_of key)))
 
 -- why a new key's state was not stored; where the write failed, the state is what it was, or that of the key with no index used

@@ -41,8 +41,8 @@ abbrev pub Stores : ℕ → Known → Known → Text → KeyOfCode → ℕ → �
 Stores zero old new state key index openings burnt = Stays old new state
 Stores (suc n) old new state key index openings burnt = new.may_hold state (image_of key (index + suc n) (openings + 1) burnt)
 
--- n indices of the state's key are used, from this one on, and where there are some the opening of the state is counted
-pub record UsesIndices (n : ℕ) (old new : Known) (state : Text) (key : KeyOfCode) (index : ℕ) : Type 0 where
+-- the state may have been that of this key, and may count n indices from this one on as used now, and where there are some its opening
+pub record MayUseIndices (n : ℕ) (old new : Known) (state : Text) (key : KeyOfCode) (index : ℕ) : Type 0 where
   pub openings : ℕ
   pub burnt : ℕ
   pub counted : HasImage key index openings burnt
@@ -53,7 +53,7 @@ pub record UsesIndices (n : ℕ) (old new : Known) (state : Text) (key : KeyOfCo
 -- a signature is the one that the next index of the state's key makes, and is accepted
 pub record SignsNext (old new : Known) (state : Text) (random message signature : List ℕ) (index : ℕ) : Type 0 where
   pub key : KeyOfCode
-  pub used : UsesIndices 1 old new state key index
+  pub may_be_used : MayUseIndices 1 old new state key index
   pub signature_is : signature ≡ hss_signature (hss_key_of key) index random message
   pub accepted : HssAccepts (hss_public_key (hss_key_of key)) message signature
 
@@ -68,14 +68,15 @@ FailsToOpen at state (BadState fault) = MayBeBadState at state fault
 FailsToOpen at state OutOfMemory = Unit {0}
 FailsToOpen at state _ = ⊥
 
--- the state's key has fewer than n indices left, namely so many
-abbrev pub LacksIndices : ℕ → Known → Text → ℕ → Type 0
-LacksIndices n at state left = (key : KeyOfCode) × (index openings burnt : ℕ) × HasImage key index openings burnt
+-- the state's key may have fewer than n indices left, namely so many
+abbrev pub MayLackIndices : ℕ → Known → Text → ℕ → Type 0
+MayLackIndices n at state left = (key : KeyOfCode) × (index openings burnt : ℕ) × HasImage key index openings burnt
     × (capacity_of (hss_key_of key) < index + n) × (left ≡ capacity_of (hss_key_of key) - index) × MayBeImageOf at state key index openings burnt
 
--- n indices from this one on could not be stored as used: the state is what it was, or counts them and its opening
-abbrev pub BurnsIndices : ℕ → Known → Known → Text → ℕ → Type 0
-BurnsIndices n old new state index =
+-- n indices from this one on, of a key that the state may have had, could not be stored as used: the state is what it was, or counts
+-- them and its opening
+abbrev pub MayBurnIndices : ℕ → Known → Known → Text → ℕ → Type 0
+MayBurnIndices n old new state index =
     (key : KeyOfCode) × (openings burnt : ℕ) × HasImage key index openings burnt × (index + n ≤ capacity_of (hss_key_of key))
     × MayBeImageOf old state key index openings burnt × IsOldOr (image_of key (index + n) (openings + 1) burnt) old new state
 
@@ -84,10 +85,10 @@ abbrev pub FailsToSignNext : Known → Known → Text → Fault → Type 0
 FailsToSignNext old new state ReadState = old.may_fail state × Stays old new state
 FailsToSignNext old new state (BadState fault) = MayBeBadState old state fault × Stays old new state
 FailsToSignNext old new state OutOfMemory = Stays old new state
-FailsToSignNext old new state (Exhausted left) = LacksIndices 1 old state left × Stays old new state
-FailsToSignNext old new state (WriteStateBurnt start len) = BurnsIndices 1 old new state start × (len ≡ 1)
+FailsToSignNext old new state (Exhausted left) = MayLackIndices 1 old state left × Stays old new state
+FailsToSignNext old new state (WriteStateBurnt start len) = MayBurnIndices 1 old new state start × (len ≡ 1)
 FailsToSignNext old new state (OutOfMemoryBurnt count) =
-    (key : KeyOfCode) × (index : ℕ) × UsesIndices 1 old new state key index × (count ≡ 1)
+    (key : KeyOfCode) × (index : ℕ) × MayUseIndices 1 old new state key index × (count ≡ 1)
 FailsToSignNext old new state _ = ⊥
 
 -- the state was opened: it may be that of a key, with some numbers
@@ -114,20 +115,20 @@ FailsToDescribe at state (BadState fault) = MayBeBadState at state fault
 FailsToDescribe at state OutOfMemory = Unit {0}
 FailsToDescribe at state _ = ⊥
 
--- a message was signed with the next index of the state's key, under the randomizer of this text
+-- a message that a file may have was signed with the next index of the state's key, under the randomizer of this text
 pub record SignsMessage (old new : Known) (state random message : Text) : Type 0 where
   pub randomizer : List ℕ
   pub text : List ℕ
   pub signature : List ℕ
   pub index : ℕ
   pub randomizer_read : (length randomizer ≡ 32) × (decode_of random ≡ Ok randomizer)
-  pub text_given : old.may_give message text
+  pub text_may_be_given : old.may_give message text
   pub signed : SignsNext old new state randomizer text signature index
 
--- it was, the signature is in a file, and the index is printed
+-- it was, a file may have the signature, and the index is printed
 pub record SignsFile (old new : Known) (state random message out : Text) (before after : Option (List ℕ)) : Type 0 where
   pub made : SignsMessage old new state random message
-  pub signature_given : new.may_give out made.signature
+  pub signature_may_be_given : new.may_give out made.signature
   pub printed : Appends before after (number_line (codes "index") made.index)
 
 -- it was, and the signature not written, or the index not printed: nothing is printed before the file has the signature

@@ -5,34 +5,28 @@ use Rattle.lms_commands.specs.Verdicts.{IsRightFor}
 use Rattle.lms_commands.specs.declared.fault.Fault.{Fault}
 use Rattle.lms_commands.specs.declared.fault.Fault.TheVariants.{Input, OutOfMemory, Output}
 use Rattle.lms_commands.specs.declared.verdict.Verdict.{Verdict}
-use Rattle.lms_world.specs.declared.world.WorldFault.{WorldFault}
 use Rattle.lms_world.specs.declared.world.WorldFault.TheVariants as world
 
--- the three names gave bytes for which the verdict is right
+-- the three names may give bytes for which the verdict is right
 pub record Judges (at : Known) (public_name message_name signature_name : Text) (verdict : Verdict) : Type 0 where
   pub public : List ℕ
   pub message : List ℕ
   pub signature : List ℕ
-  pub public_given : at.may_give public_name public
-  pub message_given : at.may_give message_name message
-  pub signature_given : at.may_give signature_name signature
+  pub public_may_be_given : at.may_give public_name public
+  pub message_may_be_given : at.may_give message_name message
+  pub signature_may_be_given : at.may_give signature_name signature
   pub right : IsRightFor verdict public message signature
 
--- the fault that a refused read comes to
-abbrev pub read_fault : WorldFault → Fault
-read_fault world.Device = Input
-read_fault world.OutOfMemory = OutOfMemory
-
--- the fault that a read of a name comes to
-abbrev pub RefusedAt : Known → Text → Fault → Type 0
-RefusedAt at name Input = at.may_refuse name world.Device
-RefusedAt at name OutOfMemory = at.may_refuse name world.OutOfMemory
-RefusedAt at name _ = ⊥
+-- a read of the name may come to this fault
+abbrev pub MayBeRefusedAt : Known → Text → Fault → Type 0
+MayBeRefusedAt at name Input = at.may_refuse name world.Device
+MayBeRefusedAt at name OutOfMemory = at.may_refuse name world.OutOfMemory
+MayBeRefusedAt at name _ = ⊥
 
 -- the fault is that of a name that gave no bytes, after those before it gave some, or that of the output after all three
 abbrev pub FailsToJudge : Known → Text → Text → Text → Fault → Type 0
 FailsToJudge at public message signature fault =
-    RefusedAt at public fault
-    ⊎ ((MayBeRead at public × RefusedAt at message fault)
-    ⊎ ((MayBeRead at public × MayBeRead at message × RefusedAt at signature fault)
+    MayBeRefusedAt at public fault
+    ⊎ ((MayBeRead at public × MayBeRefusedAt at message fault)
+    ⊎ ((MayBeRead at public × MayBeRead at message × MayBeRefusedAt at signature fault)
     ⊎ (MayBeRead at public × MayBeRead at message × MayBeRead at signature × (fault ≡ Output))))

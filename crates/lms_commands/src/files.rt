@@ -3,8 +3,9 @@ ghost use Rattle.std.specs.Prelude.{[], ◌≡◌, ◌⊎◌, ◌↔◌, ℕ, Li
 ghost use Rattle.lms_image.specs.Image.{HasImage};
 ghost use Rattle.lms_book.specs.Stops.{MayLeave};
 ghost use Rattle.lms_world.specs.Known.{MayBeRead, SameFiles, SameFilesBut, Stays};
+ghost use Rattle.lms_commands.specs.Faults.{of_read};
 ghost use Rattle.lms_commands.specs.Signing.{FailsToOpen, MayBeImageOf};
-ghost use Rattle.lms_commands.specs.Verifying.{read_fault, RefusedAt};
+ghost use Rattle.lms_commands.specs.Verifying.{MayBeRefusedAt};
 
 use crate::fault::Fault;
 use lms_book::Book;
@@ -14,7 +15,7 @@ use std::alloc::Global;
 
 /// The fault that a refused read comes to: `Input` where a file can't be read, `OutOfMemory` where memory for it was refused.
 fn fault_of_read(fault: WorldFault) -> Fault
-    ensures { result ≡ read_fault fault }
+    ensures { result ≡ of_read fault }
 {
     match fault {
         WorldFault::Device => Fault::Input,
@@ -26,7 +27,7 @@ fn fault_of_read(fault: WorldFault) -> Fault
 pub(crate) fn read_file<W: World>(alloc: Global, world: &W, name: &str) -> Result<Vec<u8>, Fault>
     ensures given { IfOk result (λ bytes. (W.known world.now).may_give name.now bytes.items) }
     ensures refused { IfErr result
-        (RefusedAt (W.known world.now) name.now) }
+        (MayBeRefusedAt (W.known world.now) name.now) }
 {
     match world.read(alloc, name) {
         Ok(bytes) => Ok(bytes),
@@ -46,7 +47,7 @@ pub(crate) fn open_file<W: World>(
     ensures refuses { IfOk result (λ contents. (fault : WorldFault)
         → W.Contents.may_refuse contents fault → (W.known world.now).may_refuse name.now fault) }
     ensures refused { IfErr result
-        (RefusedAt (W.known world.now) name.now) }
+        (MayBeRefusedAt (W.known world.now) name.now) }
 {
     match world.open(alloc, name) {
         Ok(contents) => Ok(contents),
@@ -57,7 +58,7 @@ pub(crate) fn open_file<W: World>(
 /// Hands the bytes of a file over, piece by piece. Faults as `fault_of_read`.
 pub(crate) fn hand_over<C: Contents, T: Taker>(contents: C, taker: &mut T) -> Result<(), Fault>
     ensures handed { OnOk result ((bytes : List ℕ) × C.may_give contents bytes × T.after taker.old bytes taker.new) }
-    ensures refused { IfErr result (λ fault. (cause : WorldFault) × C.may_refuse contents cause × (fault ≡ read_fault cause)) }
+    ensures refused { IfErr result (λ fault. (cause : WorldFault) × C.may_refuse contents cause × (fault ≡ of_read cause)) }
 {
     match contents.hand_over(taker) {
         Ok(()) => Ok(()),

@@ -16,9 +16,9 @@ returns-clause-made g c =
     let after = g.O.Write.contents c.publish.new.output in
     both_ok c.publish.result _ _ _
     (λ given printed. record {
-      fresh = c.exists.ensures.missing c.if-exists.false _ c.in_ok-lock.ensures.locked;
-      stored = (c.publish.ensures.states c.args.state.now).kept _ (c.in_ok-store_key.ensures.stored _ c.in_ok-lock.ensures.locked);
-      published = subst (λ (bytes : List ℕ). new.may_give c.args.public.now bytes) c.in_ok-public_key.ensures given;
+      may_be_fresh = c.exists.ensures.missing c.if-exists.false _ c.in_ok-lock.ensures.locked;
+      may_be_stored = (c.publish.ensures.states c.args.state.now).kept _ (c.in_ok-store_key.ensures.stored _ c.in_ok-lock.ensures.locked);
+      may_be_published = subst (λ (bytes : List ℕ). new.may_give c.args.public.now bytes) c.in_ok-public_key.ensures given;
       printed = subst (λ (n : ℕ). Appends before after (number_line (codes "capacity") n)) c.capacity.ensures.capacity printed;
     })
     c.publish.ensures.given c.publish.ensures.printed

@@ -19,10 +19,10 @@ returns-clause-signed g c =
         signature = signed.signature.items;
         index = signed.index;
         randomizer_read = c.in_ok-randomizer.ensures.read;
-        text_given = given;
+        text_may_be_given = given;
         signed = signed_still old mid new c.args.state.now randomizer text signed.signature.items signed.index (c.in_ok-signed.ensures.signed _ c.in_ok-lock.ensures.locked) (c.deliver.ensures.states c.args.state.now);
       };
-      signature_given = written;
+      signature_may_be_given = written;
       printed = printed;
     })
     c.deliver.ensures.given c.deliver.ensures.printed

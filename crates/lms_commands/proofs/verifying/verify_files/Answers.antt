@@ -11,8 +11,8 @@ returns-in-Ok-clause-judged g c =
       public = public;
       message = handed.0;
       signature = signature;
-      public_given = subst (λ bytes. at.may_give c.args.public.now bytes) (sym c.deref.ensures.value) c.in_ok-public.ensures.given;
-      message_given = c.in_ok-message.ensures.given handed.0 handed.1;
-      signature_given = subst (λ bytes. at.may_give c.args.signature.now bytes) (sym c.deref-2.ensures.value) c.in_ok-signature.ensures.given;
+      public_may_be_given = subst (λ bytes. at.may_give c.args.public.now bytes) (sym c.deref.ensures.value) c.in_ok-public.ensures.given;
+      message_may_be_given = c.in_ok-message.ensures.given handed.0 handed.1;
+      signature_may_be_given = subst (λ bytes. at.may_give c.args.signature.now bytes) (sym c.deref-2.ensures.value) c.in_ok-signature.ensures.given;
       right = c.finish-verdict.ensures public signature handed.0 (handed.2 public signature [] c.begin-judge.ensures);
     }
