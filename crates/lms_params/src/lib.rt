@@ -3,14 +3,14 @@
 
 mod lms_type;
 mod memory;
+mod message_digits;
 mod ots_type;
 mod reading;
 #[cfg(test)]
 mod tests;
-mod winternitz;
 
 pub use crate::lms_type::{LmsType, lms_sig_len};
 pub use crate::memory::OutOfMemory;
+pub use crate::message_digits::digits;
 pub use crate::ots_type::OtsType;
 pub use crate::reading::split_u32;
-pub use crate::winternitz::digits;

@@ -1,6 +1,6 @@
 use Rattle.std.proofs.Common.{ℕ, ◌≡◌, List, [], ◌∷◌, ◌++◌, take, drop}
 use Rattle.std.proofs.lemmas.List.{take_at, drop_at}
-use Rattle.lms_params.proofs.winternitz.with_checksum.Goals as goal
+use Rattle.lms_params.proofs.message_digits.with_checksum.Goals as goal
 
 pub returns : goal.returns
 returns c =

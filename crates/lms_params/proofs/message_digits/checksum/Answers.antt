@@ -6,7 +6,7 @@ use Rattle.lms_spec.proofs.Sets.{checksum-fits}
 use Rattle.lms_params.specs.OtsType.{ots_set_of}
 use Rattle.lms_params.proofs.Widths.{digit-lt, last_value, hash_digits}
 use Rattle.lms_params.proofs.KnownSets.{known_ots_set}
-use Rattle.lms_params.proofs.winternitz.checksum.Goals as goal
+use Rattle.lms_params.proofs.message_digits.checksum.Goals as goal
 
 pub overflow_sub-last_digit : goal.overflow_sub-last_digit
 overflow_sub-last_digit c =

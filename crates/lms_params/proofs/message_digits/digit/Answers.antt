@@ -2,7 +2,7 @@ use Rattle.std.proofs.Common.{◌∙◌, sym, arith}
 use Rattle.std.proofs.lemmas.List.Elements.{All-from_get_or}
 use Rattle.lms_spec.proofs.Numbers.{IsByte}
 use Rattle.lms_params.proofs.Widths.{digit-byte}
-use Rattle.lms_params.proofs.winternitz.digit.Goals as goal
+use Rattle.lms_params.proofs.message_digits.digit.Goals as goal
 
 pub returns : goal.returns
 returns c =

@@ -2,7 +2,7 @@ use Rattle.std.proofs.Common.{◌≡◌, ◌-◌, ◌*◌, ◌^◌, ◌≤◌, m
 use Rattle.lms_spec.specs.Bytes.{below}
 use Rattle.lms_spec.specs.Digits.{digit}
 use Rattle.lms_params.specs.OtsType.{ots_set_of}
-use Rattle.lms_params.proofs.winternitz.checksum.Given as goal
+use Rattle.lms_params.proofs.message_digits.checksum.Given as goal
 
 abbrev pub invariant-loop-i : goal.invariant-loop-i
 invariant-loop-i l =

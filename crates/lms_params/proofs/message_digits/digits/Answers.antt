@@ -3,7 +3,7 @@ use Rattle.lms_spec.specs.Digits.{digit, digits_of}
 use Rattle.lms_params.specs.OtsType.{ots_set_of}
 use Rattle.lms_params.proofs.Filling.{filled, set-filled}
 use Rattle.lms_params.proofs.Widths.{most_chains}
-use Rattle.lms_params.proofs.winternitz.digits.Goals as goal
+use Rattle.lms_params.proofs.message_digits.digits.Goals as goal
 
 pub loop-i-preserved : goal.loop-i-preserved
 loop-i-preserved c =
