@@ -37,7 +37,7 @@ impl ChainEnds for OneByOne {
     }
 }
 
-/// Eight chains side by side, in the lanes of vectors: everywhere else. A verification takes some 16 KiB of stack.
+/// Eight chains side by side, in the lanes of vectors: everywhere else. A verification takes some 17 KiB of stack.
 #[derive(Clone, Copy)]
 pub struct ByEights;
 

@@ -199,3 +199,46 @@ fn signs_as_another_implementation(rt: HostRuntime) -> Result<(), Fail> {
     assert_eq!(rt; Some(text.as_slice()), expected.get(8..1132));
     Ok(())
 }
+
+/// Whether leaf 5 has this public hash, and signs `abc` by a signature with this digest that leads to it.
+fn is_leaf_5(alloc: Global, ots: OtsType, public: &str, digest: &str) -> Result<bool, Fail> {
+    let id = OtsId { i: ID, q: 5 };
+    let public: [u8; 32] = FromHex::from_hex(public)?;
+    let digest: [u8; 32] = FromHex::from_hex(digest)?;
+    let text = signature(alloc, ots, 5)?;
+    Ok(
+        public_hash(ots, &SEED, id) == public
+            && Sha256::digest(&text) == digest
+            && candidate(ots, id, &text, b"abc") == Some(public),
+    )
+}
+
+/// In each row, by a program in Python over hashlib: the public hash of leaf 5, and the digest of its signature of `abc`.
+#[test]
+fn equals_another_program(rt: HostRuntime) -> Result<(), Fail> {
+    for (ots, public, digest) in [
+        (
+            OtsType::W1,
+            "c138acd3b79e27c9c8060a13a4178118f189faed4487f80d0976730df83a903a",
+            "d9e6c8acbcfae9142189f15d063d14d19526ff5d9685c5d9f8c8ecbab22bab6d",
+        ),
+        (
+            OtsType::W2,
+            "4a8e578f77d9440668e57ba09058ba8250e91371ba9da0a90f54142029c15e4a",
+            "eec1da211b26f08dc42ffa79be9bed3a1f016fdfe6eb262d6bcf7d0ba52e5f60",
+        ),
+        (
+            OtsType::W4,
+            "ae9fc59d34a6a1a9cf2a745d8b4df403eea6c9448bc26d2a5cec89c676c375aa",
+            "92a72895eb96c42d71062aa9174ca09af19bb12af0483470af2669eb63630f05",
+        ),
+        (
+            OtsType::W8,
+            "e0bd3b3c47c9d84171edabca628f4ca124974cc21dac20ba357ff7a04488bb5c",
+            "2566ac500ef00b21bf603288ab530e4cbfde70b9411987833f8b1e8f417d5922",
+        ),
+    ] {
+        assert!(rt; is_leaf_5(rt.alloc(), ots, public, digest)?, "{ots:?}");
+    }
+    Ok(())
+}
