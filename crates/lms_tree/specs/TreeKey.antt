@@ -1,7 +1,8 @@
 -- What a `TreeKey` means.
-use Rattle.std.specs.Prelude.{ℕ, List}
+use Rattle.std.specs.Prelude.{ℕ, ◌*◌, List}
+use Rattle.std.specs.List.{concat}
 use Rattle.lms_spec.specs.Parameters.{lms_signature_length}
-use Rattle.lms_spec.specs.Tree.{Tree, public_key_of, lms_signature}
+use Rattle.lms_spec.specs.Tree.{Tree, path_of, public_key_of, lms_signature}
 use Rattle.lms_params.specs.LmsType.{lms_set_of}
 use Rattle.lms_params.specs.OtsType.{ots_set_of}
 use Rattle.lms_tree.specs.declared.tree_key.TreeKey.{TreeKey}
@@ -21,3 +22,11 @@ signature_text key q randomizer message = lms_signature (tree_of key) q randomiz
 -- the bytes of a signature (5.4)
 abbrev pub signature_length_under : TreeKey → ℕ
 signature_length_under key = lms_signature_length (lms_set_of key.lms) (ots_set_of key.ots)
+
+-- the path of leaf q, as it stands in a signature (5.4)
+abbrev pub path_text : TreeKey → ℕ → List ℕ
+path_text key q = concat (path_of (tree_of key) q)
+
+-- the bytes of a path (5.4)
+abbrev pub path_length_under : TreeKey → ℕ
+path_length_under key = 32 * (tree_of key).lms.h

@@ -1,13 +1,12 @@
 //! Public keys and signatures from a source of nodes (RFC 8554, 5.3 and 5.4.1).
 ghost use Rattle.std.specs.Prelude.{◌≡◌, ◌+◌, ◌*◌, ◌^◌, ◌≤◌, ◌<◌, ◌++◌, length};
-ghost use Rattle.std.specs.List.{concat};
 ghost use Rattle.lms_spec.specs.Parameters.{ots_signature_length};
 ghost use Rattle.lms_spec.specs.Bytes.{u32str};
 ghost use Rattle.lms_spec.specs.Ots.{ots_signature};
-ghost use Rattle.lms_spec.specs.Tree.{path_of, sibling as sibling_of, lms_public_key, LmsAccepts};
+ghost use Rattle.lms_spec.specs.Tree.{sibling as sibling_of, lms_public_key, LmsAccepts};
 ghost use Rattle.lms_params.specs.LmsType.{lms_set_of};
 ghost use Rattle.lms_params.specs.OtsType.{ots_set_of};
-ghost use Rattle.lms_tree.specs.TreeKey.{tree_of, public_text, signature_text, signature_length_under};
+ghost use Rattle.lms_tree.specs.TreeKey.{path_length_under, path_text, public_text, signature_length_under, signature_text};
 
 use crate::node_source::NodeSource;
 use crate::nodes::leaf_count;
@@ -57,8 +56,8 @@ fn write_head(key: &TreeKey, q: u32, c: &[u8; 32], msg: &[u8], out: &mut [u8])
 fn write_path<N: NodeSource>(source: &N, q: u32, out: &mut [u8])
     requires first { N.first_leaf source.now ≤ q }
     requires last { q ≤ N.last_leaf source.now }
-    requires room { length out.old ≡ 32 * (tree_of (N.tree_key source.now)).lms.h }
-    ensures { out.new ≡ concat (path_of (tree_of (N.tree_key source.now)) q) }
+    requires room { length out.old ≡ path_length_under (N.tree_key source.now) }
+    ensures { out.new ≡ path_text (N.tree_key source.now) q }
 {
     let key = source.key();
     let leaf = leaf_count(key.lms) + q;
