@@ -156,7 +156,13 @@ fn can_be_locked(rt: &HostRuntime, name: &str) -> Result<bool, Fail> {
 fn what_can_not_be_reached_fails(rt: HostRuntime) -> Result<(), Fail> {
     make_obstacles(&rt)?;
     assert!(rt; is_out_of_reach(&rt, "file_store_faults/folder")?);
-    assert!(rt; is_lost_with(&rt, "file_store_faults/folder", "file_store_faults/folder/state")?);
+    assert!(rt;
+        is_lost_with(
+            &rt,
+            "file_store_faults/folder",
+            "file_store_faults/folder/state"
+        )?
+    );
     assert!(rt; !can_be_locked(&rt, "file_store_faults/file/state")?);
     assert!(rt; !can_be_locked(&rt, "file_store_faults/none/state")?);
     assert!(rt; !can_be_locked(&rt, "file_store_faults/link")?);
