@@ -2,7 +2,7 @@
 use crate::case::{Case, Operation, TREE, key_of};
 use anyhow::Result;
 use lms_ots::{candidate, public_hash, sign_into};
-use lms_yardstick::{ID, MESSAGE, RANDOMIZER, SEED};
+use lms_yardstick::{ID, MESSAGE, RANDOMIZER, SEED, public_hash_chain_by_chain};
 
 /// What is run again and again while its time is taken.
 pub trait Timed {
@@ -31,6 +31,7 @@ impl Bench {
     pub fn run(&mut self, given: [u8; 32]) -> [u8; 32] {
         match self.case.operation {
             Operation::PublicHash => public_hash(self.case.ots, &given, ID),
+            Operation::ChainByChain => public_hash_chain_by_chain(self.case.ots, &given, ID),
             Operation::SignInto => self.sign(&given),
             Operation::Candidate => self.candidate(given),
             Operation::SubtreeRoot => key_of(TREE, self.case.ots, given).subtree_root(1),

@@ -21,11 +21,15 @@ pub fn key_of(lms: LmsType, ots: OtsType, seed: [u8; 32]) -> TreeKey
 }
 
 /// Each case's operation and set, in the order in which they are printed.
-pub const CASES: [(Operation, OtsType); 13] = [
+pub const CASES: [(Operation, OtsType); 17] = [
     (Operation::PublicHash, OtsType::W1),
     (Operation::PublicHash, OtsType::W2),
     (Operation::PublicHash, OtsType::W4),
     (Operation::PublicHash, OtsType::W8),
+    (Operation::ChainByChain, OtsType::W1),
+    (Operation::ChainByChain, OtsType::W2),
+    (Operation::ChainByChain, OtsType::W4),
+    (Operation::ChainByChain, OtsType::W8),
     (Operation::SignInto, OtsType::W1),
     (Operation::SignInto, OtsType::W2),
     (Operation::SignInto, OtsType::W4),
@@ -41,6 +45,8 @@ pub const CASES: [(Operation, OtsType); 13] = [
 #[derive(Clone, Copy, Debug, PartialEq, Eq)]
 pub enum Operation {
     PublicHash,
+    /// The public hash without lanes, chain by chain.
+    ChainByChain,
     SignInto,
     Candidate,
     SubtreeRoot,
@@ -57,6 +63,7 @@ impl fmt::Display for Case {
     fn fmt<W: fmt::Write>(&self, f: &mut fmt::Formatter<W>) -> fmt::Result {
         let operation = match self.operation {
             Operation::PublicHash => "public_hash",
+            Operation::ChainByChain => "public_hash chain by chain",
             Operation::SignInto => "sign_into",
             Operation::Candidate => "candidate",
             Operation::SubtreeRoot => {
@@ -73,7 +80,7 @@ impl Case {
     pub fn compressions(self) -> u64 {
         let signed = Signed::new(self.ots, ID, &RANDOMIZER, &MESSAGE);
         match self.operation {
-            Operation::PublicHash => public_hash_compressions(self.ots),
+            Operation::PublicHash | Operation::ChainByChain => public_hash_compressions(self.ots),
             Operation::SignInto => signed.signature_compressions(),
             Operation::Candidate => signed.candidate_compressions(),
             Operation::SubtreeRoot => tree_compressions(TREE, self.ots),
