@@ -39,6 +39,41 @@ abbrev pub code_of : Version → ℕ
 code_of First = 1
 code_of Second = 2
 
+-- the bytes of the parts of an image: of what stands before the levels, of a level, the seed and the identifier, of each number
+-- behind these, and of the digest
+abbrev pub head_size : ℕ
+head_size = 12
+
+abbrev pub level_size : ℕ
+level_size = 8
+
+abbrev pub seed_size : ℕ
+seed_size = 32
+
+abbrev pub id_size : ℕ
+id_size = 16
+
+abbrev pub number_size : ℕ
+number_size = 8
+
+abbrev pub digest_size : ℕ
+digest_size = 32
+
+-- the bytes before the counter, of an image with no levels
+abbrev pub before_counter : ℕ
+before_counter = head_size + seed_size + id_size
+
+-- the bytes of an image with so many levels, of version 1 and of version 2
+abbrev pub first_length : ℕ → ℕ
+first_length count = before_counter + number_size + digest_size + level_size * count
+
+abbrev pub second_length : ℕ → ℕ
+second_length count = before_counter + 3 * number_size + digest_size + level_size * count
+
+-- the most bytes of an image
+abbrev pub longest_image : ℕ
+longest_image = second_length most_levels
+
 -- what an image says: its version, the eight bytes of each level, the seed, the identifier and the numbers behind them
 pub record Fields : Type 0 where
   pub version : Version
@@ -57,10 +92,6 @@ head_text version levels = magic ++ u32str (code_of version) ++ u32str (length l
 abbrev pub later_text : Version → ℕ → ℕ → List ℕ
 later_text First openings burnt = []
 later_text Second openings burnt = u64str openings ++ u64str burnt
-
--- the most bytes of an image, those of eight levels
-abbrev pub longest_image : ℕ
-longest_image = 180
 
 -- what stands before the digest
 unfoldable pub body_text : Fields → List ℕ
@@ -97,14 +128,14 @@ abbrev pub IsImage : List ℕ → KeyOfCode → ℕ → ℕ → ℕ → Type 0
 IsImage text key counter openings burnt =
     (text ≡ image_of key counter openings burnt) ⊎ ((text ≡ first_image_of key counter) × (openings ≡ 0) × (burnt ≡ 0))
 
--- a key and numbers that have an image: the signer takes the levels, the seed has 32 bytes and the identifier 16, the counter
+-- a key and numbers that have an image: the signer takes the levels, seed and identifier have their lengths, the counter
 -- is at most the capacity, at which the key is exhausted, and neither more openings nor more burnt indices are counted than
 -- used indices
 pub record HasImage (key : KeyOfCode) (counter openings burnt : ℕ) : Type 0 where
   pub admitted : IsAdmitted key.levels
-  pub seed_length : length key.seed ≡ 32
+  pub seed_length : length key.seed ≡ seed_size
   pub seed_bytes : All (λ b. b < 256) key.seed
-  pub id_length : length key.i ≡ 16
+  pub id_length : length key.i ≡ id_size
   pub id_bytes : All (λ b. b < 256) key.i
   pub within : counter ≤ capacity_of (hss_key_of key)
   pub openings_within : openings ≤ counter
@@ -132,33 +163,44 @@ count_in text = number_at 8 4 text
 
 -- the eight bytes of each of these levels
 abbrev pub levels_in : List ℕ → List (List ℕ)
-levels_in text = first_chunks 8 (count_in text) (drop 12 text)
+levels_in text = first_chunks level_size (count_in text) (drop head_size text)
 
--- the counter, which stands behind the levels, the seed and the identifier
+-- where the counter of an image with so many levels stands, behind the levels, the seed and the identifier
+abbrev pub counter_place : ℕ → ℕ
+counter_place count = before_counter + level_size * count
+
+-- where the openings stand, behind the counter, and the burnt indices, behind these
+abbrev pub openings_place : ℕ → ℕ
+openings_place count = before_counter + number_size + level_size * count
+
+abbrev pub burnt_place : ℕ → ℕ
+burnt_place count = before_counter + 2 * number_size + level_size * count
+
+-- the counter
 abbrev pub counter_in : List ℕ → ℕ
-counter_in text = number_at (60 + 8 * count_in text) 8 text
+counter_in text = number_at (counter_place (count_in text)) number_size text
 
 -- a number that stands from byte k on, and that version 1 has not: there it is 0
 abbrev pub later_number : ℕ → List ℕ → ℕ
-later_number k text = if version_in text == 1 then 0 else number_at k 8 text
+later_number k text = if version_in text == 1 then 0 else number_at k number_size text
 
--- the openings and the burnt indices, which stand behind the counter
+-- the openings and the burnt indices
 abbrev pub openings_in : List ℕ → ℕ
-openings_in text = later_number (68 + 8 * count_in text) text
+openings_in text = later_number (openings_place (count_in text)) text
 
 abbrev pub burnt_in : List ℕ → ℕ
-burnt_in text = later_number (76 + 8 * count_in text) text
+burnt_in text = later_number (burnt_place (count_in text)) text
 
 -- the bytes of an image of a version with so many levels
 abbrev pub length_of : ℕ → ℕ → ℕ
-length_of version count = (if version == 1 then 100 else 116) + 8 * count
+length_of version count = if version == 1 then first_length count else second_length count
 
--- all but the last 32 bytes, and these
+-- all but the digest at the end, and this
 abbrev pub body_in : List ℕ → List ℕ
-body_in text = take (length text - 32) text
+body_in text = take (length text - digest_size) text
 
 abbrev pub digest_in : List ℕ → List ℕ
-digest_in text = drop (length text - 32) text
+digest_in text = drop (length text - digest_size) text
 
 -- both typecodes of a level are known
 unfoldable pub is_level : List ℕ → Bool
@@ -174,7 +216,7 @@ heights_in text = sum_by height_in (levels_in text)
 
 -- whether a text has a fault, whatever other faults it has
 unfoldable pub has_fault : ImageFault → List ℕ → Bool
-has_fault Truncated text = nat_lt (length text) 12
+has_fault Truncated text = nat_lt (length text) head_size
 has_fault NotAnImage text = not (bytes_eq (take 4 text) magic)
 has_fault UnknownVersion text = not (version_in text == 1 || version_in text == 2)
 has_fault BadLevels text = count_in text == 0 || nat_lt most_levels (count_in text)

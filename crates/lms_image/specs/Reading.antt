@@ -1,5 +1,5 @@
 -- What the functions that read an image say of its parts.
-use Rattle.std.specs.Prelude.{ℕ, ◌≡◌, ◌+◌, ◌^◌, ◌<◌, ◌≤◌, List, ◌++◌, length, map, sum_by, All, Result, true, false}
+use Rattle.std.specs.Prelude.{ℕ, ◌≡◌, ◌+◌, ◌*◌, ◌^◌, ◌<◌, ◌≤◌, List, ◌++◌, length, map, sum_by, All, Result, true, false}
 use Rattle.std.specs.Prelude.Result.{Ok, Err}
 use Rattle.std.specs.List.{concat, list_all}
 use Rattle.lms_spec.specs.Bytes.{u32str}
@@ -13,7 +13,7 @@ use Rattle.lms_image.specs.declared.image.ImageFault.{ImageFault}
 use Rattle.lms_image.specs.declared.image.ImageFault.TheVariants.{BadType, TooTall}
 use Rattle.lms_image.specs.declared.version.Version.{Version}
 use Rattle.lms_image.specs.declared.version.Version.TheVariants.{First, Second}
-use Rattle.lms_image.specs.Image.{Fields, u64str, magic, code_of, later_text, level_text, is_level, height_in}
+use Rattle.lms_image.specs.Image.{Fields, u64str, magic, code_of, later_text, level_text, is_level, height_in, head_size, level_size, seed_size, id_size, number_size, digest_size}
 
 -- a text that begins as the image of this version and of this many levels does, and goes on with these bytes
 pub record IsHeaded (text rest : List ℕ) (version : Version) (count : ℕ) : Type 0 where
@@ -24,7 +24,15 @@ pub record IsHeaded (text rest : List ℕ) (version : Version) (count : ℕ) : T
 -- how many bytes the numbers take that stand behind the counter
 abbrev pub later_length : Version → ℕ
 later_length First = 0
-later_length Second = 16
+later_length Second = 2 * number_size
+
+-- how many bytes follow the count of so many levels
+abbrev pub rest_length : Version → ℕ → ℕ
+rest_length version count = seed_size + id_size + number_size + digest_size + later_length version + level_size * count
+
+-- the most bytes before the seed
+abbrev pub longest_head : ℕ
+longest_head = head_size + level_size * most_levels
 
 -- what these numbers may be: there are none in version 1, where both are 0
 abbrev pub AreLater : Version → ℕ → ℕ → Type 0
@@ -40,14 +48,14 @@ pub record ReadsLater (version : Version) (text : List ℕ) (openings burnt : �
 -- the parts of what follows an image's count of levels
 pub record IsCut (count : ℕ) (rest : List ℕ) (f : Fields) (digest : List ℕ) : Type 0 where
   pub level_count : length f.levels ≡ count
-  pub level_lengths : All (λ level. length level ≡ 8) f.levels
-  pub seed_length : length f.seed ≡ 32
+  pub level_lengths : All (λ level. length level ≡ level_size) f.levels
+  pub seed_length : length f.seed ≡ seed_size
   pub seed_bytes : All (λ b. b < 256) f.seed
-  pub id_length : length f.id ≡ 16
+  pub id_length : length f.id ≡ id_size
   pub id_bytes : All (λ b. b < 256) f.id
   pub counter_fits : f.counter < 2 ^ 64
   pub later : AreLater f.version f.openings f.burnt
-  pub digest_length : length digest ≡ 32
+  pub digest_length : length digest ≡ digest_size
   pub parts : rest ≡ concat f.levels ++ (f.seed ++ (f.id ++ (u64str f.counter ++ (later_text f.version f.openings f.burnt ++ digest))))
 
 -- the fault of an image whose levels the signer refuses

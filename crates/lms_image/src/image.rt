@@ -7,8 +7,8 @@ ghost use Rattle.lms_spec.specs.Bytes.{u32str};
 ghost use Rattle.lms_spec.specs.Hss.{capacity_of, most_levels};
 ghost use Rattle.lms_hss.specs.Keys.{hss_key_of};
 ghost use Rattle.lms_image.specs.declared.version.Version.TheVariants.{Second};
-ghost use Rattle.lms_image.specs.Image.{image_of, fault_of, head_text, level_text, is_level, IsImage, HasImage};
-ghost use Rattle.lms_image.specs.Reading.{IsHeaded, IsCut, later_length, ReadsLevels, refused_as};
+ghost use Rattle.lms_image.specs.Image.{image_of, fault_of, head_size, head_text, level_text, is_level, IsImage, HasImage};
+ghost use Rattle.lms_image.specs.Reading.{IsHeaded, IsCut, longest_head, rest_length, ReadsLevels, refused_as};
 
 use crate::bytes::ImageBytes;
 use crate::version::{Version, split_later, split_u64};
@@ -26,6 +26,12 @@ const MAGIC: [u8; 4] = *b"HSSK";
 
 /// The version that is written.
 const VERSION: u32 = 2;
+
+/// The bytes of a level.
+const LEVEL_LEN: usize = 8;
+
+/// The most levels.
+const MOST_LEVELS: usize = 8;
 
 /// The bytes of the digest at the end.
 const DIGEST_LEN: usize = 32;
@@ -117,7 +123,7 @@ pub fn encode_image(image: &Image) -> ImageBytes
 /// What stands before the seed.
 fn encode_head(levels: &Levels) -> ImageBytes
     ensures text { result ≡ head_text Second (map level_text levels.now) }
-    ensures short { length result ≤ 76 }
+    ensures short { length result ≤ longest_head }
 {
     let levels = levels.as_slice();
     let mut text = ImageBytes::empty();
@@ -179,7 +185,7 @@ fn read_head(text: &[u8]) -> Result<(Version, usize, &[u8]), ImageFault>
     let Some(version) = Version::from_code(head.version) else {
         return Err(ImageFault::UnknownVersion);
     };
-    if head.levels == 0 || head.levels > 8 {
+    if head.levels == 0 || head.levels > MOST_LEVELS as u32 {
         return Err(ImageFault::BadLevels);
     }
     Ok((version, head.levels as usize, head.rest))
@@ -201,7 +207,7 @@ impl<'a> Head<'a> {
         ensures magic { IfSome result (λ h. length h.magic.now ≡ 4) }
         ensures version { IfSome result (λ h. h.version < 2 ^ 32) }
         ensures levels { IfSome result (λ h. h.levels < 2 ^ 32) }
-        ensures none { IfNone result (length text.now < 12) }
+        ensures none { IfNone result (length text.now < head_size) }
     {
         let (magic, rest) = text.split_first_chunk::<4>()?;
         let (version, rest) = split_u32(rest)?;
@@ -219,13 +225,13 @@ impl<'a> Head<'a> {
 /// digest.
 #[derive(Clone, Copy)]
 struct Parts<'a> {
-    levels: &'a [[u8; 8]],
+    levels: &'a [[u8; LEVEL_LEN]],
     seed: &'a [u8; 32],
     i: &'a [u8; 16],
     counter: u64,
     openings: u64,
     burnt: u64,
-    digest: &'a [u8; 32],
+    digest: &'a [u8; DIGEST_LEN],
 }
 
 impl<'a> Parts<'a> {
@@ -241,15 +247,15 @@ impl<'a> Parts<'a> {
           openings = p.openings;
           burnt = p.burnt;
         }) p.digest.now) }
-        ensures none { IfNone result (length rest.now ≢ 88 + later_length version + 8 * count) }
+        ensures none { IfNone result (length rest.now ≢ rest_length version count) }
     {
-        let (levels, rest) = rest.split_at_checked(8 * count)?;
+        let (levels, rest) = rest.split_at_checked(LEVEL_LEN * count)?;
         let (seed, rest) = rest.split_first_chunk::<32>()?;
         let (i, rest) = rest.split_first_chunk::<16>()?;
         let (counter, rest) = split_u64(rest)?;
         let (openings, burnt, rest) = split_later(version, rest)?;
-        let digest = rest.as_array::<32>()?;
-        let (levels, _) = levels.as_chunks::<8>();
+        let digest = rest.as_array::<DIGEST_LEN>()?;
+        let (levels, _) = levels.as_chunks::<LEVEL_LEN>();
         Some(Parts {
             levels,
             seed,
@@ -263,7 +269,7 @@ impl<'a> Parts<'a> {
 }
 
 /// The levels that these bytes name; or `BadType` or `TooTall`, the first that holds.
-fn read_levels(texts: &[[u8; 8]]) -> Result<Levels, ImageFault>
+fn read_levels(texts: &[[u8; LEVEL_LEN]]) -> Result<Levels, ImageFault>
     requires some { 1 ≤ length texts.now }
     requires at_most { length texts.now ≤ most_levels }
     ensures { ReadsLevels texts.now result }
@@ -289,14 +295,14 @@ fn refused(fault: KeyFault) -> ImageFault
 
 /// The sets that these bytes name, in the first of eight places, the others filled with the top level's. None where a typecode is
 /// unknown.
-fn read_sets(texts: &[[u8; 8]]) -> Option<[(LmsType, OtsType); 8]>
+fn read_sets(texts: &[[u8; LEVEL_LEN]]) -> Option<[(LmsType, OtsType); MOST_LEVELS]>
     requires some { 1 ≤ length texts.now }
     requires at_most { length texts.now ≤ most_levels }
     ensures some { IfSome result (λ sets. map level_text (take (length texts.now) sets) ≡ texts.now) }
     ensures none { IfNone result (IsFalse (list_all is_level texts.now)) }
 {
     let top = read_level(&texts[0])?;
-    let mut sets = [top; 8];
+    let mut sets = [top; MOST_LEVELS];
     for (k, text) in texts.iter().enumerate() {
         sets[k] = read_level(text)?;
     }
@@ -304,7 +310,7 @@ fn read_sets(texts: &[[u8; 8]]) -> Option<[(LmsType, OtsType); 8]>
 }
 
 /// The sets of one level. None where a typecode is unknown.
-fn read_level(text: &[u8; 8]) -> Option<(LmsType, OtsType)>
+fn read_level(text: &[u8; LEVEL_LEN]) -> Option<(LmsType, OtsType)>
     ensures some { IfSome result (λ sets. level_text sets ≡ text.now) }
     ensures none { IfNone result (IsFalse (is_level text.now)) }
 {
