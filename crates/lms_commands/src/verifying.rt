@@ -9,7 +9,7 @@ ghost use Rattle.lms_commands.specs.Verifying.{FailsToJudge, Judges};
 use crate::fault::Fault;
 use crate::files::{hand_over, open_file, read_file};
 use crate::verdict::{Verdict, print_verdict};
-use lms_hss::Verifier;
+use lms_hss::{ByEights, Verifier};
 use lms_world::{Taker, World};
 use std::alloc::Global;
 use std::io::Write;
@@ -59,7 +59,7 @@ impl<'a> Judge<'a> {
         ensures { HasTaken result public.now signature.now [] }
     {
         Judge {
-            verifier: Verifier::begin(public, signature),
+            verifier: Verifier::begin(public, signature, ByEights),
         }
     }
 
@@ -80,7 +80,7 @@ fn verdict_of(verifier: Verifier) -> Verdict
     ensures { (public signature message : List ℕ)
         → HasTakenByVerifier verifier.entry public signature message → IsRightFor result public message signature }
 {
-    if verifier.finish() {
+    if verifier.finish(ByEights) {
         Verdict::Valid
     } else {
         Verdict::Invalid
