@@ -21,13 +21,13 @@ returns-in-Ok-clause-some c =
     let first = get_or_from_slice_get c.args.text.now 0 c.in_ok-first.first.now 0
     (sym (c.in_ok-first.ensures.value ∙ ap (λ (t : List ℕ). slice_get t 0) c.as_bytes.ensures.value)) in
     let past : 48 < get_or c.args.text.now 0 0 = omega (arith, first, c.if-first-le48.false) in
-    (c.if-workers-ge1.true, c.if-workers-le64.true, is_text_of c.args.text.now c.parse.result c.in-Ok.workers c.parse.ensures.value.0 past c.in-Ok.is)
+    (c.if-workers-ge1.true, c.if-workers-le-MOST_WORKERS.true, is_text_of c.args.text.now c.parse.result c.in-Ok.workers c.parse.ensures.value.0 past c.in-Ok.is)
 
 pub returns-in_default-clause-none : goal.returns-in_default-clause-none
 returns-in_default-clause-none c = λ are.
     let read = workers_are_read c.args.text.now c.parse.result c.parse.ensures.value.0 are in
     let same = ok_is c.parse.result c.in-Ok.workers read.0 c.in-Ok.is read.3 in
-    omega (arith, read.2, same, c.if-workers-le64.false)
+    omega (arith, read.2, same, c.if-workers-le-MOST_WORKERS.false)
 
 pub returns-in_default-2-clause-none : goal.returns-in_default-2-clause-none
 returns-in_default-2-clause-none c = λ are.
