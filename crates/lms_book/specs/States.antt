@@ -7,6 +7,7 @@ use Rattle.lms_hss.specs.Keys.{hss_key_of}
 use Rattle.lms_hss.specs.declared.key.HssKey.{HssKey as KeyOfCode}
 use Rattle.lms_book.specs.declared.history.Entry.{Entry}
 use Rattle.lms_image.specs.Image.{HasImage, IsImageFrom}
+use Rattle.lms_image.specs.declared.image.Image.{Image}
 use Rattle.lms_book.specs.History.{Range, end, counter_of, leases, stored_of, burnt_after}
 use Rattle.lms_book.specs.Stops.{Texts, StoreView, MayLeave}
 use Rattle.lms_book.specs.Lives.{IsOpened, opening_of}
@@ -56,6 +57,14 @@ pub record IsKept (reserved : ReservationsState) (counter stored burnt : ℕ) : 
   pub stored_is : stored ≡ stored_of reserved.base reserved.history
   pub burnt_is : burnt ≡ burnt_after reserved.burnt reserved.history
   pub counted : HasImage reserved.key counter reserved.openings burnt
+
+-- the image to store so that n indices more are used: it counts this opening, and what was burnt so far
+pub record IsNextOf (reserved : ReservationsState) (n : ℕ) (image : Image) : Type 0 where
+  pub key : image.key ≡ reserved.key
+  pub counter : image.counter ≡ counter_of reserved.base reserved.history + n
+  pub openings : image.openings ≡ reserved.openings + 1
+  pub burnt : image.burnt ≡ burnt_after reserved.burnt reserved.history
+  pub counted : HasImage image.key image.counter image.openings image.burnt
 
 -- the store is never behind a lease; and since it held some texts, perhaps any, what was reserved is an opening of which the laws of
 -- lives speak

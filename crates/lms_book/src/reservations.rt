@@ -5,6 +5,7 @@ ghost use Rattle.lms_hss.specs.Keys.{hss_key_of};
 ghost use Rattle.lms_image.specs.Image.{HasImage};
 ghost use Rattle.lms_book.specs.declared.history.Entry.TheVariants.{Burnt};
 ghost use Rattle.lms_book.specs.History.{counter_of, burnt_after, confirmed, stored_of};
+ghost use Rattle.lms_book.specs.States.{IsNextOf};
 
 use crate::history::Entry;
 use lms_hss::HssKey;
@@ -129,11 +130,7 @@ impl Reservations {
     pub(crate) fn next_image(&self, n: u64) -> Image
         requires some { 1 ≤ n }
         requires room { counter_of self.now.base self.now.history + n ≤ capacity_of (hss_key_of self.now.key) }
-        ensures key { result.key ≡ self.now.key }
-        ensures counter { result.counter ≡ counter_of self.now.base self.now.history + n }
-        ensures openings { result.openings ≡ self.now.openings + 1 }
-        ensures burnt { result.burnt ≡ burnt_after self.now.burnt self.now.history }
-        ensures counted { HasImage result.key result.counter result.openings result.burnt }
+        ensures { IsNextOf self.now n result }
     {
         Image {
             key: self.key,

@@ -5,22 +5,14 @@ use Rattle.lms_image.specs.Image.{image_of, HasImage}
 use Rattle.lms_image.specs.declared.image.Image.{Image}
 use Rattle.lms_book.specs.declared.history.Entry.TheVariants.{Burnt}
 use Rattle.lms_book.specs.History.{counter_of, burnt_after, confirmed}
-use Rattle.lms_book.specs.States.{BookState, LeaseState, ReservationsState, IsOpenedFrom}
+use Rattle.lms_book.specs.States.{BookState, LeaseState, ReservationsState, IsNextOf, IsOpenedFrom}
 use Rattle.lms_book.specs.Stops.{after_write}
 use Rattle.lms_book.specs.Books.{Reserves}
 use Rattle.lms_book.proofs.Histories.{confirmed-push, text_after}
 use Rattle.lms_book.proofs.Storing.{with_given, with_burnt, backed_with_given, backed_with_burnt, opened_with_given, opened_with_burnt}
 use Rattle.lms_book.proofs.book.Book.reserve.Goals as goal
 
--- the image is that of n indices more
-record IsNextOf (r : ReservationsState) (n : ℕ) (image : Image) : Type 0 where
-  key : image.key ≡ r.key
-  counter : image.counter ≡ counter_of r.base r.history + n
-  openings : image.openings ≡ r.openings + 1
-  burnt : image.burnt ≡ burnt_after r.burnt r.history
-  counted : HasImage image.key image.counter image.openings image.burnt
-
--- its text
+-- the text of the next image
 written : (text made : List ℕ) (r : ReservationsState) (n : ℕ) (image : Image) → IsNextOf r n image → text ≡ made
     → made ≡ image_of image.key image.counter image.openings image.burnt → text ≡ text_after r n
 written text made r n image is t m = t ∙ m ∙ (λ i. image_of (is.key i) (is.counter i) (is.openings i) (is.burnt i))
@@ -41,8 +33,7 @@ given_last r burnt later n is was = is ∙ ap (λ (s : ReservationsState). recor
 pub invariant_of-self-in-Ok-replace : goal.invariant_of-self-in-Ok-replace
 invariant_of-self-in-Ok-replace g c =
     let r = c.self.inside.reservations in
-    let made = c.next_image-image.ensures in
-    let next : IsNextOf r c.args.n c.next_image-image.result = record { key = made.key; counter = made.counter; openings = made.openings; burnt = made.burnt; counted = made.counted } in
+    let next = c.next_image-image.ensures in
     let text = written c.as_slice.result.now c.encode_image-text.result r c.args.n c.next_image-image.result next c.as_slice.ensures.bytes c.encode_image-text.ensures in
     let given = given_last r c.burn.new.self c.confirm.new.self c.args.n c.confirm.ensures c.in-Ok.ensures.ok in
     backed_with_given c.args.n r c.as_slice.result.now (g.S.StateStore.seen c.self.inside.store) _ text (next_counted r c.args.n c.next_image-image.result next) c.confirm.new.self given c.in-Ok-replace.ensures.writes c.self.invariant
@@ -50,16 +41,14 @@ invariant_of-self-in-Ok-replace g c =
 pub invariant_of-self-in-Err : goal.invariant_of-self-in-Err
 invariant_of-self-in-Err g c =
     let r = c.self.inside.reservations in
-    let made = c.next_image-image.ensures in
-    let next : IsNextOf r c.args.n c.next_image-image.result = record { key = made.key; counter = made.counter; openings = made.openings; burnt = made.burnt; counted = made.counted } in
+    let next = c.next_image-image.ensures in
     let text = written c.as_slice.result.now c.encode_image-text.result r c.args.n c.next_image-image.result next c.as_slice.ensures.bytes c.encode_image-text.ensures in
     backed_with_burnt c.args.n r c.as_slice.result.now (g.S.StateStore.seen c.self.inside.store) _ text (next_counted r c.args.n c.next_image-image.result next) c.burn.new.self c.in-Ok.ensures.ok c.in-Err.ensures.writes c.self.invariant
 
 pub returns-in-Ok-replace-clause-opened : goal.returns-in-Ok-replace-clause-opened
 returns-in-Ok-replace-clause-opened g c held opened =
     let r = c.self.inside.reservations in
-    let made = c.next_image-image.ensures in
-    let next : IsNextOf r c.args.n c.next_image-image.result = record { key = made.key; counter = made.counter; openings = made.openings; burnt = made.burnt; counted = made.counted } in
+    let next = c.next_image-image.ensures in
     let text = written c.as_slice.result.now c.encode_image-text.result r c.args.n c.next_image-image.result next c.as_slice.ensures.bytes c.encode_image-text.ensures in
     let given = given_last r c.burn.new.self c.confirm.new.self c.args.n c.confirm.ensures c.in-Ok.ensures.ok in
     let here = subst (λ (book : BookState). IsOpenedFrom held book) (sym c.self.view_is) opened in
@@ -68,8 +57,7 @@ returns-in-Ok-replace-clause-opened g c held opened =
 pub returns-in-Err-clause-opened : goal.returns-in-Err-clause-opened
 returns-in-Err-clause-opened g c held opened =
     let r = c.self.inside.reservations in
-    let made = c.next_image-image.ensures in
-    let next : IsNextOf r c.args.n c.next_image-image.result = record { key = made.key; counter = made.counter; openings = made.openings; burnt = made.burnt; counted = made.counted } in
+    let next = c.next_image-image.ensures in
     let text = written c.as_slice.result.now c.encode_image-text.result r c.args.n c.next_image-image.result next c.as_slice.ensures.bytes c.encode_image-text.ensures in
     let here = subst (λ (book : BookState). IsOpenedFrom held book) (sym c.self.view_is) opened in
     opened_with_burnt c.args.n r c.as_slice.result.now (g.S.StateStore.seen c.self.inside.store) _ text (next_counted r c.args.n c.next_image-image.result next) c.burn.new.self c.in-Ok.ensures.ok c.in-Err.ensures.writes held here
@@ -77,8 +65,7 @@ returns-in-Err-clause-opened g c held opened =
 pub returns-in-Ok-replace-clause-reserves : goal.returns-in-Ok-replace-clause-reserves
 returns-in-Ok-replace-clause-reserves g c =
     let r = c.self.inside.reservations in
-    let made = c.next_image-image.ensures in
-    let next : IsNextOf r c.args.n c.next_image-image.result = record { key = made.key; counter = made.counter; openings = made.openings; burnt = made.burnt; counted = made.counted } in
+    let next = c.next_image-image.ensures in
     let text = written c.as_slice.result.now c.encode_image-text.result r c.args.n c.next_image-image.result next c.as_slice.ensures.bytes c.encode_image-text.ensures in
     let given = given_last r c.burn.new.self c.confirm.new.self c.args.n c.confirm.ensures c.in-Ok.ensures.ok in
     let late = c.confirm.new.self in
