@@ -23,12 +23,12 @@ pub fn key_of(lms: LmsType, ots: OtsType, seed: [u8; 32]) -> TreeKey
 /// Each case's operation and set, in the order in which they are printed.
 pub const CASES: [(Operation, OtsType); 17] = [
     (Operation::PublicHash, OtsType::W1),
-    (Operation::PublicHash, OtsType::W2),
-    (Operation::PublicHash, OtsType::W4),
-    (Operation::PublicHash, OtsType::W8),
     (Operation::ChainByChain, OtsType::W1),
+    (Operation::PublicHash, OtsType::W2),
     (Operation::ChainByChain, OtsType::W2),
+    (Operation::PublicHash, OtsType::W4),
     (Operation::ChainByChain, OtsType::W4),
+    (Operation::PublicHash, OtsType::W8),
     (Operation::ChainByChain, OtsType::W8),
     (Operation::SignInto, OtsType::W1),
     (Operation::SignInto, OtsType::W2),
