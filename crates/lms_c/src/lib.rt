@@ -1,7 +1,7 @@
 //! HSS/LMS verification for C (RFC 8554, 6.3): a static library, whose header is include/lms.h.
 //!
 //! No call allocates, starts a thread, waits or keeps anything. A slice is a pointer and a length to C. Chains are taken to their
-//! ends one by one, so that 4 KiB of stack are enough.
+//! ends one by one, which takes little stack and code.
 #![tactic(auto)]
 
 ghost use Rattle.std.specs.Prelude.{ℕ, ◌≡◌, List, ◌++◌, false, ◌↔◌, IsTrue};

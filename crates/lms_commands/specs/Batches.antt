@@ -22,7 +22,7 @@ pub record Streams : Type 0 where
 abbrev pub streams : Option (List ℕ) → Option (List ℕ) → Streams
 streams input output = record { input = input; output = output }
 
--- the batch has signatures of these jobs, by the next indices of the state's key, which are used
+-- the batch has signatures of these jobs, by the next indices of the key that the state may be of, which may count as used now
 pub record SignsBatch (old new : Known) (state : Text) (jobs : List JobText) (batch : Batch) : Type 0 where
   pub key : KeyOfCode
   pub index : ℕ

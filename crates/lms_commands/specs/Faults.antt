@@ -2,6 +2,7 @@
 use Rattle.std.specs.Prelude.{ℕ, List, ◌++◌, codes, decimal}
 use Rattle.lms_hss.specs.declared.levels.KeyFault.{KeyFault}
 use Rattle.lms_hss.specs.declared.levels.KeyFault.TheVariants as key
+use Rattle.lms_hss.specs.Texts.{fault_text as key_text}
 use Rattle.lms_image.specs.Image.{name_of}
 use Rattle.lms_book.specs.Refusals.{text_of as book_text}
 use Rattle.lms_book.specs.declared.refusals.BookFault.{BookFault}
@@ -27,8 +28,8 @@ use Rattle.lms_commands.specs.declared.status.Status.TheVariants as status
 
 abbrev pub text_of : Fault → List ℕ
 text_of BadLevels = codes "bad levels"
-text_of TooManyLevels = codes "too many levels"
-text_of TooTall = codes "too tall"
+text_of TooManyLevels = key_text key.TooManyLevels
+text_of TooTall = key_text key.TooTall
 text_of BadSeed = codes "bad seed"
 text_of BadId = codes "bad id"
 text_of BadRandom = codes "bad random"

@@ -67,17 +67,17 @@ FailsToStore old new key state OutOfMemory = Stays old new state
 FailsToStore old new key state WriteState = IsOldOr (image_of key 0 0 0) old new state
 FailsToStore old new key state _ = ⊥
 
--- there was no state, and now there is that of this key with no index used
-abbrev pub IsNewKey : Known → Known → KeyOfCode → Text → Type 0
-IsNewKey old new key state = old.may_lack state × new.may_hold state (image_of key 0 0 0)
+-- there may have been no state, and now there may be that of this key with no index used
+abbrev pub MayBeNewKey : Known → Known → KeyOfCode → Text → Type 0
+MayBeNewKey old new key state = old.may_lack state × new.may_hold state (image_of key 0 0 0)
 
 -- why no key was made, in the order in which it is found; memory may run out before the state is stored, and while the public key is
 -- written. Where the output failed, nothing is printed before the file has the public key.
 abbrev pub FailsToMakeKey : Known → Known → KeyOfCode → Text → Text → Option (List ℕ) → Option (List ℕ) → Fault → Type 0
 FailsToMakeKey old new key state public before after StateInUse = old.may_be_in_use state × Stays old new state
 FailsToMakeKey old new key state public before after StateExists = MayExist old state × Stays old new state
-FailsToMakeKey old new key state public before after OutOfMemory = Stays old new state ⊎ IsNewKey old new key state
+FailsToMakeKey old new key state public before after OutOfMemory = Stays old new state ⊎ MayBeNewKey old new key state
 FailsToMakeKey old new key state public before after WriteState = old.may_lack state × IsOldOr (image_of key 0 0 0) old new state
 FailsToMakeKey old new key state public before after Output =
-    IsNewKey old new key state × IsPrintedLast new public (hss_public_key (hss_key_of key)) before after
+    MayBeNewKey old new key state × IsPrintedLast new public (hss_public_key (hss_key_of key)) before after
 FailsToMakeKey old new key state public before after _ = ⊥

@@ -10,7 +10,7 @@ use Rattle.lms_batch.specs.Jobs.{most_workers}
 abbrev pub IsLevelsText : List ℕ → List (LmsType × OtsType) → Type 0
 IsLevelsText text pairs = (0 < length pairs) × (text ≡ levels_text pairs)
 
--- the text is a number of workers of a batch, from 1 on, in decimal
+-- the text is a number of workers that a batch may have, in decimal
 abbrev pub IsWorkers : List ℕ → ℕ → Type 0
 IsWorkers text workers = (1 ≤ workers) × (workers ≤ most_workers) × (text ≡ decimal workers)
 

@@ -36,10 +36,10 @@ SignsNothing old unsigned.OutOfMemory new = GivesOne old new
 abbrev pub MayBeImageOf : Known → Text → KeyOfCode → ℕ → ℕ → ℕ → Type 0
 MayBeImageOf at state key used openings burnt = (text : List ℕ) × at.may_hold state text × IsImage text key used openings burnt
 
--- the state counts n indices more, and its opening; where there are none, it stays
-abbrev pub Stores : ℕ → Known → Known → Text → KeyOfCode → ℕ → ℕ → ℕ → Type 0
-Stores zero old new state key index openings burnt = Stays old new state
-Stores (suc n) old new state key index openings burnt = new.may_hold state (image_of key (index + suc n) (openings + 1) burnt)
+-- the state may count n indices more, and their opening; where there are none, it stays
+abbrev pub MayStore : ℕ → Known → Known → Text → KeyOfCode → ℕ → ℕ → ℕ → Type 0
+MayStore zero old new state key index openings burnt = Stays old new state
+MayStore (suc n) old new state key index openings burnt = new.may_hold state (image_of key (index + suc n) (openings + 1) burnt)
 
 -- the state may have been that of this key, and may count n indices from this one on as used now, and where there are some its opening
 pub record MayUseIndices (n : ℕ) (old new : Known) (state : Text) (key : KeyOfCode) (index : ℕ) : Type 0 where
@@ -48,7 +48,7 @@ pub record MayUseIndices (n : ℕ) (old new : Known) (state : Text) (key : KeyOf
   pub counted : HasImage key index openings burnt
   pub within : index + n ≤ capacity_of (hss_key_of key)
   pub opened : MayBeImageOf old state key index openings burnt
-  pub stored : Stores n old new state key index openings burnt
+  pub stored : MayStore n old new state key index openings burnt
 
 -- a signature is the one that the next index of the state's key makes, and is accepted
 pub record SignsNext (old new : Known) (state : Text) (random message signature : List ℕ) (index : ℕ) : Type 0 where

@@ -23,7 +23,7 @@ MayBeRefusedAt at name Input = at.may_refuse name world.Device
 MayBeRefusedAt at name OutOfMemory = at.may_refuse name world.OutOfMemory
 MayBeRefusedAt at name _ = ⊥
 
--- the fault is that of a name that gave no bytes, after those before it gave some, or that of the output after all three
+-- the fault may be that of a name that gives no bytes, where those before it may give some, or is that of the output after all three
 abbrev pub FailsToJudge : Known → Text → Text → Text → Fault → Type 0
 FailsToJudge at public message signature fault =
     MayBeRefusedAt at public fault

@@ -23,9 +23,9 @@ use std::sync::Wait;
 use std::sync::ledger::Blank;
 use std::thread::Threads;
 
-/// Signs the job lines of the whole input with the next indices of a state's key, one index a job, by 1 to 64 workers at once,
-/// and prints a line for each signature, in the order of the jobs. `workers` is their number, in decimal. One reservation is
-/// made, before any job is signed; where there are no jobs, none.
+/// Signs the job lines of the whole input with the next indices of a state's key, one index a job, by 1 to `lms_batch::MOST_WORKERS`
+/// workers at once, and prints a line for each signature, in the order of the jobs. `workers` is their number, in decimal. One
+/// reservation is made, before any job is signed; where there are no jobs, none.
 ///
 /// Faults, in this order: `BadWorkers`; `StateInUse` where the state's lock is not available; `ReadState`; `BadState`; `Input`
 /// where the input can't be read; `BadJob` with the number of the first line that is no job line; `TooManyJobs` over 1024;

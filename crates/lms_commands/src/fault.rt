@@ -31,7 +31,7 @@ pub enum Fault {
     BadId,
     /// The randomizer is not 64 hexadecimal digits.
     BadRandom,
-    /// The text for the workers is no decimal number from 1 to 64.
+    /// The text for the workers is no decimal number from 1 to the most of a batch.
     BadWorkers,
     /// This line of the input, counted from 1, is the first that is no job line.
     BadJob { line: u64 },
@@ -97,9 +97,9 @@ impl fmt::Display for Fault {
 
     fn fmt<W: fmt::Write>(&self, f: &mut fmt::Formatter<W>) -> fmt::Result {
         match *self {
-            Fault::BadLevels => f.write_str("bad levels"),
-            Fault::TooManyLevels => f.write_str("too many levels"),
-            Fault::TooTall => f.write_str("too tall"),
+            Fault::BadLevels => write!(f, "{}", LevelsTextFault::Bad),
+            Fault::TooManyLevels => write!(f, "{}", KeyFault::TooManyLevels),
+            Fault::TooTall => write!(f, "{}", KeyFault::TooTall),
             Fault::BadSeed => f.write_str("bad seed"),
             Fault::BadId => f.write_str("bad id"),
             Fault::BadRandom => f.write_str("bad random"),

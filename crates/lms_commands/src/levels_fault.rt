@@ -2,7 +2,7 @@
 ghost use Rattle.std.specs.Prelude.{Some};
 ghost use Rattle.lms_commands.specs.Faults.{of_text, text_of};
 
-use crate::fault::Fault;
+use lms_book::BookFault;
 use std::alloc::AllocError;
 use std::error::Error;
 use std::fmt;
@@ -20,7 +20,10 @@ impl fmt::Display for LevelsTextFault {
     ghost output = { λ fault. Some (text_of (of_text fault)) };
 
     fn fmt<W: fmt::Write>(&self, f: &mut fmt::Formatter<W>) -> fmt::Result {
-        write!(f, "{}", Fault::from(*self))
+        match *self {
+            LevelsTextFault::Bad => f.write_str("bad levels"),
+            LevelsTextFault::OutOfMemory => write!(f, "{}", BookFault::OutOfMemory),
+        }
     }
 }
 

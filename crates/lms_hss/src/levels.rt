@@ -1,14 +1,16 @@
 //! The levels of a key that signs.
-ghost use Rattle.std.specs.Prelude.{◌≡◌, ◌≤◌, length, drop};
+ghost use Rattle.std.specs.Prelude.{◌≡◌, ◌≤◌, length, drop, Some};
 ghost use Rattle.lms_spec.specs.Hss.{height_of, most_levels};
+ghost use Rattle.lms_hss.specs.Texts.{fault_text};
 ghost use Rattle.lms_hss.specs.Levels.{levels_of, padded as padded_of, most_height, IsAdmitted, JudgesLevels};
 
 use lms_params::{LmsType, OtsType};
+use std::error::Error;
+use std::fmt;
 use std::marker::Model;
-use thiserror::Error;
 
 /// The most levels of a key (RFC 8554, 6).
-pub(crate) const MOST_LEVELS: usize = 8;
+pub const MOST_LEVELS: usize = 8;
 
 /// The most that the heights of a signer's levels sum to, so that an index fits 64 bits.
 const MOST_HEIGHT: u32 = 60;
@@ -17,15 +19,29 @@ const MOST_HEIGHT: u32 = 60;
 const NO_SETS: [(LmsType, OtsType); MOST_LEVELS] = [(LmsType::H5, OtsType::W1); MOST_LEVELS];
 
 /// Why a list of levels was refused.
-#[derive(Clone, Copy, Debug, PartialEq, Eq, Error)]
+#[derive(Clone, Copy, Debug, PartialEq, Eq)]
 pub enum KeyFault {
-    #[error("no levels")]
+    /// It is empty.
     NoLevels,
-    #[error("too many levels")]
+    /// It has more than `MOST_LEVELS`.
     TooManyLevels,
-    #[error("too tall")]
+    /// Its heights sum to more than 60.
     TooTall,
 }
+
+impl fmt::Display for KeyFault {
+    ghost output = { λ fault. Some (fault_text fault) };
+
+    fn fmt<W: fmt::Write>(&self, f: &mut fmt::Formatter<W>) -> fmt::Result {
+        match *self {
+            KeyFault::NoLevels => f.write_str("no levels"),
+            KeyFault::TooManyLevels => f.write_str("too many levels"),
+            KeyFault::TooTall => f.write_str("too tall"),
+        }
+    }
+}
+
+impl Error for KeyFault {}
 
 /// The levels of a key that signs, from the top: the LMS set and the LM-OTS set of each. There are 1 to 8, whose heights sum to
 /// at most 60. Contracts see the list.

@@ -17,7 +17,7 @@ mod verification;
 
 pub use crate::forest::Forest;
 pub use crate::key::{HssKey, same_key};
-pub use crate::levels::{KeyFault, Levels};
+pub use crate::levels::{KeyFault, Levels, MOST_LEVELS};
 pub use crate::text::LevelsText;
 pub use crate::verification::{LMS_KEY_LEN, Verifier, verify, verify_with};
 pub use lms_tree::{ByEights, ChainEnds, OneByOne, Progress, Unwatched};

@@ -22,15 +22,15 @@ pub fn verify(public: &[u8], msg: &[u8], sig: &[u8]) -> bool
     verify_with(public, msg, sig, ByEights)
 }
 
-/// The same, with the chains of all levels taken to their ends in this way.
-pub fn verify_with<C: ChainEnds>(public: &[u8], msg: &[u8], sig: &[u8], chains: C) -> bool
+/// The same, with the chains of all levels taken to their ends as `way` says.
+pub fn verify_with<C: ChainEnds>(public: &[u8], msg: &[u8], sig: &[u8], way: C) -> bool
     ensures { IsTrue result ↔ HssAccepts public.now msg.now sig.now }
 {
-    let Some(mut verifier) = Verifier::begin(public, sig, chains) else {
+    let Some(mut verifier) = Verifier::begin(public, sig, way) else {
         return false;
     };
     verifier.update(msg);
-    verifier.finish(chains)
+    verifier.finish(way)
 }
 
 /// Verifies a signature (RFC 8554, 6.3) of a message that comes in pieces of any lengths: `begin`, `update` with each
@@ -43,8 +43,8 @@ pub struct Verifier<'a> {
 impl<'a> Verifier<'a> {
     /// Before the first byte of the message. The key and the signature may have any length; None is for those that have no
     /// head, under which no message is accepted: they have not their form, or a level's signature of the key below it is not
-    /// valid. These are all verified here, since they sign keys and not the message.
-    pub fn begin<C: ChainEnds>(public: &'a [u8], sig: &'a [u8], chains: C) -> Option<Self>
+    /// valid. These are all verified here, since they sign keys and not the message, their chains taken to their ends as `way` says.
+    pub fn begin<C: ChainEnds>(public: &'a [u8], sig: &'a [u8], way: C) -> Option<Self>
         ensures some { IfSome result (λ v. HasTaken v public.now sig.now []) }
         ensures none { IfNone result ((message : List ℕ) → ¬ HssAccepts public.now message sig.now) }
         ensures no_head { IfNone result ((head : List ℕ) → ¬ IsMessageHead public.now sig.now head) }
@@ -54,7 +54,7 @@ impl<'a> Verifier<'a> {
         if levels == 0 || levels > MOST_LEVELS as u32 || signed_keys != levels - 1 {
             return None;
         }
-        let signed = Bottom::below(signed_keys, top_key, signatures, chains)?;
+        let signed = Bottom::below(signed_keys, top_key, signatures, way)?;
         let bottom = lms_tree::Verifier::begin(signed.key, signed.signature)?;
         Some(Verifier { bottom })
     }
@@ -75,21 +75,21 @@ impl<'a> Verifier<'a> {
     }
 
     /// Whether the signature is accepted for a message of which another hasher made the SHA-256, over `head` and the
-    /// message (6.3). What this one has taken plays no part.
-    pub fn finish_by_hash<C: ChainEnds>(self, hash: &[u8; 32], chains: C) -> bool
+    /// message (6.3), the bottom level's chains taken to their ends as `way` says. What this one has taken plays no part.
+    pub fn finish_by_hash<C: ChainEnds>(self, hash: &[u8; 32], way: C) -> bool
         ensures { (public signature taken head message : List ℕ)
             → HasTaken self.entry public signature taken → IsMessageHead public signature head → hash.now ≡ sha256 (head ++ message)
             → (IsTrue result ↔ HssAccepts public message signature) }
     {
-        self.bottom.finish_by_hash(hash, chains)
+        self.bottom.finish_by_hash(hash, way)
     }
 
-    /// Whether the signature is accepted for the message (6.3).
-    pub fn finish<C: ChainEnds>(self, chains: C) -> bool
+    /// Whether the signature is accepted for the message (6.3), the bottom level's chains taken to their ends as `way` says.
+    pub fn finish<C: ChainEnds>(self, way: C) -> bool
         ensures { (public signature message : List ℕ)
             → HasTaken self.entry public signature message → (IsTrue result ↔ HssAccepts public message signature) }
     {
-        self.bottom.finish(chains)
+        self.bottom.finish(way)
     }
 }
 
@@ -107,7 +107,7 @@ impl<'a> Bottom<'a> {
         signed_keys: u32,
         key: &'a [u8],
         signatures: &'a [u8],
-        chains: C,
+        way: C,
     ) -> Option<Self>
         ensures some { IfSome result (λ bottom. (message : List ℕ)
             → (AcceptsThrough signed_keys key.now message signatures.now ↔ LmsAccepts bottom.key.now message bottom.signature.now)) }
@@ -122,7 +122,7 @@ impl<'a> Bottom<'a> {
         };
         while left > 0 {
             let next = SignedKey::parse(bottom.key, bottom.signature)?;
-            if !lms_tree::verify_with(bottom.key, next.key, next.signature, chains) {
+            if !lms_tree::verify_with(bottom.key, next.key, next.signature, way) {
                 return None;
             }
             bottom = Bottom {

@@ -12,7 +12,7 @@ ghost use Rattle.lms_image.specs.Reading.{IsHeaded, IsCut, longest_head, rest_le
 
 use crate::bytes::ImageBytes;
 use crate::version::{Version, split_later, split_u64};
-use lms_hss::{HssKey, KeyFault, Levels};
+use lms_hss::{HssKey, KeyFault, Levels, MOST_LEVELS};
 use lms_params::{LmsType, OtsType, split_u32};
 use sha2::{Digest, Sha256};
 use std::error::Error;
@@ -27,11 +27,11 @@ const MAGIC: [u8; 4] = *b"HSSK";
 /// The version that is written.
 const VERSION: u32 = 2;
 
+/// The most levels, as an image counts them.
+const MOST_COUNT: u32 = MOST_LEVELS as u32;
+
 /// The bytes of a level.
 const LEVEL_LEN: usize = 8;
-
-/// The most levels.
-const MOST_LEVELS: u32 = 8;
 
 /// The bytes of the digest at the end.
 const DIGEST_LEN: usize = 32;
@@ -185,7 +185,7 @@ fn read_head(text: &[u8]) -> Result<(Version, usize, &[u8]), ImageFault>
     let Some(version) = Version::from_code(head.version) else {
         return Err(ImageFault::UnknownVersion);
     };
-    if head.levels == 0 || head.levels > MOST_LEVELS {
+    if head.levels == 0 || head.levels > MOST_COUNT {
         return Err(ImageFault::BadLevels);
     }
     Ok((version, head.levels as usize, head.rest))
@@ -295,14 +295,14 @@ fn refused(fault: KeyFault) -> ImageFault
 
 /// The sets that these bytes name, in the first of eight places, the others filled with the top level's. None where a typecode is
 /// unknown.
-fn read_sets(texts: &[[u8; LEVEL_LEN]]) -> Option<[(LmsType, OtsType); MOST_LEVELS as usize]>
+fn read_sets(texts: &[[u8; LEVEL_LEN]]) -> Option<[(LmsType, OtsType); MOST_LEVELS]>
     requires some { 1 ≤ length texts.now }
     requires at_most { length texts.now ≤ most_levels }
     ensures some { IfSome result (λ sets. map level_text (take (length texts.now) sets) ≡ texts.now) }
     ensures none { IfNone result (IsFalse (list_all is_level texts.now)) }
 {
     let top = read_level(&texts[0])?;
-    let mut sets = [top; MOST_LEVELS as usize];
+    let mut sets = [top; MOST_LEVELS];
     for (k, text) in texts.iter().enumerate() {
         sets[k] = read_level(text)?;
     }

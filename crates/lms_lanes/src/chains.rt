@@ -37,7 +37,7 @@ pub fn hash_chains(
 // The greatest of eight numbers.
 #[inline(always)]
 fn most(numbers: &[u16; 8]) -> u16
-    ensures reached { (k : ℕ) → k < 8 → slice_index numbers.now k ≤ result }
+    ensures bound { (k : ℕ) → k < 8 → slice_index numbers.now k ≤ result }
     ensures least { (n : ℕ) → ((k : ℕ) → k < 8 → slice_index numbers.now k ≤ n) → result ≤ n }
 {
     let mut most = 0;

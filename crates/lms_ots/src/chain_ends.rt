@@ -1,5 +1,5 @@
 //! The ends of a signature's chains, in two ways: one chain after another, or eight side by side.
-ghost use Rattle.std.specs.Prelude.{ℕ, ◌≡◌, ◌-◌, ◌≤◌, ◌<◌, List, map, length, slice_index};
+ghost use Rattle.std.specs.Prelude.{ℕ, ◌≡◌, ◌-◌, ◌≤◌, ◌<◌, map, length, slice_index};
 ghost use Rattle.lms_spec.specs.Bytes.{below};
 ghost use Rattle.lms_spec.specs.Ots.{last_digit as last_digit_of, end_from, ends_hash as ends_hash_of};
 ghost use Rattle.lms_params.specs.OtsType.{ots_set_of};
@@ -21,7 +21,7 @@ pub trait ChainEnds: Copy {
         ensures { result ≡ ends_hash_of id.i id.q (map (end_from (ots_set_of t) id.i id.q digits.now values.now) (below (ots_set_of t).p)) };
 }
 
-/// One chain after another: where stack and code are scarce, as in boot loaders. A verification takes less than 4 KiB of stack.
+/// One chain after another: where stack and code are scarce, as in boot loaders.
 #[derive(Clone, Copy)]
 pub struct OneByOne;
 
@@ -37,7 +37,7 @@ impl ChainEnds for OneByOne {
     }
 }
 
-/// Eight chains side by side, in the lanes of vectors: everywhere else. A verification takes some 17 KiB of stack.
+/// Eight chains side by side, in the lanes of vectors: everywhere else. It takes several times the stack and the code.
 #[derive(Clone, Copy)]
 pub struct ByEights;
 

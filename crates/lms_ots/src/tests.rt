@@ -126,13 +126,13 @@ fn by_pieces<C: ChainEnds>(
     id: OtsId,
     text: &[u8],
     msg: &[u8; 3],
-    chains: C,
+    way: C,
 ) -> Option<[u8; 32]> {
     let mut verifier = Verifier::begin(ots, id, text)?;
     verifier.update(&msg[..1]);
     verifier.update(b"");
     verifier.update(&msg[1..]);
-    Some(verifier.finish(chains))
+    Some(verifier.finish(way))
 }
 
 /// The candidate of a message, which another hasher takes.
@@ -141,13 +141,13 @@ fn by_hash<C: ChainEnds>(
     id: OtsId,
     text: &[u8],
     msg: &[u8; 3],
-    chains: C,
+    way: C,
 ) -> Option<[u8; 32]> {
     let verifier = Verifier::begin(ots, id, text)?;
     let mut hasher = Sha256::new();
     hasher.update(verifier.head());
     hasher.update(msg);
-    Some(verifier.finish_by_hash(&hasher.finalize(), chains))
+    Some(verifier.finish_by_hash(&hasher.finalize(), way))
 }
 
 /// Whether this is the candidate of a message, however it is handed over and its chains are taken to their ends.

@@ -14,7 +14,7 @@ use lms_params::{OtsType, digits};
 use sha2::{Digest, Sha256};
 
 /// The public hash that a signature of a message leads to (RFC 8554, 4.6). None exactly where the signature's typecode
-/// or its length is not that of `t`.
+/// or its length is not that of `t`. Its chains are taken to their ends by eights.
 pub fn candidate(t: OtsType, id: OtsId, sig: &[u8], msg: &[u8]) -> Option<[u8; 32]>
     ensures some { IfSome result (λ k. LeadsTo (ots_set_of t) id.i id.q sig.now msg.now k) }
     ensures none { IfNone result ((k : List ℕ) → ¬ LeadsTo (ots_set_of t) id.i id.q sig.now msg.now k) }
@@ -59,13 +59,13 @@ impl<'a> Verifier<'a> {
         self.hasher.update(piece);
     }
 
-    /// The public hash that the signature and the message lead to (4.6).
-    pub fn finish<C: ChainEnds>(self, chains: C) -> [u8; 32]
+    /// The public hash that the signature and the message lead to (4.6), its chains taken to their ends as `way` says.
+    pub fn finish<C: ChainEnds>(self, way: C) -> [u8; 32]
         ensures { (t : OtsSet) (id : List ℕ) (q : ℕ) (signature message : List ℕ)
             → HasTaken self.entry t id q signature message → LeadsTo t id q signature message result }
     {
         let hash = self.hasher.finalize();
-        candidate_by_hash(self.signature, self.id, &hash, chains)
+        candidate_by_hash(self.signature, self.id, &hash, way)
     }
 
     /// The 54 bytes that the hash of a message has before it: I, q, D_MESG and C (4.5).
@@ -77,13 +77,13 @@ impl<'a> Verifier<'a> {
     }
 
     /// The public hash that the signature leads to with a message of which another hasher made the SHA-256, over `head`
-    /// and the message (4.6). What this one has taken plays no part.
-    pub fn finish_by_hash<C: ChainEnds>(self, hash: &[u8; 32], chains: C) -> [u8; 32]
+    /// and the message (4.6), its chains taken to their ends as `way` says. What this one has taken plays no part.
+    pub fn finish_by_hash<C: ChainEnds>(self, hash: &[u8; 32], way: C) -> [u8; 32]
         ensures { (t : OtsSet) (id : List ℕ) (q : ℕ) (signature taken message : List ℕ)
             → HasTaken self.entry t id q signature taken → hash.now ≡ sha256 (ots_head id q signature ++ message)
             → LeadsTo t id q signature message result }
     {
-        candidate_by_hash(self.signature, self.id, hash, chains)
+        candidate_by_hash(self.signature, self.id, hash, way)
     }
 }
 
@@ -92,7 +92,7 @@ fn candidate_by_hash<C: ChainEnds>(
     signature: Signature,
     id: OtsId,
     hash: &[u8; 32],
-    chains: C,
+    way: C,
 ) -> [u8; 32]
     ensures { (text message : List ℕ)
         → IsOtsSignature (ots_set_of signature.entry.t) signature.entry.randomizer.now signature.entry.values.now text
@@ -101,5 +101,5 @@ fn candidate_by_hash<C: ChainEnds>(
 {
     let Signature { t, values, .. } = signature;
     let digits = digits(hash, t);
-    chains.ends_hash(t, id, &digits, values)
+    way.ends_hash(t, id, &digits, values)
 }

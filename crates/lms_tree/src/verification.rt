@@ -24,15 +24,15 @@ pub fn verify(public: &[u8], msg: &[u8], sig: &[u8]) -> bool
     verify_with(public, msg, sig, ByEights)
 }
 
-/// The same, with the signature's chains taken to their ends in this way.
-pub fn verify_with<C: ChainEnds>(public: &[u8], msg: &[u8], sig: &[u8], chains: C) -> bool
+/// The same, with the signature's chains taken to their ends as `way` says.
+pub fn verify_with<C: ChainEnds>(public: &[u8], msg: &[u8], sig: &[u8], way: C) -> bool
     ensures { IsTrue result ↔ LmsAccepts public.now msg.now sig.now }
 {
     let Some(mut verifier) = Verifier::begin(public, sig) else {
         return false;
     };
     verifier.update(msg);
-    verifier.finish(chains)
+    verifier.finish(way)
 }
 
 /// Verifies a signature (RFC 8554, 5.4.2) of a message that comes in pieces of any lengths: `begin`, `update` with each
@@ -75,12 +75,12 @@ impl<'a> Verifier<'a> {
         self.ots.update(piece);
     }
 
-    /// Whether the signature is accepted for the message (5.4.2).
-    pub fn finish<C: ChainEnds>(self, chains: C) -> bool
+    /// Whether the signature is accepted for the message (5.4.2), its chains taken to their ends as `way` says.
+    pub fn finish<C: ChainEnds>(self, way: C) -> bool
         ensures { (public signature message : List ℕ)
             → HasTaken self.entry public signature message → (IsTrue result ↔ LmsAccepts public message signature) }
     {
-        let ots_public = self.ots.finish(chains);
+        let ots_public = self.ots.finish(way);
         is_root(&self.key, self.leaf, &ots_public, self.path)
     }
 
@@ -92,13 +92,13 @@ impl<'a> Verifier<'a> {
     }
 
     /// Whether the signature is accepted for a message of which another hasher made the SHA-256, over `head` and the
-    /// message (5.4.2). What this one has taken plays no part.
-    pub fn finish_by_hash<C: ChainEnds>(self, hash: &[u8; 32], chains: C) -> bool
+    /// message (5.4.2), its chains taken to their ends as `way` says. What this one has taken plays no part.
+    pub fn finish_by_hash<C: ChainEnds>(self, hash: &[u8; 32], way: C) -> bool
         ensures { (public signature taken message : List ℕ)
             → HasTaken self.entry public signature taken → hash.now ≡ sha256 (lms_head public signature ++ message)
             → (IsTrue result ↔ LmsAccepts public message signature) }
     {
-        let ots_public = self.ots.finish_by_hash(hash, chains);
+        let ots_public = self.ots.finish_by_hash(hash, way);
         is_root(&self.key, self.leaf, &ots_public, self.path)
     }
 }

@@ -23,9 +23,7 @@ pub struct MemoryWorld {
 
 /// The lock of the state in memory, whatever its name. Only a world gives one.
 #[derive(Drop)]
-pub struct MemoryLock {
-    made: (),
-}
+pub struct MemoryLock(());
 
 /// The bytes of a file in memory.
 #[derive(Drop)]
@@ -153,7 +151,7 @@ impl World for MemoryWorld {
         if self.in_use {
             Ok(None)
         } else {
-            Ok(Some(MemoryLock { made: () }))
+            Ok(Some(MemoryLock(())))
         }
     }
 

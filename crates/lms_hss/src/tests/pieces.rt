@@ -13,27 +13,27 @@ fn by_pieces<C: ChainEnds>(
     message: &[u8],
     signature: &[u8],
     length: usize,
-    chains: C,
+    way: C,
 ) -> bool {
-    let Some(mut verifier) = Verifier::begin(public, signature, chains) else {
+    let Some(mut verifier) = Verifier::begin(public, signature, way) else {
         return false;
     };
     verifier.update(&[]);
     for piece in message.chunks(length.max(1)) {
         verifier.update(piece);
     }
-    verifier.finish(chains)
+    verifier.finish(way)
 }
 
 /// The verdict on a message that another hasher takes.
-fn by_hash<C: ChainEnds>(public: &[u8], message: &[u8], signature: &[u8], chains: C) -> bool {
-    let Some(verifier) = Verifier::begin(public, signature, chains) else {
+fn by_hash<C: ChainEnds>(public: &[u8], message: &[u8], signature: &[u8], way: C) -> bool {
+    let Some(verifier) = Verifier::begin(public, signature, way) else {
         return false;
     };
     let mut hasher = Sha256::new();
     hasher.update(verifier.head());
     hasher.update(message);
-    verifier.finish_by_hash(&hasher.finalize(), chains)
+    verifier.finish_by_hash(&hasher.finalize(), way)
 }
 
 /// Whether this is the verdict on a message, however it is handed over, with chains taken to their ends in this way.
@@ -42,14 +42,14 @@ fn is_verdict_with<C: ChainEnds>(
     message: &[u8],
     signature: &[u8],
     valid: bool,
-    chains: C,
+    way: C,
 ) -> bool {
-    verify_with(public, message, signature, chains) == valid
-        && by_pieces(public, message, signature, 1, chains) == valid
-        && by_pieces(public, message, signature, 55, chains) == valid
-        && by_pieces(public, message, signature, 64, chains) == valid
-        && by_pieces(public, message, signature, message.len(), chains) == valid
-        && by_hash(public, message, signature, chains) == valid
+    verify_with(public, message, signature, way) == valid
+        && by_pieces(public, message, signature, 1, way) == valid
+        && by_pieces(public, message, signature, 55, way) == valid
+        && by_pieces(public, message, signature, 64, way) == valid
+        && by_pieces(public, message, signature, message.len(), way) == valid
+        && by_hash(public, message, signature, way) == valid
 }
 
 /// Whether this is the verdict on a message in all ways.

@@ -1,7 +1,7 @@
 //! Messages that come in pieces, and messages that another hasher takes.
 use crate::{
     ByEights, ChainEnds, NodeSource, OneByOne, TreeKey, Verifier, WholeTree, public_bytes,
-    sign_into,
+    sign_into, verify_with,
 };
 use lms_params::{LmsType, OtsType, lms_sig_len};
 use sha2::{Digest, Sha256};
@@ -15,34 +15,36 @@ fn by_pieces<C: ChainEnds>(
     first: &[u8],
     second: &[u8],
     signature: &[u8],
-    chains: C,
+    way: C,
 ) -> bool {
     let Some(mut verifier) = Verifier::begin(public, signature) else {
         return false;
     };
     verifier.update(first);
     verifier.update(second);
-    verifier.finish(chains)
+    verifier.finish(way)
 }
 
 /// The verdict on a message that another hasher takes.
-fn by_hash<C: ChainEnds>(public: &[u8], message: &[u8], signature: &[u8], chains: C) -> bool {
+fn by_hash<C: ChainEnds>(public: &[u8], message: &[u8], signature: &[u8], way: C) -> bool {
     let Some(verifier) = Verifier::begin(public, signature) else {
         return false;
     };
     let mut hasher = Sha256::new();
     hasher.update(verifier.head());
     hasher.update(message);
-    verifier.finish_by_hash(&hasher.finalize(), chains)
+    verifier.finish_by_hash(&hasher.finalize(), way)
 }
 
 /// Whether a signature of `abc` is valid in all ways, and with another message in none.
-fn judges<C: ChainEnds>(public: &[u8], signature: &[u8], chains: C) -> bool {
-    by_pieces(public, b"", b"abc", signature, chains)
-        && by_pieces(public, b"ab", b"c", signature, chains)
-        && by_hash(public, b"abc", signature, chains)
-        && !by_pieces(public, b"c", b"ab", signature, chains)
-        && !by_hash(public, b"abd", signature, chains)
+fn judges<C: ChainEnds>(public: &[u8], signature: &[u8], way: C) -> bool {
+    verify_with(public, b"abc", signature, way)
+        && by_pieces(public, b"", b"abc", signature, way)
+        && by_pieces(public, b"ab", b"c", signature, way)
+        && by_hash(public, b"abc", signature, way)
+        && !verify_with(public, b"abd", signature, way)
+        && !by_pieces(public, b"c", b"ab", signature, way)
+        && !by_hash(public, b"abd", signature, way)
 }
 
 /// A signature of `abc` is judged alike with its chains taken to their ends in both ways, and at another length in none.

@@ -19,6 +19,6 @@ steps-preserved c = record {
 
 pub returns-clause-values : goal.returns-clause-values
 returns-clause-values c = λ k lt.
-    let all : min c.steps.i (slice_index c.args.steps.now k) ≡ slice_index c.args.steps.now k = omega (arith, c.most-i-end.ensures.reached k lt) in
+    let all : min c.steps.i (slice_index c.args.steps.now k) ≡ slice_index c.args.steps.now k = omega (arith, c.most-i-end.ensures.bound k lt) in
     c.digests_of.ensures.digests k lt ∙ c.steps.invariant.lanes k lt
     ∙ ap (λ n. walked (get_or c.args.heads.now k []) (slice_index c.args.firsts.now k) n (get_or c.args.values.now k [])) all

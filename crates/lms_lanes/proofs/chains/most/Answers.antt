@@ -3,6 +3,6 @@ use Rattle.lms_lanes.proofs.chains.most.Goals as goal
 
 pub lanes-preserved : goal.lanes-preserved
 lanes-preserved c = record {
-  reached = search rules;
-  least = λ n bound. omega (arith, c.max-most.ensures, bound c.lanes.k c.lanes-test.true, c.lanes.invariant.least n bound);
+  bound = search rules;
+  least = λ n h. omega (arith, c.max-most.ensures, h c.lanes.k c.lanes-test.true, c.lanes.invariant.least n h);
 }
