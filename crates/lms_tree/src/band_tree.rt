@@ -92,7 +92,7 @@ impl BandTree {
     pub fn kept(&self) -> usize
         ensures count { result ≡ kept_nodes (tree_of self.now.key).lms.h self.now.first self.now.last }
         ensures limit { result ≤ most_kept }
-        ensures limit_20 { (tree_of self.now.key).lms.h ≤ 20 → result ≤ most_kept_of_20 }
+        ensures shorter { (tree_of self.now.key).lms.h ≤ 20 → result ≤ most_kept_of_20 }
     {
         self.upper.len() + self.lower.len()
     }

@@ -25,8 +25,8 @@ returns-clause-limit c =
     let kept = (kept-limit self.upper.key.lms self.first self.last is.order is.in_tree is.at_most).0 in
     omega (arith, upper, lower, kept)
 
-pub returns-clause-limit_20 : goal.returns-clause-limit_20
-returns-clause-limit_20 c low =
+pub returns-clause-shorter : goal.returns-clause-shorter
+returns-clause-shorter c low =
     let self = c.self.inside in
     let is = c.self.invariant in
     let height = ap (λ (v : ServedLeaves). (tree_of v.key).lms.h) c.self.view_is in
