@@ -1,9 +1,10 @@
 //! Batches over a shared book.
-ghost use Rattle.std.specs.Prelude.{◌≡◌, ◌<◌, ◌≤◌, ◌+◌, ◌↔◌, Err, IfOk, IsOk, length};
+ghost use Rattle.std.specs.Prelude.{◌≡◌, ◌<◌, ◌≤◌, ◌+◌, ◌↔◌, Err, IfOk, IsOk, Some, length};
 ghost use Rattle.lms_spec.specs.Hss.{capacity_of};
 ghost use Rattle.lms_hss.specs.Keys.{hss_key_of};
 ghost use Rattle.lms_batch.specs.Jobs.{most_jobs, most_workers, texts_of};
 ghost use Rattle.lms_batch.specs.Answers.{IsAnswerTo, IsBatchOfNone, CountsBatch, CouldBeReserved, start_of};
+ghost use Rattle.lms_batch.specs.Texts.{batch_fault_text};
 
 use crate::collector::Batch;
 use crate::crew::sign_leased;
@@ -11,12 +12,13 @@ use crate::gate::Gate;
 use crate::job::{Job, MOST_JOBS};
 use lms_book::{BookFault, StateStore};
 use lms_hss::{HssKey, Progress, Unwatched};
+use lms_params::OutOfMemory;
 use lms_shared_book::{Desk, SharedBook, Tally};
 use std::alloc::Global;
 use std::marker::{Model, Sync};
 use std::sync::Wait;
 use std::thread::Threads;
-use thiserror::Error;
+use std::{error, fmt};
 
 #[cfg(test)]
 mod tests;
@@ -25,18 +27,29 @@ mod tests;
 pub const MOST_WORKERS: usize = 64;
 
 /// Why no batch was made.
-#[derive(Clone, Copy, Debug, PartialEq, Eq, Error)]
+#[derive(Clone, Copy, Debug, PartialEq, Eq)]
 pub enum BatchFault {
     /// There are more than `MOST_JOBS` jobs.
-    #[error("too many jobs")]
     TooMany,
     /// The reservation was refused.
-    #[error("{0}")]
     Book(BookFault),
     /// Memory was refused after the reservation, and its indices, so many, sign nothing. The desk counts them as received.
-    #[error("out of memory: {burnt} burnt")]
     OutOfMemory { burnt: u64 },
 }
+
+impl fmt::Display for BatchFault {
+    ghost output = { λ fault. Some (batch_fault_text fault) };
+
+    fn fmt<W: fmt::Write>(&self, f: &mut fmt::Formatter<W>) -> fmt::Result {
+        match *self {
+            BatchFault::TooMany => f.write_str("too many jobs"),
+            BatchFault::Book(fault) => write!(f, "{fault}"),
+            BatchFault::OutOfMemory { burnt } => { write!(f, "{OutOfMemory}: {burnt} burnt") }
+        }
+    }
+}
+
+impl error::Error for BatchFault {}
 
 /// Signs batches by the indices of a shared book. Contracts see its key and its number of desks.
 #[derive(Drop)]

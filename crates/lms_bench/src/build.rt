@@ -58,6 +58,15 @@ impl Build {
         }
     }
 
+    /// The set of its one-time keys; for a `Cover` of those of the bottom level, or w = 8 where it has no levels.
+    pub fn ots(self) -> OtsType {
+        match self {
+            Build::Whole(_, ots) | Build::Band(_, ots) => ots,
+            Build::Cover(Hierarchy([.., (_, ots)])) => *ots,
+            Build::Cover(_) => OtsType::W8,
+        }
+    }
+
     /// Works it out once.
     pub fn run(self, rt: &(impl Threads + Sync), alloc: Global) -> Result<()> {
         match self {

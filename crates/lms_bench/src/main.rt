@@ -4,9 +4,10 @@
 //! `measure` it prints for each case its time, the compressions of SHA-256 that the standard's definition needs, and the
 //! ratio of its time to that of as many bare digests of 55 bytes, each the least of several rounds. For trees that all
 //! processors build it prints the compressions a second; how many times as many these are as one thread makes with bare
-//! digests; what share they are of what such a thread on each processor makes; and how long it takes to start and join
-//! threads that do nothing. Last come the bytes that a forest holds. With the argument `cover` it makes one such forest, and with
-//! `tall` it works out a tree of height 20 and signs by it.
+//! digests, and with public hashes, which go by lanes; what share they are of what a thread with bare digests on each
+//! processor makes; and how long it takes to start and join threads that do nothing. Last come the bytes that a forest
+//! holds. With the argument `cover` it makes one such forest, and with `tall` it works out a tree of height 20 and signs
+//! by it.
 #![tactic(auto)]
 
 mod bench;

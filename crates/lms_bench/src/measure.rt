@@ -1,13 +1,15 @@
 //! The timing.
+ghost use Rattle.std.specs.Prelude.{◌^◌, ◌≤◌};
+
 use crate::bench::{Bench, Timed};
 use crate::build::{BUILDS, Build};
-use crate::case::{CASES, Case};
+use crate::case::{CASES, Case, Operation};
 use crate::held::Held;
 use crate::hierarchy::{COVERED, VERIFIED};
 use crate::hss_bench::{Signing, Verification};
 use anyhow::Result;
 use lms_params::{LmsType, OtsType};
-use lms_yardstick::{time_digests, time_digests_at_once};
+use lms_yardstick::{public_hash_compressions, time_digests, time_digests_at_once};
 use std::thread::Threads;
 use std::time::{Clock, CpuClock, Duration, Instant};
 
@@ -63,7 +65,7 @@ fn measure_timed<T: Timed>(
     compressions: u64,
     timed: &mut T,
 ) -> Result<()> {
-    let runs = COMPRESSIONS_A_ROUND / compressions.max(1) + 1;
+    let runs = runs_of(compressions);
     let mut own = Duration::MAX;
     let mut bare = Duration::MAX;
     for _ in 0..ROUNDS {
@@ -76,30 +78,39 @@ fn measure_timed<T: Timed>(
     Ok(())
 }
 
-/// Prints for a build its compressions a second, how many times those of one thread with bare digests they are, their
-/// share of those of a thread with bare digests on each processor at once, and how long such threads take that do nothing.
+/// Prints for a build its compressions a second; how many times those of one thread with bare digests they are, and how many times
+/// those of one with public hashes, which go by lanes; their share of those of a thread with bare digests on each processor at once;
+/// and how long such threads take that do nothing.
 fn measure_build(
     rt: &(impl Print + AllocGlobal + Clock + CpuClock + Threads + Sync),
     build: Build,
 ) -> Result<()> {
     let compressions = build.compressions(rt, rt.alloc())?;
+    let ots = build.ots();
+    let operation = Operation::PublicHash;
+    let mut public_hash = Bench::new(Case { operation, ots });
+    let runs = runs_of(public_hash_compressions(ots));
     let mut own = Duration::MAX;
+    let mut by_lanes = Duration::MAX;
     let mut bare = Duration::MAX;
     let mut at_once = Duration::MAX;
     let mut nothing = Duration::MAX;
     let processors = rayon::current_num_threads(rt);
     for _ in 0..ROUNDS {
         own = own.min(time_build(rt, build)?);
+        by_lanes = by_lanes.min(time_runs(rt, &mut public_hash, runs)?);
         bare = bare.min(time_digests(rt, COMPRESSIONS_A_ROUND)?);
         at_once = at_once.min(time_digests_at_once(rt, compressions, processors)?);
         nothing = nothing.min(time_digests_at_once(rt, 0, processors)?);
     }
     let rate = compressions as f64 / own.as_secs_f64();
     let threads = rate * bare.as_secs_f64() / COMPRESSIONS_A_ROUND as f64;
+    let hashed = runs as f64 * public_hash_compressions(ots) as f64;
+    let lanes = rate * by_lanes.as_secs_f64() / hashed;
     let share = at_once.as_secs_f64() / own.as_secs_f64();
     let micros = nothing.as_secs_f64() * 1e6;
     println!(rt;
-        "{build}: {rate:.0} compressions a second, {threads:.2} times one thread, share {share:.2}, threads {micros:.0} us"
+        "{build}: {rate:.0} compressions a second, {threads:.2} times one thread, {lanes:.2} times one by lanes, share {share:.2}, threads {micros:.0} us"
     )?;
     Ok(())
 }
@@ -146,6 +157,13 @@ fn print_held(rt: &impl Print, form: &str, held: Held) -> Result<()> {
         "forest of 1024 indices of 15/8,10/8 {form}: at most {at_most} bytes, then {then}"
     )?;
     Ok(())
+}
+
+/// How many runs a round has of what needs so many compressions.
+fn runs_of(compressions: u64) -> u64
+    ensures { result ≤ 2 ^ 17 }
+{
+    COMPRESSIONS_A_ROUND / compressions.max(1) + 1
 }
 
 /// The time of a build.

@@ -1,24 +1,36 @@
 //! Why a store was not opened, and why no lease was given.
 ghost use Rattle.std.specs.Prelude.{◌≡◌, Some};
-ghost use Rattle.lms_book.specs.Refusals.{last_index as last_index_of, text_of};
+ghost use Rattle.lms_book.specs.Refusals.{book_fault_text, last_index as last_index_of, open_fault_text};
 
+use crate::store::{ReadFault, StoreFault};
 use lms_image::ImageFault;
+use lms_params::OutOfMemory;
 use std::{error, fmt};
-use thiserror::Error;
 
 /// Why a store was not opened.
-#[derive(Clone, Copy, Debug, PartialEq, Eq, Error)]
+#[derive(Clone, Copy, Debug, PartialEq, Eq)]
 pub enum OpenFault {
     /// The store failed.
-    #[error("cannot read state")]
     Store,
     /// What it holds is no image.
-    #[error("bad state: {0}")]
     Image(ImageFault),
     /// Memory for its bytes was refused.
-    #[error("out of memory")]
     OutOfMemory,
 }
+
+impl fmt::Display for OpenFault {
+    ghost output = { λ fault. Some (open_fault_text fault) };
+
+    fn fmt<W: fmt::Write>(&self, f: &mut fmt::Formatter<W>) -> fmt::Result {
+        match *self {
+            OpenFault::Store => write!(f, "{}", ReadFault::Device),
+            OpenFault::Image(fault) => write!(f, "bad state: {fault}"),
+            OpenFault::OutOfMemory => write!(f, "{OutOfMemory}"),
+        }
+    }
+}
+
+impl error::Error for OpenFault {}
 
 /// Why no lease was given.
 #[derive(Clone, Copy, Debug, PartialEq, Eq)]
@@ -32,15 +44,15 @@ pub enum BookFault {
 }
 
 impl fmt::Display for BookFault {
-    ghost output = { λ fault. Some (text_of fault) };
+    ghost output = { λ fault. Some (book_fault_text fault) };
 
     fn fmt<W: fmt::Write>(&self, f: &mut fmt::Formatter<W>) -> fmt::Result {
         match *self {
             BookFault::Exhausted { left } => write!(f, "exhausted: {left} left"),
-            BookFault::OutOfMemory => f.write_str("out of memory"),
+            BookFault::OutOfMemory => write!(f, "{OutOfMemory}"),
             BookFault::Store { start, len } => {
                 let last = last_index(start, len);
-                write!(f, "cannot write state: {start} to {last} burnt")
+                write!(f, "{StoreFault}: {start} to {last} burnt")
             }
         }
     }

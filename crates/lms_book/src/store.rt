@@ -1,24 +1,47 @@
 //! A store that keeps one byte string, and replaces it whole.
+ghost use Rattle.std.specs.Prelude.{Some};
+ghost use Rattle.lms_book.specs.Refusals.{read_fault_text, store_fault_text};
 ghost use Rattle.lms_book.specs.Stops.{StoreView, ReadsStore, WritesStore};
 
+use lms_params::OutOfMemory;
 use std::alloc::Global;
-use thiserror::Error;
+use std::{error, fmt};
 
 /// Why a store was not read.
-#[derive(Clone, Copy, Debug, PartialEq, Eq, Error)]
+#[derive(Clone, Copy, Debug, PartialEq, Eq)]
 pub enum ReadFault {
     /// The store failed.
-    #[error("cannot read state")]
     Device,
     /// Memory for the bytes was refused.
-    #[error("out of memory")]
     OutOfMemory,
 }
 
+impl fmt::Display for ReadFault {
+    ghost output = { λ fault. Some (read_fault_text fault) };
+
+    fn fmt<W: fmt::Write>(&self, f: &mut fmt::Formatter<W>) -> fmt::Result {
+        match *self {
+            ReadFault::Device => f.write_str("cannot read state"),
+            ReadFault::OutOfMemory => write!(f, "{OutOfMemory}"),
+        }
+    }
+}
+
+impl error::Error for ReadFault {}
+
 /// The bytes were not stored for certain: the store may hold them, or what it held before.
-#[derive(Clone, Copy, Debug, PartialEq, Eq, Error)]
-#[error("cannot write state")]
+#[derive(Clone, Copy, Debug, PartialEq, Eq)]
 pub struct StoreFault;
+
+impl fmt::Display for StoreFault {
+    ghost output = { λ _. Some store_fault_text };
+
+    fn fmt<W: fmt::Write>(&self, f: &mut fmt::Formatter<W>) -> fmt::Result {
+        f.write_str("cannot write state")
+    }
+}
+
+impl error::Error for StoreFault {}
 
 /// Keeps one byte string, a key's state, when the program ends or crashes. Contracts see which byte strings a crash could
 /// leave, now and at each moment before, and how many calls failed.

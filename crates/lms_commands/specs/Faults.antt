@@ -3,14 +3,16 @@ use Rattle.std.specs.Prelude.{ℕ, List, ◌++◌, codes, decimal}
 use Rattle.lms_hss.specs.declared.levels.KeyFault.{KeyFault}
 use Rattle.lms_hss.specs.declared.levels.KeyFault.TheVariants as key
 use Rattle.lms_hss.specs.Texts.{fault_text as key_text}
-use Rattle.lms_image.specs.Image.{name_of}
-use Rattle.lms_book.specs.Refusals.{text_of as book_text}
+use Rattle.lms_params.specs.Memory.{out_of_memory_text}
+use Rattle.lms_book.specs.Refusals.{book_fault_text, open_fault_text, store_fault_text}
 use Rattle.lms_book.specs.declared.refusals.BookFault.{BookFault}
 use Rattle.lms_book.specs.declared.refusals.BookFault.TheVariants as book
 use Rattle.lms_book.specs.declared.refusals.OpenFault.{OpenFault}
 use Rattle.lms_book.specs.declared.refusals.OpenFault.TheVariants as opening
+use Rattle.lms_batch.specs.Texts.{batch_fault_text}
 use Rattle.lms_batch.specs.declared.service.BatchFault.{BatchFault}
 use Rattle.lms_batch.specs.declared.service.BatchFault.TheVariants as batch
+use Rattle.lms_lines.specs.Texts.{jobs_fault_text, write_fault_text}
 use Rattle.lms_lines.specs.declared.fault.JobsFault.{JobsFault}
 use Rattle.lms_lines.specs.declared.fault.JobsFault.TheVariants as jobs
 use Rattle.lms_lines.specs.declared.signing.LinesFault.{LinesFault}
@@ -34,20 +36,20 @@ text_of BadSeed = codes "bad seed"
 text_of BadId = codes "bad id"
 text_of BadRandom = codes "bad random"
 text_of BadWorkers = codes "bad workers"
-text_of (BadJob line) = codes "line " ++ decimal line ++ codes ": bad job"
-text_of TooManyJobs = codes "too many jobs"
+text_of (BadJob line) = jobs_fault_text (jobs.BadJob line)
+text_of TooManyJobs = jobs_fault_text jobs.TooManyJobs
 text_of StateExists = codes "state exists"
 text_of StateInUse = codes "state in use"
-text_of ReadState = codes "cannot read state"
-text_of (BadState fault) = codes "bad state: " ++ name_of fault
-text_of WriteState = codes "cannot write state"
-text_of (WriteStateBurnt start len) = book_text (book.Store start len)
-text_of (Exhausted left) = book_text (book.Exhausted left)
-text_of OutOfMemory = book_text book.OutOfMemory
-text_of (OutOfMemoryBurnt count) = codes "out of memory: " ++ decimal count ++ codes " burnt"
+text_of ReadState = open_fault_text opening.Store
+text_of (BadState fault) = open_fault_text (opening.Image fault)
+text_of WriteState = store_fault_text
+text_of (WriteStateBurnt start len) = book_fault_text (book.Store start len)
+text_of (Exhausted left) = book_fault_text (book.Exhausted left)
+text_of OutOfMemory = out_of_memory_text
+text_of (OutOfMemoryBurnt count) = batch_fault_text (batch.OutOfMemory count)
 text_of (Partial signed asked) = codes "partial: " ++ decimal signed ++ codes " of " ++ decimal asked ++ codes " signed"
-text_of Input = codes "cannot read input"
-text_of Output = codes "cannot write output"
+text_of Input = jobs_fault_text jobs.Read
+text_of Output = write_fault_text
 
 -- the line on standard error
 abbrev pub fault_line : Fault → List ℕ

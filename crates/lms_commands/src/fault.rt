@@ -7,10 +7,10 @@ use crate::levels_fault::LevelsTextFault;
 use crate::line::print_line;
 use crate::status::Status;
 use lms_batch::BatchFault;
-use lms_book::{BookFault, OpenFault};
+use lms_book::{BookFault, OpenFault, StoreFault};
 use lms_hss::KeyFault;
 use lms_image::ImageFault;
-use lms_lines::{JobsFault, LinesFault};
+use lms_lines::{JobsFault, LinesFault, WriteFault};
 use lms_params::OutOfMemory;
 use std::error::Error;
 use std::io::Write;
@@ -104,22 +104,24 @@ impl fmt::Display for Fault {
             Fault::BadId => f.write_str("bad id"),
             Fault::BadRandom => f.write_str("bad random"),
             Fault::BadWorkers => f.write_str("bad workers"),
-            Fault::BadJob { line } => write!(f, "line {line}: bad job"),
-            Fault::TooManyJobs => f.write_str("too many jobs"),
+            Fault::BadJob { line } => write!(f, "{}", JobsFault::BadJob { line }),
+            Fault::TooManyJobs => write!(f, "{}", JobsFault::TooManyJobs),
             Fault::StateExists => f.write_str("state exists"),
             Fault::StateInUse => f.write_str("state in use"),
-            Fault::ReadState => f.write_str("cannot read state"),
-            Fault::BadState(fault) => write!(f, "bad state: {fault}"),
-            Fault::WriteState => f.write_str("cannot write state"),
+            Fault::ReadState => write!(f, "{}", OpenFault::Store),
+            Fault::BadState(fault) => write!(f, "{}", OpenFault::Image(fault)),
+            Fault::WriteState => write!(f, "{StoreFault}"),
             Fault::WriteStateBurnt { start, len } => {
                 write!(f, "{}", BookFault::Store { start, len })
             }
             Fault::Exhausted { left } => write!(f, "{}", BookFault::Exhausted { left }),
-            Fault::OutOfMemory => write!(f, "{}", BookFault::OutOfMemory),
-            Fault::OutOfMemoryBurnt { count } => write!(f, "out of memory: {count} burnt"),
+            Fault::OutOfMemory => write!(f, "{OutOfMemory}"),
+            Fault::OutOfMemoryBurnt { count } => {
+                write!(f, "{}", BatchFault::OutOfMemory { burnt: count })
+            }
             Fault::Partial { signed, asked } => { write!(f, "partial: {signed} of {asked} signed") }
-            Fault::Input => f.write_str("cannot read input"),
-            Fault::Output => f.write_str("cannot write output"),
+            Fault::Input => write!(f, "{}", JobsFault::Read),
+            Fault::Output => write!(f, "{WriteFault}"),
         }
     }
 }

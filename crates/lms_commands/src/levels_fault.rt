@@ -2,7 +2,7 @@
 ghost use Rattle.std.specs.Prelude.{Some};
 ghost use Rattle.lms_commands.specs.Faults.{of_text, text_of};
 
-use lms_book::BookFault;
+use lms_params::OutOfMemory;
 use std::alloc::AllocError;
 use std::error::Error;
 use std::fmt;
@@ -22,7 +22,7 @@ impl fmt::Display for LevelsTextFault {
     fn fmt<W: fmt::Write>(&self, f: &mut fmt::Formatter<W>) -> fmt::Result {
         match *self {
             LevelsTextFault::Bad => f.write_str("bad levels"),
-            LevelsTextFault::OutOfMemory => write!(f, "{}", BookFault::OutOfMemory),
+            LevelsTextFault::OutOfMemory => write!(f, "{OutOfMemory}"),
         }
     }
 }

@@ -11,8 +11,8 @@ use Rattle.lms_spec.specs.Bytes.{u32str, number_of}
 use Rattle.lms_spec.proofs.Numbers.{number_of-u32}
 use Rattle.lms_image.specs.declared.version.Version.{Version}
 use Rattle.lms_image.specs.declared.version.Version.TheVariants.{First, Second}
-use Rattle.lms_image.specs.Image.{u64str, later_text}
-use Rattle.lms_image.specs.Reading.{IsCut, ReadsLater, later_length}
+use Rattle.lms_image.specs.Image.{u64str, later_text, later_length}
+use Rattle.lms_image.specs.Reading.{IsCut, ReadsLater}
 use Rattle.lms_image.proofs.LevelTexts.{Is8}
 
 abbrev pub IsBytes : List ℕ → Type 0

@@ -27,8 +27,8 @@ use Rattle.lms_image.specs.declared.image.ImageFault.{ImageFault}
 use Rattle.lms_image.specs.declared.image.ImageFault.TheVariants.{Truncated, NotAnImage, UnknownVersion, BadLevels, WrongLength, Damaged, BadType, TooTall, CounterTooHigh, OpeningTooHigh, BurntTooHigh}
 use Rattle.lms_image.specs.declared.version.Version.{Version}
 use Rattle.lms_image.specs.declared.version.Version.TheVariants.{First, Second}
-use Rattle.lms_image.specs.Image.{Fields, magic, code_of, level_text, is_level, height_in, heights_in, number_at, length_of, version_in, count_in, levels_in, counter_in, openings_in, burnt_in, body_in, digest_in, has_fault, faults, fault_of, IsImage, HasImage}
-use Rattle.lms_image.specs.Reading.{IsHeaded, IsCut, ReadsLater, later_length}
+use Rattle.lms_image.specs.Image.{Fields, magic, code_of, level_text, is_level, height_in, heights_in, number_at, stated_length, version_in, count_in, levels_in, counter_in, openings_in, burnt_in, body_in, digest_in, has_fault, faults, fault_of, IsImage, HasImage, later_length}
+use Rattle.lms_image.specs.Reading.{IsHeaded, IsCut, ReadsLater}
 use Rattle.lms_image.specs.Laws.{IsText, FaultlessAreImages}
 use Rattle.lms_image.proofs.Fields.{u32-at}
 use Rattle.lms_image.proofs.LevelTexts.{Is8, level-read, heights-of-texts}
@@ -103,7 +103,7 @@ record IsClear (text : List ℕ) : Type 0 where
   version_is : version_in text ≡ code_of version
   some_level : 1 ≤ count_in text
   eight_at_most : count_in text ≤ 8
-  length_is : length text ≡ length_of (version_in text) (count_in text)
+  length_is : length text ≡ stated_length (version_in text) (count_in text)
   digest : digest_in text ≡ sha256 (body_in text)
   types : list_all is_level (levels_in text) ≡ true
   heights : heights_in text ≤ 60
@@ -138,7 +138,7 @@ clear-of text none =
       version_is = stated.1;
       some_level = (let some : count_in text ≡ 0 → ⊥ = eqb-false (count_in text) 0 counts.0 in omega arith);
       eight_at_most = ltb-false 8 (count_in text) counts.1;
-      length_is = eqb-true (length text) (length_of (version_in text) (count_in text)) (not-false _ p4.0);
+      length_is = eqb-true (length text) (stated_length (version_in text) (count_in text)) (not-false _ p4.0);
       digest = (bytes_eq-Decides (digest_in text) (sha256 (body_in text))).0 (not-false _ p5.0);
       types = not-false _ p6.0;
       heights = ltb-false 60 (heights_in text) p7.0;
@@ -194,7 +194,7 @@ fields_in v text openings burnt = record {
 }
 
 text-long : (text : List ℕ) (is : IsClear text) → length text ≡ 100 + later_length is.version + 8 * count_in text
-text-long text is = is.length_is ∙ (ap (λ n. length_of n (count_in text)) is.version_is ∙ length-by-code is.version (count_in text))
+text-long text is = is.length_is ∙ (ap (λ n. stated_length n (count_in text)) is.version_is ∙ length-by-code is.version (count_in text))
 
 id-long : (text : List ℕ) (is : IsClear text) → length (after_id text) ≡ 40 + later_length is.version
 unfolding after_levels after_id

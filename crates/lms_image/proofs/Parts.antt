@@ -14,8 +14,8 @@ use Rattle.lms_image.specs.declared.image.ImageFault.{ImageFault}
 use Rattle.lms_image.specs.declared.image.ImageFault.TheVariants.{WrongLength, Damaged, BadType, TooTall, CounterTooHigh, OpeningTooHigh, BurntTooHigh}
 use Rattle.lms_image.specs.declared.version.Version.{Version}
 use Rattle.lms_image.specs.declared.version.Version.TheVariants.{First, Second}
-use Rattle.lms_image.specs.Image.{Fields, magic, code_of, u64str, head_text, later_text, body_text, sealed, is_level, height_in, heights_in, number_at, later_number, length_of, version_in, count_in, levels_in, counter_in, openings_in, burnt_in, body_in, digest_in, has_fault, faults, fault_of}
-use Rattle.lms_image.specs.Reading.{IsHeaded, IsCut, AreLater, later_length, ReadsLevels}
+use Rattle.lms_image.specs.Image.{Fields, magic, code_of, u64str, head_text, later_text, body_text, sealed, is_level, height_in, heights_in, number_at, later_number, stated_length, version_in, count_in, levels_in, counter_in, openings_in, burnt_in, body_in, digest_in, has_fault, faults, fault_of, later_length}
+use Rattle.lms_image.specs.Reading.{IsHeaded, IsCut, AreLater, ReadsLevels}
 use Rattle.lms_image.proofs.Fields.{u64-at}
 use Rattle.lms_image.proofs.LevelTexts.{Is8, length-texts}
 use Rattle.lms_image.proofs.Faults.{first_among, found, missed, clear-head, front-of, front-length, version-of, count-of}
@@ -80,15 +80,15 @@ text-version text rest v count is = version-of text magic rest (code_of v) count
 text-count : (text rest : List ℕ) (v : Version) (count : ℕ) → IsHeaded text rest v count → count_in text ≡ count
 text-count text rest v count is = count-of text magic rest (code_of v) count (front-of text rest v count is)
 
-pub length-by-code : (v : Version) (count : ℕ) → length_of (code_of v) count ≡ 100 + later_length v + 8 * count
-length-by-code First count = refl
-length-by-code Second count = refl
+pub length-by-code : (v : Version) (count : ℕ) → stated_length (code_of v) count ≡ 100 + later_length v + 8 * count
+length-by-code First count = omega arith
+length-by-code Second count = omega arith
 
 -- the length that the text states
 stated-length : (text rest : List ℕ) (v : Version) (count : ℕ) → IsHeaded text rest v count
-    → length_of (version_in text) (count_in text) ≡ 100 + later_length v + 8 * count
+    → stated_length (version_in text) (count_in text) ≡ 100 + later_length v + 8 * count
 stated-length text rest v count is =
-    ap₂ (λ n k. length_of n k) (text-version text rest v count is) (text-count text rest v count is) ∙ length-by-code v count
+    ap₂ (λ n k. stated_length n k) (text-version text rest v count is) (text-count text rest v count is) ∙ length-by-code v count
 
 pub wrong-length : (text rest : List ℕ) (v : Version) (count : ℕ) → IsHeaded text rest v count
     → (length rest ≡ 88 + later_length v + 8 * count → ⊥) → fault_of text ≡ Some WrongLength
@@ -96,11 +96,11 @@ unfolding has_fault
 wrong-length text rest v count is other =
     let long = text-length text rest v count is in
     let stated = stated-length text rest v count is in
-    let differs : length text ≡ length_of (version_in text) (count_in text) → ⊥ = λ (e : length text ≡ length_of (version_in text) (count_in text)).
+    let differs : length text ≡ stated_length (version_in text) (count_in text) → ⊥ = λ (e : length text ≡ stated_length (version_in text) (count_in text)).
     (let all : length text ≡ 100 + later_length v + 8 * count = e ∙ stated in other (omega (arith, all, long))) in
     clear-head text rest v count is
     ∙ found text WrongLength (drop 5 faults)
-    (not_from_false _ (ne_eqb (length text) (length_of (version_in text) (count_in text)) differs))
+    (not_from_false _ (ne_eqb (length text) (stated_length (version_in text) (count_in text)) differs))
 
 clear-length : (text rest : List ℕ) (v : Version) (count : ℕ) → IsHeaded text rest v count → length rest ≡ 88 + later_length v + 8 * count
     → fault_of text ≡ first_among (drop 5 faults) text
@@ -110,7 +110,7 @@ clear-length text rest v count is same =
     let whole : length text ≡ 100 + later_length v + 8 * count = omega (arith, long, same) in
     clear-head text rest v count is
     ∙ missed text WrongLength (drop 5 faults)
-    (not_from_true _ (eq-eqb (length text) (length_of (version_in text) (count_in text)) (whole ∙ sym (stated-length text rest v count is))))
+    (not_from_true _ (eq-eqb (length text) (stated_length (version_in text) (count_in text)) (whole ∙ sym (stated-length text rest v count is))))
 
 text-parts : (text rest : List ℕ) (count : ℕ) (f : Fields) (digest : List ℕ)
     → IsHeaded text rest f.version count → IsCut count rest f digest → text ≡ body_text f ++ digest

@@ -39,13 +39,19 @@ abbrev pub code_of : Version → ℕ
 code_of First = 1
 code_of Second = 2
 
--- the bytes of the parts of an image: of what stands before the levels, of a level, the seed and the identifier, of each number
--- behind these, and of the digest
+-- the bytes of the parts of an image: of `HSSK`, of a version, a count or a typecode, of all that stands before the levels, of a
+-- level, the seed and the identifier, of each number behind these, and of the digest
+abbrev pub magic_size : ℕ
+magic_size = 4
+
+abbrev pub code_size : ℕ
+code_size = 4
+
 abbrev pub head_size : ℕ
-head_size = 12
+head_size = magic_size + 2 * code_size
 
 abbrev pub level_size : ℕ
-level_size = 8
+level_size = 2 * code_size
 
 abbrev pub seed_size : ℕ
 seed_size = 32
@@ -63,16 +69,22 @@ digest_size = 32
 abbrev pub before_counter : ℕ
 before_counter = head_size + seed_size + id_size
 
--- the bytes of an image with so many levels, of version 1 and of version 2
-abbrev pub first_length : ℕ → ℕ
-first_length count = before_counter + number_size + digest_size + level_size * count
+-- how many bytes the numbers take that stand behind the counter
+abbrev pub later_length : Version → ℕ
+later_length First = 0
+later_length Second = 2 * number_size
 
-abbrev pub second_length : ℕ → ℕ
-second_length count = before_counter + 3 * number_size + digest_size + level_size * count
+-- how many bytes follow the number of levels, where it is `count`
+abbrev pub rest_length : Version → ℕ → ℕ
+rest_length version count = seed_size + id_size + number_size + digest_size + later_length version + level_size * count
+
+-- the bytes of an image with so many levels
+abbrev pub image_length : Version → ℕ → ℕ
+image_length version count = head_size + rest_length version count
 
 -- the most bytes of an image
 abbrev pub longest_image : ℕ
-longest_image = second_length most_levels
+longest_image = image_length Second most_levels
 
 -- what an image says: its version, the eight bytes of each level, the seed, the identifier and the numbers behind them
 pub record Fields : Type 0 where
@@ -191,9 +203,9 @@ openings_in text = later_number (openings_place (count_in text)) text
 abbrev pub burnt_in : List ℕ → ℕ
 burnt_in text = later_number (burnt_place (count_in text)) text
 
--- the bytes of an image of a version with so many levels
-abbrev pub length_of : ℕ → ℕ → ℕ
-length_of version count = if version == 1 then first_length count else second_length count
+-- how long an image is that states this version and this number of levels
+abbrev pub stated_length : ℕ → ℕ → ℕ
+stated_length version count = if version == 1 then image_length First count else image_length Second count
 
 -- all but the digest at the end, and this
 abbrev pub body_in : List ℕ → List ℕ
@@ -220,7 +232,7 @@ has_fault Truncated text = nat_lt (length text) head_size
 has_fault NotAnImage text = not (bytes_eq (take 4 text) magic)
 has_fault UnknownVersion text = not (version_in text == 1 || version_in text == 2)
 has_fault BadLevels text = count_in text == 0 || nat_lt most_levels (count_in text)
-has_fault WrongLength text = not (length text == length_of (version_in text) (count_in text))
+has_fault WrongLength text = not (length text == stated_length (version_in text) (count_in text))
 has_fault Damaged text = not (bytes_eq (digest_in text) (sha256 (body_in text)))
 has_fault BadType text = not (list_all is_level (levels_in text))
 has_fault TooTall text = nat_lt most_height (heights_in text)

@@ -13,22 +13,13 @@ use Rattle.lms_image.specs.declared.image.ImageFault.{ImageFault}
 use Rattle.lms_image.specs.declared.image.ImageFault.TheVariants.{BadType, TooTall}
 use Rattle.lms_image.specs.declared.version.Version.{Version}
 use Rattle.lms_image.specs.declared.version.Version.TheVariants.{First, Second}
-use Rattle.lms_image.specs.Image.{Fields, u64str, magic, code_of, later_text, level_text, is_level, height_in, head_size, level_size, seed_size, id_size, number_size, digest_size}
+use Rattle.lms_image.specs.Image.{Fields, u64str, magic, code_of, later_length, later_text, level_text, is_level, height_in, head_size, level_size, seed_size, id_size, digest_size}
 
 -- a text that begins as the image of this version and of this many levels does, and goes on with these bytes
 pub record IsHeaded (text rest : List ℕ) (version : Version) (count : ℕ) : Type 0 where
   pub some_level : 1 ≤ count
   pub eight_at_most : count ≤ most_levels
   pub parts : text ≡ magic ++ (u32str (code_of version) ++ (u32str count ++ rest))
-
--- how many bytes the numbers take that stand behind the counter
-abbrev pub later_length : Version → ℕ
-later_length First = 0
-later_length Second = 2 * number_size
-
--- how many bytes follow the count of so many levels
-abbrev pub rest_length : Version → ℕ → ℕ
-rest_length version count = seed_size + id_size + number_size + digest_size + later_length version + level_size * count
 
 -- the most bytes before the seed
 abbrev pub longest_head : ℕ

@@ -1,7 +1,7 @@
 //! The bytes of an image, put together without taking memory.
 ghost use Rattle.std.specs.Prelude.{◌≡◌, ◌+◌, ◌≤◌, ◌++◌, [], length};
 ghost use Rattle.lms_spec.specs.Bytes.{u32str};
-ghost use Rattle.lms_image.specs.Image.{longest_image, u64str};
+ghost use Rattle.lms_image.specs.Image.{code_size, longest_image, number_size, u64str};
 
 use arrayvec::ArrayVec;
 use std::marker::Model;
@@ -57,7 +57,7 @@ impl ImageBytes {
 
     /// Puts a number behind what there is, in four bytes.
     pub(crate) fn append_u32(&mut self, number: u32)
-        requires { length self.old + 4 ≤ longest_image }
+        requires { length self.old + code_size ≤ longest_image }
         ensures { self.new ≡ self.old ++ u32str number }
     {
         self.append(&number.to_be_bytes());
@@ -65,7 +65,7 @@ impl ImageBytes {
 
     /// Puts a number behind what there is, in eight bytes.
     pub(crate) fn append_u64(&mut self, number: u64)
-        requires { length self.old + 8 ≤ longest_image }
+        requires { length self.old + number_size ≤ longest_image }
         ensures { self.new ≡ self.old ++ u64str number }
     {
         self.append(&number.to_be_bytes());

@@ -7,8 +7,8 @@ ghost use Rattle.lms_spec.specs.Bytes.{u32str};
 ghost use Rattle.lms_spec.specs.Hss.{capacity_of, most_levels};
 ghost use Rattle.lms_hss.specs.Keys.{hss_key_of};
 ghost use Rattle.lms_image.specs.declared.version.Version.TheVariants.{Second};
-ghost use Rattle.lms_image.specs.Image.{image_of, fault_of, head_size, head_text, level_text, is_level, IsImage, HasImage};
-ghost use Rattle.lms_image.specs.Reading.{IsHeaded, IsCut, longest_head, rest_length, ReadsLevels, refused_as};
+ghost use Rattle.lms_image.specs.Image.{image_of, fault_of, head_size, head_text, magic_size, level_text, is_level, IsImage, HasImage, rest_length};
+ghost use Rattle.lms_image.specs.Reading.{IsHeaded, IsCut, longest_head, ReadsLevels, refused_as};
 
 use crate::bytes::ImageBytes;
 use crate::version::{Version, split_later, split_u64};
@@ -21,8 +21,10 @@ use std::fmt;
 #[cfg(test)]
 mod tests;
 
-/// The first four bytes of every image.
-const MAGIC: [u8; 4] = *b"HSSK";
+/// The first bytes of every image.
+const MAGIC: [u8; MAGIC_LEN] = *b"HSSK";
+
+const MAGIC_LEN: usize = 4;
 
 /// The version that is written.
 const VERSION: u32 = 2;
@@ -32,6 +34,12 @@ const MOST_COUNT: u32 = MOST_LEVELS as u32;
 
 /// The bytes of a level.
 const LEVEL_LEN: usize = 8;
+
+/// The bytes of the seed.
+const SEED_LEN: usize = 32;
+
+/// The bytes of the identifier.
+const ID_LEN: usize = 16;
 
 /// The bytes of the digest at the end.
 const DIGEST_LEN: usize = 32;
@@ -194,7 +202,7 @@ fn read_head(text: &[u8]) -> Result<(Version, usize, &[u8]), ImageFault>
 /// The first 12 bytes of a text, and the bytes after them.
 #[derive(Clone, Copy)]
 struct Head<'a> {
-    magic: &'a [u8; 4],
+    magic: &'a [u8; MAGIC_LEN],
     version: u32,
     levels: u32,
     rest: &'a [u8],
@@ -204,12 +212,12 @@ impl<'a> Head<'a> {
     /// Cuts a text. None exactly where it has fewer than 12 bytes.
     fn cut(text: &'a [u8]) -> Option<Self>
         ensures parts { IfSome result (λ h. text.now ≡ h.magic.now ++ (u32str h.version ++ (u32str h.levels ++ h.rest.now))) }
-        ensures magic { IfSome result (λ h. length h.magic.now ≡ 4) }
+        ensures magic { IfSome result (λ h. length h.magic.now ≡ magic_size) }
         ensures version { IfSome result (λ h. h.version < 2 ^ 32) }
         ensures levels { IfSome result (λ h. h.levels < 2 ^ 32) }
         ensures none { IfNone result (length text.now < head_size) }
     {
-        let (magic, rest) = text.split_first_chunk::<4>()?;
+        let (magic, rest) = text.split_first_chunk::<MAGIC_LEN>()?;
         let (version, rest) = split_u32(rest)?;
         let (levels, rest) = split_u32(rest)?;
         Some(Head {
@@ -226,8 +234,8 @@ impl<'a> Head<'a> {
 #[derive(Clone, Copy)]
 struct Parts<'a> {
     levels: &'a [[u8; LEVEL_LEN]],
-    seed: &'a [u8; 32],
-    i: &'a [u8; 16],
+    seed: &'a [u8; SEED_LEN],
+    i: &'a [u8; ID_LEN],
     counter: u64,
     openings: u64,
     burnt: u64,
@@ -250,8 +258,8 @@ impl<'a> Parts<'a> {
         ensures none { IfNone result (length rest.now ≢ rest_length version count) }
     {
         let (levels, rest) = rest.split_at_checked(LEVEL_LEN * count)?;
-        let (seed, rest) = rest.split_first_chunk::<32>()?;
-        let (i, rest) = rest.split_first_chunk::<16>()?;
+        let (seed, rest) = rest.split_first_chunk::<SEED_LEN>()?;
+        let (i, rest) = rest.split_first_chunk::<ID_LEN>()?;
         let (counter, rest) = split_u64(rest)?;
         let (openings, burnt, rest) = split_later(version, rest)?;
         let digest = rest.as_array::<DIGEST_LEN>()?;

@@ -1,7 +1,10 @@
 //! The versions of an image, and what version 2 adds.
 ghost use Rattle.std.specs.Prelude.{◌≡◌, ◌+◌, ◌<◌, ◌^◌, ◌≢◌, ◌++◌, length, IfSome, IfNone};
-ghost use Rattle.lms_image.specs.Image.{u64str, code_of};
-ghost use Rattle.lms_image.specs.Reading.{ReadsLater, later_length};
+ghost use Rattle.lms_image.specs.Image.{u64str, code_of, number_size, later_length};
+ghost use Rattle.lms_image.specs.Reading.{ReadsLater};
+
+/// The bytes of a number.
+const NUMBER_LEN: usize = 8;
 
 /// A version of the image.
 #[derive(Clone, Copy)]
@@ -32,10 +35,10 @@ impl Version {
 pub(crate) fn split_u64(bytes: &[u8]) -> Option<(u64, &[u8])>
     ensures parts { IfSome result (λ s. bytes.now ≡ u64str s.0 ++ s.1.now) }
     ensures fits { IfSome result (λ s. s.0 < 2 ^ 64) }
-    ensures long { IfSome result (λ s. length bytes.now ≡ 8 + length s.1.now) }
-    ensures none { IfNone result (length bytes.now < 8) }
+    ensures long { IfSome result (λ s. length bytes.now ≡ number_size + length s.1.now) }
+    ensures none { IfNone result (length bytes.now < number_size) }
 {
-    let (number, rest) = bytes.split_first_chunk::<8>()?;
+    let (number, rest) = bytes.split_first_chunk::<NUMBER_LEN>()?;
     Some((u64::from_be_bytes(*number), rest))
 }
 

@@ -5,3 +5,4 @@ pub mod Gathered
 pub mod AnswerLines
 pub mod JobsLaws
 pub mod SignedLines
+pub mod Texts

@@ -1,18 +1,28 @@
 //! Answer lines.
-ghost use Rattle.std.specs.Prelude.{◌≡◌, ◌++◌, ◌∷◌, ◌<◌, ◌≤◌, ◌+◌, ◌^◌, codes, length, take, map, decimal, OnOk, OnErr, IfOk};
+ghost use Rattle.std.specs.Prelude.{◌≡◌, ◌++◌, ◌∷◌, ◌<◌, ◌≤◌, ◌+◌, ◌^◌, codes, length, take, map, decimal, OnOk, OnErr, IfOk, Some};
 ghost use Rattle.std.specs.Io.KnownBytes.{Appends, Keeps};
 ghost use Rattle.hex.specs.Hex.{encode_lower};
 ghost use Rattle.lms_lines.specs.AnswerLines.{answer_line, answer_text, AppendsFront};
+ghost use Rattle.lms_lines.specs.Texts.{write_fault_text};
 
 use itoa::Buffer;
 use lms_batch::Batch;
 use std::io::{ErrorKind, Write};
-use thiserror::Error;
+use std::{error, fmt};
 
 /// The answer lines were not all written.
-#[derive(Clone, Copy, Debug, PartialEq, Eq, Error)]
-#[error("cannot write output")]
+#[derive(Clone, Copy, Debug, PartialEq, Eq)]
 pub struct WriteFault;
+
+impl fmt::Display for WriteFault {
+    ghost output = { λ _. Some write_fault_text };
+
+    fn fmt<W: fmt::Write>(&self, f: &mut fmt::Formatter<W>) -> fmt::Result {
+        f.write_str("cannot write output")
+    }
+}
+
+impl error::Error for WriteFault {}
 
 /// Writes a line for each signature of the batch. On a fault, a beginning of the text was written.
 pub fn write_batch<W: Write>(writer: &mut W, batch: &Batch) -> Result<(), WriteFault>

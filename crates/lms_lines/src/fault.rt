@@ -1,29 +1,43 @@
 //! Why a text gave no jobs.
-ghost use Rattle.std.specs.Prelude.{◌≡◌};
-ghost use Rattle.lms_lines.specs.declared.fault.JobsFault.TheVariants.{OutOfMemory};
+ghost use Rattle.std.specs.Prelude.{◌≡◌, Some};
+ghost use Rattle.lms_lines.specs.Texts.{jobs_fault_text};
+ghost use Rattle.lms_lines.specs.declared.fault.JobsFault.TheVariants.{OutOfMemory as FaultOfMemory};
 
+use lms_batch::BatchFault;
+use lms_params::OutOfMemory;
 use std::alloc::{AllocError, AllocFailed};
-use thiserror::Error;
+use std::{error, fmt};
 
 /// The first fault of a text of job lines, or why it was not read to its end.
-#[derive(Clone, Copy, Debug, PartialEq, Eq, Error)]
+#[derive(Clone, Copy, Debug, PartialEq, Eq)]
 pub enum JobsFault {
     /// The reader failed.
-    #[error("cannot read input")]
     Read,
     /// This line, counted from 1, is the first that is no job line.
-    #[error("line {line}: bad job")]
     BadJob { line: u64 },
     /// The first `MOST_JOBS` lines are job lines, and more follows.
-    #[error("too many jobs")]
     TooManyJobs,
     /// A request for memory was refused.
-    #[error("out of memory")]
     OutOfMemory,
 }
 
+impl fmt::Display for JobsFault {
+    ghost output = { λ fault. Some (jobs_fault_text fault) };
+
+    fn fmt<W: fmt::Write>(&self, f: &mut fmt::Formatter<W>) -> fmt::Result {
+        match *self {
+            JobsFault::Read => f.write_str("cannot read input"),
+            JobsFault::BadJob { line } => write!(f, "line {line}: bad job"),
+            JobsFault::TooManyJobs => write!(f, "{}", BatchFault::TooMany),
+            JobsFault::OutOfMemory => write!(f, "{OutOfMemory}"),
+        }
+    }
+}
+
+impl error::Error for JobsFault {}
+
 impl From<AllocError> for JobsFault {
-    ghost from_gives = { λ _ r. r ≡ OutOfMemory };
+    ghost from_gives = { λ _ r. r ≡ FaultOfMemory };
 
     fn from(_: AllocError) -> Self {
         JobsFault::OutOfMemory
@@ -31,7 +45,7 @@ impl From<AllocError> for JobsFault {
 }
 
 impl<T: Drop> From<AllocFailed<T>> for JobsFault {
-    ghost from_gives = { λ _ r. r ≡ OutOfMemory };
+    ghost from_gives = { λ _ r. r ≡ FaultOfMemory };
 
     fn from(_: AllocFailed<T>) -> Self {
         JobsFault::OutOfMemory

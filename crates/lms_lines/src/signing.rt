@@ -3,7 +3,7 @@ ghost use Rattle.std.specs.Prelude.{◌≡◌, ◌≢◌, ◌≤◌, IfOk, IfErr
 ghost use Rattle.lms_batch.specs.Jobs.{most_workers};
 ghost use Rattle.lms_lines.specs.SignedLines.{IsDone, IsLinesFault, signatures_in};
 
-use crate::answers::write_batch;
+use crate::answers::{WriteFault, write_batch};
 use crate::fault::JobsFault;
 use crate::jobs::read_jobs;
 use lms_batch::{Batch, BatchFault, OpenGate, SigningService};
@@ -39,7 +39,7 @@ pub enum LinesFault {
     #[error("{0}")]
     Batch(BatchFault),
     /// The answers were not all written. The indices of all jobs are used.
-    #[error("cannot write output")]
+    #[error("{WriteFault}")]
     Write,
 }
 

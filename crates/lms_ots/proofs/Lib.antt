@@ -1,4 +1,5 @@
 pub mod Candidates
+pub mod Ends
 pub mod LaneChains
 pub mod Orders
 pub mod OtsParts

@@ -1,2 +1,3 @@
 pub mod LmsType
+pub mod Memory
 pub mod OtsType

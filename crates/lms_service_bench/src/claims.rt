@@ -1,6 +1,7 @@
 //! Claims on pools by one thread and by several at once, beside as many bare additions to one word.
 ghost use Rattle.std.specs.Prelude.{◌≡◌, ◌≤◌, All};
 ghost use Rattle.std.specs.Arc.{arc_value};
+ghost use Rattle.lms_pool.specs.Rule.{most_seats};
 
 use crate::book::book;
 use crate::workers::Workers;
@@ -119,7 +120,7 @@ pub fn time_additions(
 /// For each thread, a seat of each pool.
 fn new_callers(alloc: Global, threads: usize) -> Result<Vec<Vec<Caller>>>
     requires some { 1 ≤ threads }
-    requires at_most { threads ≤ 64 }
+    requires at_most { threads ≤ most_seats }
 {
     let mut book = book(alloc, LEASED, POOLS as usize)?;
     let mut callers = Vec::new(alloc);
@@ -136,7 +137,7 @@ fn new_callers(alloc: Global, threads: usize) -> Result<Vec<Vec<Caller>>>
 /// Makes a pool over a lease, with a seat for each thread.
 fn add_pool(alloc: Global, lease: Lease, threads: usize, callers: &mut [Vec<Caller>]) -> Result<()>
     requires some { 1 ≤ threads }
-    requires at_most { threads ≤ 64 }
+    requires at_most { threads ≤ most_seats }
 {
     match IndexPool::over(alloc, lease, threads) {
         Ok((pool, seats)) => share_out(&Arc::new(alloc, pool)?, seats, callers),

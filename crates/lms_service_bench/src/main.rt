@@ -2,7 +2,7 @@
 //!
 //! Without arguments it runs each case once and prints the cases' names. With the argument `measure` it prints, for places of pools
 //! that threads claim at once, the claims a second beside bare additions to one word; for batches the signatures a second that one
-//! worker and several make; and how fast job lines are read and answers written.
+//! worker and several make, beside bare digests of as many threads; and how fast job lines are read and answers written.
 #![tactic(auto)]
 
 mod batches;

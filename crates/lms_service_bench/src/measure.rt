@@ -9,8 +9,11 @@ use std::sync::Wait;
 use std::thread::Threads;
 use std::time::{Clock, CpuClock, Duration};
 
-/// How often each time of a batch is taken. The least counts.
-const ROUNDS: u32 = 5;
+/// How often each time of a batch is taken. The least counts, so one round with free processors is enough.
+const BATCH_ROUNDS: u32 = 20;
+
+/// How often lines are timed. The least counts.
+const LINE_ROUNDS: u32 = 5;
 
 /// How often claims are timed.
 const CLAIM_ROUNDS: u32 = 20;
@@ -86,9 +89,10 @@ impl Times {
     }
 }
 
-/// Prints, for each number of workers, the signatures that they make a second, how many times those of one worker they are,
-/// and their share of what as many threads do with bare digests; then the signatures a second by the time of the batch less that
-/// of covering its indices, and the ratio of the time of signing to that of bare digests, both in processor time of one thread.
+/// Prints, for each number of workers, the signatures that they make a second, and how many times those of one worker these are; how
+/// many times as many bare digests as one thread as many threads make at once; what share of these bare digests the signatures'
+/// compressions are; and the signatures a second by the time of the batch less that of covering its indices. Then it prints the ratio of
+/// one worker's time of signing to that of bare digests, both in processor time of one thread.
 fn measure_batches<R>(rt: &R, hierarchy: Hierarchy) -> Result<()>
 where
     R: Print + AllocGlobal + Clock + CpuClock + Threads + Wait + Sync,
@@ -97,7 +101,7 @@ where
     let signed = batches.sign(rt, Workers::One)?;
     let compressions = batches.compressions(rt.alloc(), &signed.batch)?;
     let mut least = [Times::NONE; 3];
-    for _ in 0..ROUNDS {
+    for _ in 0..BATCH_ROUNDS {
         measure_round(rt, &batches, compressions, &mut least)?;
     }
     let [one, ..] = least;
@@ -138,11 +142,12 @@ where
 fn print_times(rt: &impl Print, one: Times, times: Times) -> Result<()> {
     let rate = JOBS as f64 / times.signing.as_secs_f64();
     let workers = one.signing.as_secs_f64() / times.signing.as_secs_f64();
+    let threads = one.at_once.as_secs_f64() / times.at_once.as_secs_f64();
     let share = times.at_once.as_secs_f64() / times.signing.as_secs_f64();
     let rest = times.whole.saturating_sub(times.cover).as_secs_f64();
     let less_cover = JOBS as f64 / rest;
     println!(rt;
-        "{rate:.0} signatures a second, {workers:.2} times one worker, share {share:.2}, {less_cover:.0} by the batch less its cover"
+        "{rate:.0} signatures a second, {workers:.2} times one worker, bare digests {threads:.2} times one thread, share {share:.2}, {less_cover:.0} by the batch less its cover"
     )?;
     Ok(())
 }
@@ -158,7 +163,7 @@ where
     let mut signing = Duration::MAX;
     let mut call = Duration::MAX;
     let mut write = Duration::MAX;
-    for _ in 0..ROUNDS {
+    for _ in 0..LINE_ROUNDS {
         let (jobs, time) = lines.jobs(rt)?;
         read = read.min(time);
         let signed = answered(rt, jobs)?;

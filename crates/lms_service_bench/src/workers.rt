@@ -1,5 +1,6 @@
 //! How many threads work at once.
 ghost use Rattle.std.specs.Prelude.{◌≤◌};
+ghost use Rattle.lms_batch.specs.Jobs.{most_workers};
 
 /// Each number of threads, in the order in which they are printed.
 pub const WORKERS: [Workers; 3] = [Workers::One, Workers::Two, Workers::Four];
@@ -14,7 +15,7 @@ pub enum Workers {
 
 impl Workers {
     pub fn count(self) -> usize
-        ensures { (1 ≤ result) × (result ≤ 64) }
+        ensures { (1 ≤ result) × (result ≤ most_workers) }
     {
         match self {
             Workers::One => 1,

@@ -16,7 +16,7 @@ pub enum WorldFault {
     #[error("the file can't be reached")]
     Device,
     /// Memory ran out.
-    #[error("out of memory")]
+    #[error("{OutOfMemory}")]
     OutOfMemory,
 }
 

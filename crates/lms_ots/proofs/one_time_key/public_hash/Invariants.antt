@@ -1,20 +1,17 @@
-use Rattle.std.proofs.Common.{◌+◌, ◌*◌, ◌++◌, map, min}
-use Rattle.std.specs.List.{concat}
+use Rattle.std.proofs.Common.{◌+◌, ◌*◌, min}
 use Rattle.sha2.specs.Hashers.{Holds256}
-use Rattle.lms_spec.specs.Bytes.{below, u16str}
-use Rattle.lms_spec.specs.Hashing.{d_pblc, place, chain_secret}
+use Rattle.lms_spec.specs.Hashing.{chain_secret}
 use Rattle.lms_spec.specs.Ots.{chain, last_digit}
 use Rattle.lms_params.specs.OtsType.{ots_set_of}
+use Rattle.lms_ots.proofs.Ends.{first_ends}
 use Rattle.lms_ots.proofs.one_time_key.public_hash.Given as goal
 
 abbrev pub invariant-eights : goal.invariant-eights
 invariant-eights l =
     Holds256 l.hasher
-    (place l.id.i l.id.q ++ u16str d_pblc
-    ++ concat (map (λ i. chain l.id.i l.id.q i 0 (last_digit (ots_set_of l.fn.t)) (chain_secret l.id.i l.seed l.id.q i)) (below (min (ots_set_of l.fn.t).p (8 * l.eight)))))
+    (first_ends l.id.i l.id.q (λ i. chain l.id.i l.id.q i 0 (last_digit (ots_set_of l.fn.t)) (chain_secret l.id.i l.seed l.id.q i)) (min (ots_set_of l.fn.t).p (8 * l.eight)))
 
 abbrev pub invariant-ends : goal.invariant-ends
 invariant-ends l =
     Holds256 l.hasher
-    (place l.id.i l.id.q ++ u16str d_pblc
-    ++ concat (map (λ i. chain l.id.i l.id.q i 0 (last_digit (ots_set_of l.fn.t)) (chain_secret l.id.i l.seed l.id.q i)) (below (8 * l.eight + l.k))))
+    (first_ends l.id.i l.id.q (λ i. chain l.id.i l.id.q i 0 (last_digit (ots_set_of l.fn.t)) (chain_secret l.id.i l.seed l.id.q i)) (8 * l.eight + l.k))

@@ -1,7 +1,7 @@
 use Rattle.std.proofs.Common.{◌≡◌, ◌+◌, ◌/◌, ◌++◌, length, sym, ◌∙◌, ap, arith}
 use Rattle.std.specs.Simd.{first_chunks}
-use Rattle.lms_image.specs.Image.{later_text}
-use Rattle.lms_image.specs.Reading.{ReadsLater, later_length}
+use Rattle.lms_image.specs.Image.{later_text, later_length}
+use Rattle.lms_image.specs.Reading.{ReadsLater}
 use Rattle.lms_image.proofs.Cuts.{cut-parts}
 use Rattle.lms_image.proofs.image.Parts.cut.Goals as goal
 

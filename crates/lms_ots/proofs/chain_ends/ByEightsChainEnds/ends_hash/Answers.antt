@@ -1,11 +1,9 @@
-use Rattle.std.proofs.Common.{◌-◌, length, min, ℕ, ◌≡◌, ◌+◌, ◌<◌, ◌≤◌, List, [], ◌++◌, map, get_or, slice_index, refl, sym, ◌∙◌, ap, arith, append_assoc, subst}
-use Rattle.std.specs.List.{concat}
+use Rattle.std.proofs.Common.{◌-◌, length, min, ℕ, ◌≡◌, ◌<◌, ◌≤◌, List, [], map, get_or, slice_index, refl, ◌∙◌, ap, arith, subst}
 use Rattle.sha2.specs.Hashers.{Holds256}
-use Rattle.lms_spec.specs.Bytes.{below, u16str}
-use Rattle.lms_spec.specs.Hashing.{d_pblc, place}
+use Rattle.lms_spec.specs.Bytes.{below}
 use Rattle.lms_spec.specs.Ots.{end_from, ends_hash, last_digit}
-use Rattle.lms_spec.proofs.Below.{concat-below-suc}
 use Rattle.lms_params.specs.OtsType.{ots_set_of}
+use Rattle.lms_ots.proofs.Ends.{one-more-end}
 use Rattle.lms_ots.proofs.LaneChains.{lane-from_digit, last_digit-byte}
 use Rattle.lms_ots.proofs.chain_ends.ByEightsChainEnds.ends_hash.Goals as goal
 
@@ -15,8 +13,6 @@ loop-i-preserved c =
     let i = c.loop-i.i in
     let t = ots_set_of c.args.t in
     let f = end_from t id.i id.q c.args.digits.now c.args.values.now in
-    let prefix = place id.i id.q ++ u16str d_pblc in
-    let so_far = concat (map f (below i)) in
     let lt : i < t.p = omega arith in
     let end : List ℕ = get_or c.walk_all.new.ends i [] in
     let own : min i (length c.args.values.now - 1) ≡ i = omega (arith, lt, c.requires.count) in
@@ -25,9 +21,7 @@ loop-i-preserved c =
     = c.walk_all.ensures i lt
     ∙ lane-from_digit id.i id.q i (slice_index c.args.digits.now i) (last_digit t) _ _ _ _ refl (c.steps_from.ensures i lt)
     (ap (λ j. get_or c.args.values.now j []) own) (c.requires.limit i lt) most in
-    let more : (prefix ++ so_far) ++ end ≡ prefix ++ concat (map f (below (i + 1)))
-    = append_assoc prefix so_far end ∙ ap (λ text. prefix ++ text) (ap (λ text. so_far ++ text) next ∙ sym (concat-below-suc f i)) in
-    subst (Holds256 c.update-in-loop-i.new.self) more (c.update-in-loop-i.ensures _ c.loop-i.invariant)
+    subst (Holds256 c.update-in-loop-i.new.self) (one-more-end id.i id.q f i end next) (c.update-in-loop-i.ensures _ c.loop-i.invariant)
 
 pub returns : goal.returns
 unfolding ends_hash

@@ -1,11 +1,9 @@
-use Rattle.std.proofs.Common.{◌≡◌, ◌+◌, ◌-◌, ◌++◌, [], map, get_or, sym, ◌∙◌, ap, ap₂, arith, append_assoc, subst}
-use Rattle.std.specs.List.{concat}
+use Rattle.std.proofs.Common.{◌≡◌, ◌-◌, [], map, get_or, ◌∙◌, ap, ap₂, arith, subst}
 use Rattle.sha2.specs.Hashers.{Holds256}
-use Rattle.lms_spec.specs.Bytes.{below, u16str}
-use Rattle.lms_spec.specs.Hashing.{d_pblc, place}
+use Rattle.lms_spec.specs.Bytes.{below}
 use Rattle.lms_spec.specs.Ots.{chain, end_from, ends_hash}
-use Rattle.lms_spec.proofs.Below.{concat-below-suc}
 use Rattle.lms_params.specs.OtsType.{ots_set_of}
+use Rattle.lms_ots.proofs.Ends.{one-more-end}
 use Rattle.lms_ots.proofs.chain_ends.OneByOneChainEnds.ends_hash.Goals as goal
 
 pub loop-i-preserved : goal.loop-i-preserved
@@ -13,13 +11,9 @@ loop-i-preserved c =
     let id = c.args.id in
     let i = c.loop-i.i in
     let f = end_from (ots_set_of c.args.t) id.i id.q c.args.digits.now c.args.values.now in
-    let prefix = place id.i id.q ++ u16str d_pblc in
-    let so_far = concat (map f (below i)) in
     let next : c.chain.result ≡ f i
     = c.chain.ensures ∙ ap₂ (λ from to. chain id.i id.q i from (to - from) (get_or c.args.values.now i [])) c.from.ensures c.last_digit-last.ensures.exact in
-    let more : (prefix ++ so_far) ++ c.chain.result ≡ prefix ++ concat (map f (below (i + 1)))
-    = append_assoc prefix so_far c.chain.result ∙ ap (λ text. prefix ++ text) (ap (λ text. so_far ++ text) next ∙ sym (concat-below-suc f i)) in
-    subst (Holds256 c.update-in-loop-i.new.self) more (c.update-in-loop-i.ensures _ c.loop-i.invariant)
+    subst (Holds256 c.update-in-loop-i.new.self) (one-more-end id.i id.q f i c.chain.result next) (c.update-in-loop-i.ensures _ c.loop-i.invariant)
 
 pub returns : goal.returns
 unfolding ends_hash
