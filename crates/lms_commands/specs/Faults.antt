@@ -78,6 +78,12 @@ status_of (Partial signed asked) = status.Negative
 status_of Input = status.Stream
 status_of Output = status.Stream
 
+-- the faults that come before any file is written, whatever the command
+abbrev pub IsBeforeFiles : Fault → Type 0
+IsBeforeFiles OutOfMemory = ⊥
+IsBeforeFiles Output = ⊥
+IsBeforeFiles _ = Unit {0}
+
 abbrev pub code_of : Status → ℕ
 code_of status.Done = 0
 code_of status.Negative = 1

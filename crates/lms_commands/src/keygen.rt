@@ -3,6 +3,7 @@ ghost use Rattle.std.specs.Prelude.{◌≡◌, ◌≢◌, ◌⊎◌, ℕ, List, 
 ghost use Rattle.std.specs.Io.KnownBytes.{Appends};
 ghost use Rattle.lms_image.specs.Image.{image_of};
 ghost use Rattle.lms_book.specs.Stops.{WritesStore};
+ghost use Rattle.lms_commands.specs.Faults.{IsBeforeFiles};
 ghost use Rattle.lms_commands.specs.Keygen.{FailsToMakeKey, FailsToStore, IsKeyOf, IsNoKey, IsTaken, MakesKey};
 ghost use Rattle.lms_commands.specs.Descriptions.{number_line};
 ghost use Rattle.lms_world.specs.Known.{IsPrintedLast, SameFiles, SameFilesBut, Stays};
@@ -51,7 +52,7 @@ fn key_of(levels: Levels, seed: [u8; 32], id: [u8; 16]) -> HssKey
 /// In this order: `StateInUse` where the state's lock is not got, `StateExists` where the state is there, `WriteState`
 /// where it may not have been stored, and `Output` where the public key can't be written or the capacity not printed: the
 /// state is the new key's then. `OutOfMemory` may come before the state is written, which stays as it was, or while the
-/// public key is written, and then the state is the new key's.
+/// public key is written, and then the state is the new key's. No file is written before the state is stored.
 ///
 /// `progress` is told how many leaves of the top tree are worked out.
 pub fn make_key<W: World, O: Write>(
@@ -71,6 +72,7 @@ pub fn make_key<W: World, O: Write>(
         (W.known world.new) key state.now public.now
         (O.contents output.old) (O.contents output.new)) }
     ensures silent { IfErr result (λ fault. fault ≢ Fault.Output → output.new ≡ output.old) }
+    ensures unwritten { IfErr result (λ fault. IsBeforeFiles fault → SameFiles (W.known world.old) (W.known world.new)) }
     ensures files { SameFilesBut public.now (W.known world.old) (W.known world.new) }
 {
     let lock = lock_state(alloc, world, state)?;

@@ -60,7 +60,8 @@ struct Signed {
 /// Faults, in this order: `BadRandom`; `Input` where the message can't be read; `StateInUse` where the state's lock is not
 /// available; `ReadState`; `BadState`; `Exhausted`; `WriteStateBurnt` where the use of the index may not have been stored;
 /// `OutOfMemoryBurnt` and `Output` once it was. `OutOfMemory` may come anywhere before `WriteStateBurnt`. At the last two
-/// the index is used; after `WriteStateBurnt` the state may still be the older one, which gives the index again.
+/// the index is used; after `WriteStateBurnt` the state may still be the older one, which gives the index again. No file is
+/// written before the use of the index was stored.
 ///
 /// `progress` is told how many leaves are worked out of the trees that the signature needs.
 pub fn sign_file<W: World, O: Write>(
@@ -81,6 +82,7 @@ pub fn sign_file<W: World, O: Write>(
         (W.known world.new) state.now random.now message.now out.now
         (O.contents output.old) (O.contents output.new)) }
     ensures silent { IfErr result (λ fault. fault ≢ Fault.Output → output.new ≡ output.old) }
+    ensures unwritten { IfErr result (λ fault. fault ≢ Fault.Output → SameFiles (W.known world.old) (W.known world.new)) }
     ensures files { SameFilesBut out.now (W.known world.old) (W.known world.new) }
 {
     let randomizer = randomizer_from(random)?;

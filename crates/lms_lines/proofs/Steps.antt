@@ -108,12 +108,6 @@ pub consumes-none : (a : Option (List ℕ)) → Consumes a a []
 consumes-none None = tt
 consumes-none (Some xs) = refl
 
-pub consumes-both : (a b c : Option (List ℕ)) (xs ys : List ℕ) → Consumes a b xs → Consumes b c ys → Consumes a c (xs ++ ys)
-consumes-both None b c xs ys p q = tt
-consumes-both (Some x) None c xs ys p q = absurd p
-consumes-both (Some x) (Some y) None xs ys p q = absurd q
-consumes-both (Some x) (Some y) (Some z) xs ys p q = p ∙ ap (λ l. xs ++ l) q ∙ sym (append_assoc xs ys z)
-
 pub consumes-kept : (a b c : Option (List ℕ)) (xs : List ℕ) → Keeps a b → Consumes b c xs → Consumes a c xs
 consumes-kept None b c xs p q = tt
 consumes-kept (Some x) None c xs p q = absurd p

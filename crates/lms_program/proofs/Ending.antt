@@ -1,9 +1,9 @@
 -- How a run ends, by the command and by the fault.
-use Rattle.std.proofs.Common.{◌≡◌, ◌<◌, ℕ, List, Result, Ok, Err, refl, inl, inr, arith}
-use Rattle.std.specs.Prelude.{IfErr}
+use Rattle.std.proofs.Common.{◌≡◌, ◌≢◌, ◌<◌, ◌≤◌, ℕ, List, Result, Ok, Err, refl, subst, inl, inr, arith}
+use Rattle.std.specs.Prelude.{IfErr, IfOk, MatchResult}
 use Rattle.clap.specs.Words.{Text}
 use Rattle.lms_program.specs.Commands.{AreTakenAs}
-use Rattle.lms_commands.specs.Faults.{code_of, status_of}
+use Rattle.lms_commands.specs.Faults.{IsBeforeFiles, code_of, status_of}
 use Rattle.lms_commands.specs.Batches.{IsSilent}
 use Rattle.lms_program.specs.Runs.{AsksToRead, Ends, Fails, FailsToObey, Moment, Obeys, ReadsInput}
 use Rattle.lms_program.specs.declared.command.types.Command.{Command}
@@ -24,6 +24,22 @@ command_ends old new words command reads status.State is = absurd is
 command_ends old new words command reads status.Exhausted is = absurd is
 command_ends old new words command reads status.Memory is = absurd is
 command_ends old new words command reads status.Stream is = absurd is
+
+-- a fault that comes before files is not that of the output
+pub not_output : (fault : Fault) → IsBeforeFiles fault → fault ≢ Output
+not_output fault before is = absurd (subst IsBeforeFiles is before)
+
+-- what is obeyed has a status below 2, so what is kept at errors that come before files is kept at each status from 2 on
+pub kept_before_files : (old new : Moment) (command : Command) (result : Result Status Fault) (Kept : Type 0) → IfOk result (Obeys old new command)
+    → IfErr result (λ fault. IsBeforeFiles fault → Kept) → MatchResult result (λ end. 2 ≤ code_of end → Kept) (λ fault. IsBeforeFiles fault → Kept)
+kept_before_files old new command (Ok status.Done) Kept done failed = λ two. absurd (omega (arith, two))
+kept_before_files old new command (Ok status.Negative) Kept done failed = λ two. absurd (omega (arith, two))
+kept_before_files old new command (Ok status.Usage) Kept done failed = absurd done
+kept_before_files old new command (Ok status.State) Kept done failed = absurd done
+kept_before_files old new command (Ok status.Exhausted) Kept done failed = absurd done
+kept_before_files old new command (Ok status.Memory) Kept done failed = absurd done
+kept_before_files old new command (Ok status.Stream) Kept done failed = absurd done
+kept_before_files old new command (Err fault) Kept done failed = failed
 
 -- a run fails as its command does, which prints nothing but where the output fails
 pub command_fails : (old new : Moment) (words : List Text) (command : Command) → AreTakenAs words command

@@ -2,8 +2,8 @@
 ghost use Rattle.std.specs.Prelude.{◌≡◌, ◌⊎◌, ◌<◌, ◌≤◌, ℕ, List, IfErr, IfOk, MatchResult, OnOk, map};
 ghost use Rattle.std.specs.Io.KnownBytes.{Appends};
 ghost use Rattle.lms_commands.specs.Batches.{IsSilent};
-ghost use Rattle.lms_commands.specs.Faults.{code_of, status_of};
-ghost use Rattle.lms_world.specs.Known.{SameFile};
+ghost use Rattle.lms_commands.specs.Faults.{IsBeforeFiles, code_of, status_of};
+ghost use Rattle.lms_world.specs.Known.{SameFile, SameFiles};
 ghost use Rattle.lms_program.specs.Runs.{AsksToRead, AsksToTouch, Ends, Fails, FailsToObey, NoneWrites, Obeys, ReadsInput, Touches, Writes, moment};
 ghost use Rattle.lms_commands.specs.declared.status.Status.{Status};
 
@@ -39,6 +39,7 @@ pub fn run<S: AsStr, W: World, I: Read, O: Write, E: Write>(
         (moment (W.known world.new) (I.remaining input.new) (O.contents output.new)) (map S.text words.now) result }
     ensures quiet { code_of result < 2 → (errors.new ≡ errors.old) ⊎ ((result ≡ Status.Negative) × AsksToRead (map S.text words.now)) }
     ensures silent { 2 ≤ code_of result → code_of result < 6 → output.new ≡ output.old }
+    ensures unwritten { 2 ≤ code_of result → code_of result < 5 → SameFiles (W.known world.old) (W.known world.new) }
     ensures files { (world.new ≡ world.old) ⊎ AsksToTouch (map S.text words.now) }
     ensures others { (name : List ℕ) → NoneWrites (map S.text words.now) name
         → SameFile (W.known world.old) (W.known world.new) name }
@@ -63,6 +64,7 @@ pub fn run_watched<S: AsStr, W: World, I: Read, O: Write, E: Write>(
         (moment (W.known world.new) (I.remaining input.new) (O.contents output.new)) (map S.text words.now) result }
     ensures quiet { code_of result < 2 → (errors.new ≡ errors.old) ⊎ ((result ≡ Status.Negative) × AsksToRead (map S.text words.now)) }
     ensures silent { 2 ≤ code_of result → code_of result < 6 → output.new ≡ output.old }
+    ensures unwritten { 2 ≤ code_of result → code_of result < 5 → SameFiles (W.known world.old) (W.known world.new) }
     ensures files { (world.new ≡ world.old) ⊎ AsksToTouch (map S.text words.now) }
     ensures others { (name : List ℕ) → NoneWrites (map S.text words.now) name
         → SameFile (W.known world.old) (W.known world.new) name }
@@ -103,6 +105,8 @@ fn answer<S: AsStr, W: World, I: Read, O: Write, E: Write>(
     ensures quiet { IfOk result (λ status. code_of status < 2 → errors.new ≡ errors.old) }
     ensures silent { MatchResult result (λ status. 2 ≤ code_of status → output.new ≡ output.old)
         (λ fault. IsSilent fault → output.new ≡ output.old) }
+    ensures unwritten { MatchResult result (λ status. 2 ≤ code_of status → SameFiles (W.known world.old) (W.known world.new))
+        (λ fault. IsBeforeFiles fault → SameFiles (W.known world.old) (W.known world.new)) }
     ensures files { (world.new ≡ world.old) ⊎ AsksToTouch (map S.text words.now) }
     ensures others { (name : List ℕ) → NoneWrites (map S.text words.now) name
         → SameFile (W.known world.old) (W.known world.new) name }
@@ -139,6 +143,7 @@ fn obey<W: World, I: Read, O: Write>(
         (FailsToObey (moment (W.known world.old) (I.remaining input.old) (O.contents output.old))
         (moment (W.known world.new) (I.remaining input.new) (O.contents output.new)) command) }
     ensures silent { IfErr result (λ fault. IsSilent fault → output.new ≡ output.old) }
+    ensures unwritten { IfErr result (λ fault. IsBeforeFiles fault → SameFiles (W.known world.old) (W.known world.new)) }
     ensures files { (world.new ≡ world.old) ⊎ Touches command }
     ensures others { (name : List ℕ) → ¬ Writes command name
         → SameFile (W.known world.old) (W.known world.new) name }

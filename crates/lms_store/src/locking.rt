@@ -52,7 +52,7 @@ impl<F> StateLock<F> {
 
 /// Locks the state of this name, without waiting, against other programs that call this, until what is returned is dropped.
 /// `None` where the lock is not available: another holds it, its file can't be made, or the name can't be resolved.
-/// `OutOfMemory` where memory for its path is refused.
+/// `OutOfMemory` where memory for its path, or to open its file, is refused.
 ///
 /// The locked file is `NAME.lock` beside the state, where NAME is that of the state's file once symbolic links are followed.
 /// It stays there and must not be removed: two programs could then hold a lock each, on the old file and on a new one.
@@ -78,6 +78,7 @@ where
         .open(files, beside.as_str());
     match opened {
         Ok(file) if file.try_lock() => Ok(Some(StateLock { path, file })),
+        Err(error) if error.kind() == ErrorKind::OutOfMemory => Err(OutOfMemory),
         _ => Ok(None),
     }
 }

@@ -20,12 +20,11 @@ use lms_program::run::run;
 use lms_slow::vectors::ONE_5_8;
 use lms_world::{MemoryWorld, World, WorldFault};
 use std::alloc::Global;
-use std::io;
 use std::io::Write;
-use std::string::FromUtf8Error;
 use std::sync::Wait;
 use std::test::Fail;
 use std::thread::Threads;
+use std::{io, str};
 
 const NAMES: [&str; 3] = ["key.pub", "text", "text.sig"];
 
@@ -44,8 +43,30 @@ const VERIFY: [&str; 8] = [
 #[derive(Drop)]
 struct Ended {
     status: u8,
-    output: String,
-    errors: String,
+    output: Vec<u8>,
+    errors: Vec<u8>,
+}
+
+impl Ended {
+    fn output(&self) -> &str {
+        text_of(&self.output)
+    }
+
+    fn errors(&self) -> &str {
+        text_of(&self.errors)
+    }
+
+    /// Whether the run ended with this status, and printed this output and these errors.
+    fn is(&self, status: u8, output: &str, errors: &str) -> bool {
+        self.status == status
+            && self.output.as_slice() == output.as_bytes()
+            && self.errors.as_slice() == errors.as_bytes()
+    }
+}
+
+/// The text of these bytes, or one that no run prints.
+fn text_of(bytes: &[u8]) -> &str {
+    str::from_utf8(bytes).unwrap_or("no text")
 }
 
 /// Runs the program with no input. What `run` promises of the status and of what it is lent is left to its proof.
@@ -64,15 +85,15 @@ fn end_of<W: World>(
     rt: &(impl Threads + Wait + AllocGlobal + Sync),
     words: &[&str],
     world: &mut W,
-) -> Result<Ended, FromUtf8Error> {
+) -> Ended {
     let mut output = Vec::new(rt.alloc());
     let mut errors = Vec::new(rt.alloc());
     let status = status_of(rt, words, world, &mut output, &mut errors);
-    Ok(Ended {
+    Ended {
         status,
-        output: String::from_utf8(output)?,
-        errors: String::from_utf8(errors)?,
-    })
+        output,
+        errors,
+    }
 }
 
 /// Whether a run ends with this status, and prints this output and these errors.
@@ -84,12 +105,7 @@ fn ends<W: World>(
     output: &str,
     errors: &str,
 ) -> bool {
-    let mut printed = Vec::new(rt.alloc());
-    let mut complained = Vec::new(rt.alloc());
-    let ended = status_of(rt, words, world, &mut printed, &mut complained);
-    ended == status
-        && printed.as_slice() == output.as_bytes()
-        && complained.as_slice() == errors.as_bytes()
+    end_of(rt, words, world).is(status, output, errors)
 }
 
 /// The same of files in memory, where no errors are printed.

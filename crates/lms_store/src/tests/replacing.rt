@@ -252,25 +252,33 @@ fn a_read_tells_want_of_memory(rt: HostRuntime) -> Result<(), Fail> {
 
 const NAME: &str = "file_store_resolves/state";
 
-/// Whether want of memory while the name is resolved is told, and another failure gives no lock.
-fn tells_of_a_name<R: Files>(alloc: Global, files: &R, journal: &Journal) -> Result<bool, Fail>
+/// A name is resolved and a file opened before there is a lock.
+const BEFORE_A_LOCK: usize = 2;
+
+/// Whether want of memory at an operation of locking is told, and another failure there gives no lock.
+fn tells_of_a_lock<R: Files>(
+    alloc: Global,
+    files: &R,
+    journal: &Journal,
+    k: usize,
+) -> Result<bool, Fail>
 where
     R::File: TryLock,
 {
-    journal.fail(0, ErrorKind::OutOfMemory)?;
+    journal.fail(k, ErrorKind::OutOfMemory)?;
     let wants = lock(files, alloc, NAME).is_err();
-    journal.fail(0, ErrorKind::Other)?;
+    journal.fail(k, ErrorKind::Other)?;
     let none = lock(files, alloc, NAME)?.is_none();
     journal.fail(usize::MAX, ErrorKind::Other)?;
     Ok(wants && none)
 }
 
-/// The same of the name, which is resolved first, for the lock. Once that goes well, the store is there.
+/// The same while a lock is taken. Once that goes well, the store is there.
 #[test]
-fn a_name_tells_want_of_memory(rt: HostRuntime) -> Result<(), Fail> {
+fn a_lock_tells_want_of_memory(rt: HostRuntime) -> Result<(), Fail> {
     empty_folder(&rt, "file_store_resolves")?;
     fs::write(&rt, NAME, b"old".as_slice())?;
-    over_recorded_files(&rt, &rt, NAME, Scenario::Name)?;
+    over_recorded_files(&rt, &rt, NAME, Scenario::Lock)?;
     fs::remove_dir_all(&rt, "file_store_resolves")?;
     Ok(())
 }
@@ -286,8 +294,8 @@ enum Scenario {
     Link,
     /// Reads fail.
     Reads,
-    /// The name can't be resolved at first.
-    Name,
+    /// The lock can't be taken at first.
+    Lock,
 }
 
 /// Carries a scenario out.
@@ -306,7 +314,7 @@ fn carry_out(
         Scenario::Knows => know_what_was_tried(end, rt, store, journal),
         Scenario::Link => pass_a_link(end, rt, store, journal),
         Scenario::Reads => fail_to_read(end, rt, store, journal),
-        Scenario::Name => {
+        Scenario::Lock => {
             assert!(end; reads(rt, store, b"old"));
             Ok(())
         }
@@ -322,8 +330,10 @@ fn over_recorded_files(
 ) -> Result<(), Fail> {
     let journal = Journal::new(rt.alloc())?;
     let files = RecordingFiles::new(rt.alloc(), rt, &journal)?;
-    if let Scenario::Name = scenario {
-        assert!(end; tells_of_a_name(rt.alloc(), &files, &journal)?);
+    if let Scenario::Lock = scenario {
+        for k in 0..BEFORE_A_LOCK {
+            assert!(end; tells_of_a_lock(rt.alloc(), &files, &journal, k)?, "{k}");
+        }
     }
     let mut store = store_over(rt.alloc(), &files, name)?.ok_or("the lock is free")?;
     carry_out(end, rt, &mut store, &journal, scenario)

@@ -1,7 +1,7 @@
 //! `batch`: job lines signed by the whole program.
 use super::state::{ONE, RANDOM, TWO};
-use super::states::{is_at, keyed};
-use super::{Ended, VERIFY, says};
+use super::states::{is_with, keyed};
+use super::{Ended, VERIFY, says, text_of};
 use lms_hss::{HssKey, Levels};
 use lms_program::run::run;
 use lms_world::{MemoryWorld, World};
@@ -27,7 +27,7 @@ pub(super) fn end_of_batch(
     world: &mut MemoryWorld,
     workers: &str,
     input: &[u8],
-) -> Result<Ended, Fail> {
+) -> Ended {
     let output = Vec::new(rt.alloc());
     end_of_batch_to(rt, world, workers, input, output)
 }
@@ -39,7 +39,7 @@ pub(super) fn end_of_batch_to(
     workers: &str,
     input: &[u8],
     output: Vec<u8>,
-) -> Result<Ended, Fail> {
+) -> Ended {
     let mut rest = input;
     let mut output = output;
     let mut errors = Vec::new(rt.alloc());
@@ -53,11 +53,11 @@ pub(super) fn end_of_batch_to(
         &mut output,
         &mut errors,
     );
-    Ok(Ended {
+    Ended {
         status: status.code(),
-        output: String::from_utf8(output)?,
-        errors: String::from_utf8(errors)?,
-    })
+        output,
+        errors,
+    }
 }
 
 /// The two decimal digits of a number below 100.
@@ -89,12 +89,12 @@ pub(super) fn lines(alloc: Global, count: usize) -> Result<Vec<u8>, Fail> {
 fn four_answers(
     rt: &(impl Threads + Wait + AllocGlobal + Sync),
     workers: &str,
-) -> Result<String, Fail> {
-    let mut world = keyed(rt.alloc(), &TWO, 30)?;
+) -> Result<Vec<u8>, Fail> {
     let text = lines(rt.alloc(), 4)?;
-    let end = end_of_batch(rt, &mut world, workers, &text)?;
+    let mut world = keyed(rt.alloc(), &TWO, 30)?;
+    let end = end_of_batch(rt, &mut world, workers, &text);
     let is_done = end.status == 0 && end.errors.is_empty();
-    if is_done && is_at(&world, &TWO, 34)? {
+    if is_done && is_with(&world, &TWO, 34, 1, 0) {
         Ok(end.output)
     } else {
         Err(Fail::from("four jobs are signed, and four indices used"))
@@ -137,10 +137,11 @@ fn is_answer(
 fn signs_job_lines(rt: HostRuntime) -> Result<(), Fail> {
     let answers = four_answers(&rt, "2")?;
     assert!(rt; answers.len() == 21_168);
-    assert!(rt; four_answers(&rt, "1")?.as_str() == answers.as_str());
-    assert!(rt; four_answers(&rt, "64")?.as_str() == answers.as_str());
+    assert!(rt; four_answers(&rt, "1")? == answers);
+    assert!(rt; four_answers(&rt, "64")? == answers);
     let mut world = keyed(rt.alloc(), &TWO, 0)?;
     publish(&rt, &mut world)?;
+    let answers = text_of(&answers);
     assert!(rt; answers.lines().count() == 4);
     let rows = [
         ("30", b"\x00bc"),
@@ -164,9 +165,9 @@ fn answers_by(
     line: &[u8],
 ) -> Result<bool, Fail> {
     let mut world = keyed(rt.alloc(), &ONE, 0)?;
-    let end = end_of_batch(rt, &mut world, workers, line)?;
-    let is_line = end.output.len() == 2595 && end.output.starts_with("0 ");
-    Ok(end.status == 0 && is_line && is_at(&world, &ONE, 1)?)
+    let end = end_of_batch(rt, &mut world, workers, line);
+    let is_line = end.output.len() == 2595 && end.output.starts_with(b"0 ");
+    Ok(end.status == 0 && is_line && is_with(&world, &ONE, 1, 1, 0))
 }
 
 /// Whether it is answered so by each number of workers.
@@ -197,9 +198,8 @@ fn refuses_at(
     errors: &str,
 ) -> Result<bool, Fail> {
     let mut world = keyed(rt.alloc(), &ONE, counter)?;
-    let end = end_of_batch(rt, &mut world, workers, input)?;
-    let is_said = end.status == status && end.errors.as_str() == errors;
-    Ok(is_said && end.output.is_empty() && is_at(&world, &ONE, counter)?)
+    let end = end_of_batch(rt, &mut world, workers, input);
+    Ok(end.is(status, "", errors) && is_with(&world, &ONE, counter, 0, 0))
 }
 
 /// The same, on a state of index 5.

@@ -1,7 +1,7 @@
 //! `batch` over streams, states and memory that fail.
 use super::batch::{batch, end_of_batch, end_of_batch_to, lines, push_line};
 use super::state::{CHEAP, ONE, TWO};
-use super::states::{image_of, is_at, keyed, store_at, store_of};
+use super::states::{image_of, is_with, keyed, store_at, store_of};
 use super::{Closed, Ended, Stuck};
 use lms_book::{Left, MemoryStore};
 use lms_commands::Status;
@@ -55,20 +55,18 @@ impl Write for Full {
     }
 }
 
-/// Whether a batch by these streams ends with this status and these errors, at this index.
-fn ends_at<I: Read, O: Write>(
+/// Whether a batch by these streams says that one of them failed, by this line.
+fn fails_by<I: Read, O: Write>(
     rt: &(impl Threads + Wait + AllocGlobal + Sync),
     world: &mut MemoryWorld,
     input: &mut I,
     output: &mut O,
-    errors: &str,
-    counter: u64,
-) -> Result<bool, Fail> {
+    line: &str,
+) -> bool {
     let mut said = Vec::new(rt.alloc());
     let words = batch("2");
     let status = run(rt, rt.alloc(), &words, world, input, output, &mut said);
-    let is_said = status == Status::Stream && said.as_slice() == errors.as_bytes();
-    Ok(is_said && is_at(world, &ONE, counter)?)
+    status == Status::Stream && said.as_slice() == line.as_bytes()
 }
 
 /// No index is used where the lines can't be read.
@@ -78,7 +76,8 @@ fn cannot_read_job_lines(rt: HostRuntime) -> Result<(), Fail> {
     for reads in 0..3 {
         let mut world = keyed(rt.alloc(), &ONE, 5)?;
         let mut cut = Cut { reads };
-        assert!(rt; ends_at(&rt, &mut world, &mut cut, &mut Closed, line, 5)?);
+        assert!(rt; fails_by(&rt, &mut world, &mut cut, &mut Closed, line));
+        assert!(rt; is_with(&world, &ONE, 5, 0, 0));
     }
     Ok(())
 }
@@ -99,13 +98,14 @@ fn gets_a_beginning(
         fails,
     };
     let line = "error: cannot write output\n";
-    let is_said = ends_at(rt, &mut world, &mut rest, &mut full, line, 7)?;
-    let next = end_of_batch(rt, &mut world, "1", &text)?;
+    let is_said = fails_by(rt, &mut world, &mut rest, &mut full, line)
+        && is_with(&world, &ONE, 7, 1, 0);
+    let next = end_of_batch(rt, &mut world, "1", &text);
     Ok(
         is_said
             && full.taken.len() == room
             && answers.starts_with(&full.taken)
-            && next.output.starts_with("7 "),
+            && next.output.starts_with(b"7 "),
     )
 }
 
@@ -114,15 +114,15 @@ fn gets_a_beginning(
 fn cannot_write_answers(rt: HostRuntime) -> Result<(), Fail> {
     let text = lines(rt.alloc(), 2)?;
     let mut world = keyed(rt.alloc(), &ONE, 5)?;
-    let end = end_of_batch(&rt, &mut world, "2", &text)?;
+    let end = end_of_batch(&rt, &mut world, "2", &text);
     for room in [0, 1, 2, 2594, 2595, 2596, 5189] {
-        let answers = end.output.as_bytes();
-        assert!(rt; gets_a_beginning(&rt, answers, room, true)?, "{room}");
-        assert!(rt; gets_a_beginning(&rt, answers, room, false)?, "{room}");
+        assert!(rt; gets_a_beginning(&rt, &end.output, room, true)?, "{room}");
+        assert!(rt; gets_a_beginning(&rt, &end.output, room, false)?, "{room}");
     }
     let mut rest: &[u8] = &text;
     let line = "error: cannot write output\n";
-    assert!(rt; ends_at(&rt, &mut world, &mut rest, &mut Stuck, line, 9)?);
+    assert!(rt; fails_by(&rt, &mut world, &mut rest, &mut Stuck, line));
+    assert!(rt; is_with(&world, &ONE, 9, 2, 0));
     Ok(())
 }
 
@@ -138,12 +138,11 @@ fn unwritable(alloc: Global, left: Left) -> Result<MemoryWorld, Fail> {
 #[test]
 fn burns_the_indices_of_a_batch(rt: HostRuntime) -> Result<(), Fail> {
     let text = lines(rt.alloc(), 4)?;
-    for (left, counter) in [(Left::Old, 0), (Left::New, 4)] {
+    for (left, counter, openings) in [(Left::Old, 0, 0), (Left::New, 4, 1)] {
         let mut world = unwritable(rt.alloc(), left)?;
-        let end = end_of_batch(&rt, &mut world, "2", &text)?;
-        assert!(rt; end.status == 3 && end.output.is_empty());
-        assert!(rt; end.errors.as_str() == "error: cannot write state: 0 to 3 burnt\n");
-        assert!(rt; is_at(&world, &TWO, counter)?);
+        let end = end_of_batch(&rt, &mut world, "2", &text);
+        assert!(rt; end.is(3, "", "error: cannot write state: 0 to 3 burnt\n"));
+        assert!(rt; is_with(&world, &TWO, counter, openings, 0));
     }
     Ok(())
 }
@@ -155,9 +154,8 @@ fn fails_before_the_line(
     workers: &str,
     status: u8,
     errors: &str,
-) -> Result<bool, Fail> {
-    let end = end_of_batch(rt, world, workers, b"\n")?;
-    Ok(end.status == status && end.errors.as_str() == errors && end.output.is_empty())
+) -> bool {
+    end_of_batch(rt, world, workers, b"\n").is(status, "", errors)
 }
 
 /// The state is asked for before the input is read, and the workers before both.
@@ -166,21 +164,21 @@ fn fails_in_order(rt: HostRuntime) -> Result<(), Fail> {
     let mut world = keyed(rt.alloc(), &ONE, 5)?;
     world.use_elsewhere();
     let line = "error: bad workers\n";
-    assert!(rt; fails_before_the_line(&rt, &mut world, "0", 2, line)?);
+    assert!(rt; fails_before_the_line(&rt, &mut world, "0", 2, line));
     let line = "error: state in use\n";
-    assert!(rt; fails_before_the_line(&rt, &mut world, "1", 3, line)?);
+    assert!(rt; fails_before_the_line(&rt, &mut world, "1", 3, line));
     let line = "error: cannot read state\n";
     world = MemoryWorld::new(rt.alloc());
-    assert!(rt; fails_before_the_line(&rt, &mut world, "1", 3, line)?);
+    assert!(rt; fails_before_the_line(&rt, &mut world, "1", 3, line));
     world.set_state(store_of(rt.alloc(), Some(b"HSSK"))?);
     let line = "error: bad state: Truncated\n";
-    assert!(rt; fails_before_the_line(&rt, &mut world, "1", 3, line)?);
+    assert!(rt; fails_before_the_line(&rt, &mut world, "1", 3, line));
     Ok(())
 }
 
 /// How many indices a batch of four jobs that ended so has used, and how many lines it printed.
 fn uses(end: &Ended) -> Option<(u64, usize)> {
-    match (end.status, end.errors.as_str()) {
+    match (end.status, end.errors()) {
         (0, "") => Some((4, 4)),
         (1, "error: partial: 0 of 4 signed\n") => Some((4, 0)),
         (1, "error: partial: 1 of 4 signed\n") => Some((4, 1)),
@@ -205,10 +203,11 @@ fn answers_in(text: &str) -> Option<usize> {
     }
 }
 
-/// How many indices after index 5 the state counts.
+/// How many indices after index 5 the state counts, four by each opening.
 fn used(world: &MemoryWorld) -> Result<u64, Fail> {
-    for count in 0..9 {
-        if is_at(world, &CHEAP, 5 + count)? {
+    for openings in 0..3 {
+        let count = 4 * openings;
+        if is_with(world, &CHEAP, 5 + count, openings, 0) {
             return Ok(count);
         }
     }
@@ -219,7 +218,7 @@ fn used(world: &MemoryWorld) -> Result<u64, Fail> {
 fn is_true(end: &Ended, before: u64, after: u64) -> bool {
     match uses(end) {
         Some((indices, printed)) => {
-            after.checked_sub(before) == Some(indices) && answers_in(&end.output) == Some(printed)
+            after.checked_sub(before) == Some(indices) && answers_in(end.output()) == Some(printed)
         }
         None => false,
     }
@@ -268,10 +267,10 @@ fn a_batch_says_what_it_used(rt: HostRuntime) -> Result<(), Fail> {
     let text = four_lines(rt.alloc())?;
     let mut world = world_at_last(rt.alloc())?;
     let output = roomy(rt.alloc())?;
-    let first = end_of_batch_to(&rt, &mut world, "4", &text, output)?;
+    let first = end_of_batch_to(&rt, &mut world, "4", &text, output);
     let between = used(&world)?;
     let output = roomy(rt.alloc())?;
-    let second = end_of_batch_to(&rt, &mut world, "4", &text, output)?;
+    let second = end_of_batch_to(&rt, &mut world, "4", &text, output);
     let after = used(&world)?;
     assert!(rt; is_true(&first, 0, between));
     assert!(rt; is_true(&second, between, after));

@@ -16,7 +16,7 @@ fn end_within(
     k: usize,
 ) -> Result<Ended, Fail> {
     let files = StoppingFiles::new(files, counter(rt.alloc(), k)?);
-    Ok(end_of(rt, words, &mut DiskWorld::new(&files))?)
+    Ok(end_of(rt, words, &mut DiskWorld::new(&files)))
 }
 
 /// A state that cannot be looked up is taken for one that is there: the files stop once the lock is got.
@@ -24,8 +24,7 @@ fn end_within(
 fn a_state_that_can_not_be_told_is_there(rt: HostRuntime) -> Result<(), Fail> {
     begin(&rt)?;
     let ended = end_within(&rt, &rt, &KEYGEN, 4)?;
-    assert!(rt; ended.status == 3 && ended.output.is_empty());
-    assert!(rt; ended.errors.as_str() == "error: state exists\n");
+    assert!(rt; ended.is(3, "", "error: state exists\n"));
     assert!(rt; fs::metadata(&rt, "program_files/key.pub").is_err());
     end(&rt)
 }

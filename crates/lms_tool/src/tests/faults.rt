@@ -1,6 +1,6 @@
 //! States, files and streams that fail, in memory.
 use super::state::{INFO, ONE, keygen_one, sign_text};
-use super::states::{is_at, keyed, store_at, store_of};
+use super::states::{is_with, keyed, store_at, store_of};
 use super::{Closed, VERIFY, fails_with, is_unprinted, says};
 use lms_book::Left;
 use lms_world::{MemoryWorld, World, WorldFault};
@@ -25,7 +25,7 @@ fn is_unread(
 ) -> Result<bool, Fail> {
     let mut world = unreadable(rt.alloc())?;
     let failed = fails_with(rt, words, &mut world, 3, "error: cannot read state\n");
-    Ok(failed && is_at(&world, &ONE, 5)?)
+    Ok(failed && is_with(&world, &ONE, 5, 0, 0))
 }
 
 #[test]
@@ -112,24 +112,25 @@ fn is_exhausted(rt: HostRuntime) -> Result<(), Fail> {
             "error: exhausted: 0 left\n"
         )
     );
-    assert!(rt; is_at(&world, &ONE, 32)?);
+    assert!(rt; is_with(&world, &ONE, 32, 0, 0));
     Ok(())
 }
 
-/// Whether a `sign` from index 5 on, for which the file of a name fails, ends with this status and this line, and with this
-/// index next.
+/// Whether a `sign` from index 5 on, for which the file of a name fails, ends with this status and this line, and uses so many
+/// indices.
 fn fails_to_sign(
     rt: &(impl Threads + Wait + AllocGlobal + Sync),
     name: &str,
     fault: WorldFault,
     status: u8,
     line: &str,
-    next: u64,
+    used: u64,
 ) -> Result<bool, Fail> {
     let mut world = keyed(rt.alloc(), &ONE, 5)?;
     world.fail(name, fault)?;
     let failed = fails_with(rt, &sign_text(), &mut world, status, line);
-    Ok(failed && is_at(&world, &ONE, next)?)
+    let next = 5_u64.saturating_add(used);
+    Ok(failed && is_with(&world, &ONE, next, used, 0))
 }
 
 const UNREAD: &str = "error: cannot read input\n";
@@ -141,16 +142,16 @@ const NO_MEMORY: &str = "error: out of memory\n";
 /// A message that can't be read uses no index.
 #[test]
 fn cannot_read_the_message(rt: HostRuntime) -> Result<(), Fail> {
-    assert!(rt; fails_to_sign(&rt, "text", WorldFault::Device, 6, UNREAD, 5)?);
-    assert!(rt; fails_to_sign(&rt, "text", WorldFault::OutOfMemory, 5, NO_MEMORY, 5)?);
+    assert!(rt; fails_to_sign(&rt, "text", WorldFault::Device, 6, UNREAD, 0)?);
+    assert!(rt; fails_to_sign(&rt, "text", WorldFault::OutOfMemory, 5, NO_MEMORY, 0)?);
     Ok(())
 }
 
 /// A signature that can't be written has used its index, and want of memory is not said.
 #[test]
 fn cannot_write_a_signature(rt: HostRuntime) -> Result<(), Fail> {
-    assert!(rt; fails_to_sign(&rt, "text.sig", WorldFault::Device, 6, UNWRITTEN, 6)?);
-    assert!(rt; fails_to_sign(&rt, "text.sig", WorldFault::OutOfMemory, 6, UNWRITTEN, 6)?);
+    assert!(rt; fails_to_sign(&rt, "text.sig", WorldFault::Device, 6, UNWRITTEN, 1)?);
+    assert!(rt; fails_to_sign(&rt, "text.sig", WorldFault::OutOfMemory, 6, UNWRITTEN, 1)?);
     Ok(())
 }
 
@@ -164,7 +165,7 @@ fn leaves_a_state(
     let mut world = MemoryWorld::new(rt.alloc());
     world.fail("key.pub", fault)?;
     let failed = fails_with(rt, &keygen_one(), &mut world, status, line);
-    Ok(failed && is_at(&world, &ONE, 0)?)
+    Ok(failed && is_with(&world, &ONE, 0, 0, 0))
 }
 
 /// A public key that can't be written leaves the state.
@@ -181,11 +182,11 @@ fn cannot_print(rt: HostRuntime) -> Result<(), Fail> {
     let mut world = MemoryWorld::new(rt.alloc());
     world.write("text", b"abc")?;
     assert!(rt; is_unprinted(&rt, &keygen_one(), &mut world, &mut Closed));
-    assert!(rt; is_at(&world, &ONE, 0)?);
+    assert!(rt; is_with(&world, &ONE, 0, 0, 0));
     assert!(rt; is_unprinted(&rt, &sign_text(), &mut world, &mut Closed));
-    assert!(rt; is_at(&world, &ONE, 1)?);
+    assert!(rt; is_with(&world, &ONE, 1, 1, 0));
     assert!(rt; says(&rt, &VERIFY, &mut world, 0, "valid\n"));
     assert!(rt; is_unprinted(&rt, &INFO, &mut world, &mut Closed));
-    assert!(rt; is_at(&world, &ONE, 1)?);
+    assert!(rt; is_with(&world, &ONE, 1, 1, 0));
     Ok(())
 }

@@ -1,6 +1,6 @@
 //! Commands to which memory is refused once, where it is.
 use super::state::{CHEAP, ID, INFO, SEED, keygen, sign_text};
-use super::states::is_at;
+use super::states::is_with;
 use super::{Ended, VERIFY, end_of};
 use lms_world::{MemoryWorld, World};
 use std::alloc::Global;
@@ -8,10 +8,10 @@ use std::sync::Wait;
 use std::test::Fail;
 use std::thread::Threads;
 
-/// How many indices of the key are used.
+/// How many indices of the key are used, each by an opening of its own.
 fn used(world: &MemoryWorld) -> Result<u64, Fail> {
     for counter in 0..4 {
-        if is_at(world, &CHEAP, counter)? {
+        if is_with(world, &CHEAP, counter, counter, 0) {
             return Ok(counter);
         }
     }
@@ -20,7 +20,7 @@ fn used(world: &MemoryWorld) -> Result<u64, Fail> {
 
 /// How many indices a `sign` that ended so may have used.
 fn uses(end: &Ended) -> Option<u64> {
-    match (end.status, end.errors.as_str()) {
+    match (end.status, end.errors()) {
         (0, "") => Some(1),
         (5, "error: out of memory\n") => Some(0),
         (5, "error: out of memory: 1 burnt\n") => Some(1),
@@ -35,9 +35,9 @@ fn signs(
     world: &mut MemoryWorld,
 ) -> Result<bool, Fail> {
     let before = used(world)?;
-    let first = end_of(rt, &sign_text(), world)?;
+    let first = end_of(rt, &sign_text(), world);
     let between = used(world)?;
-    let second = end_of(rt, &sign_text(), world)?;
+    let second = end_of(rt, &sign_text(), world);
     let after = used(world)?;
     Ok(
         uses(&first) == between.checked_sub(before)
@@ -47,25 +47,22 @@ fn signs(
 }
 
 /// Makes a key, at the second try where memory was refused at the first, unless the first try made its state.
-fn makes_a_key(
-    rt: &(impl Threads + Wait + AllocGlobal + Sync),
-    world: &mut MemoryWorld,
-) -> Result<bool, Fail> {
+fn makes_a_key(rt: &(impl Threads + Wait + AllocGlobal + Sync), world: &mut MemoryWorld) -> bool {
     let words = keygen("5/2", SEED, ID);
-    let first = end_of(rt, &words, world)?;
-    Ok(match (first.status, first.errors.as_str()) {
+    let first = end_of(rt, &words, world);
+    match (first.status, first.errors()) {
         (0, "") | (6, "error: cannot write output\n") => true,
         (5, "error: out of memory\n") => {
-            let made = is_at(world, &CHEAP, 0)?;
-            end_of(rt, &words, world)?.status == if made { 3 } else { 0 }
+            let made = is_with(world, &CHEAP, 0, 0, 0);
+            end_of(rt, &words, world).status == if made { 3 } else { 0 }
         }
         _ => false,
-    })
+    }
 }
 
 /// Whether a command that changes nothing ended with this status, or as one that was refused memory.
 fn ends_or_is_refused(end: &Ended, status: u8) -> bool {
-    match (end.status, end.errors.as_str()) {
+    match (end.status, end.errors()) {
         (5, "error: out of memory\n") | (6, "error: cannot write output\n") => true,
         (ended, _) => ended == status,
     }
@@ -77,14 +74,12 @@ fn ends_once(
     words: &[&str],
     world: &mut MemoryWorld,
     status: u8,
-) -> Result<bool, Fail> {
-    let first = end_of(rt, words, world)?;
-    let second = end_of(rt, words, world)?;
-    Ok(
-        ends_or_is_refused(&first, status)
-            && ends_or_is_refused(&second, status)
-            && (first.status == status || second.status == status),
-    )
+) -> bool {
+    let first = end_of(rt, words, world);
+    let second = end_of(rt, words, world);
+    ends_or_is_refused(&first, status)
+        && ends_or_is_refused(&second, status)
+        && (first.status == status || second.status == status)
 }
 
 /// Whether the public key was written.
@@ -111,12 +106,12 @@ fn verified(alloc: Global, world: &MemoryWorld) -> u8 {
 #[test]
 fn refused_memory_is_said(rt: HostRuntime) -> Result<(), Fail> {
     let mut world = with_text(rt.alloc())?;
-    assert!(rt; makes_a_key(&rt, &mut world)?);
+    assert!(rt; makes_a_key(&rt, &mut world));
     assert!(rt; signs(&rt, &mut world)?);
     let before = used(&world)?;
-    assert!(rt; ends_once(&rt, &INFO, &mut world, 0)?);
+    assert!(rt; ends_once(&rt, &INFO, &mut world, 0));
     let status = verified(rt.alloc(), &world);
-    assert!(rt; ends_once(&rt, &VERIFY, &mut world, status)?);
+    assert!(rt; ends_once(&rt, &VERIFY, &mut world, status));
     assert!(rt; used(&world)? == before);
     Ok(())
 }

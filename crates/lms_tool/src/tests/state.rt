@@ -1,8 +1,7 @@
 ghost use Rattle.std.specs.Prelude.{◌≡◌, ◌<◌};
 
 use super::states::{
-    first_state, has_text, image_of, is_at, is_with, keyed, keyed_with, stated, store_of,
-    turned_state,
+    first_state, has_text, image_of, is_with, keyed, keyed_with, stated, store_of, turned_state,
 };
 use super::{VERIFY, fails_with, says};
 use lms_params::{LmsType, OtsType};
@@ -96,10 +95,10 @@ fn makes_a_key_and_signs(rt: HostRuntime) -> Result<(), Fail> {
     let mut world = MemoryWorld::new(rt.alloc());
     world.write("text", b"abc")?;
     assert!(rt; makes_a_key(&rt, &mut world)?);
-    assert!(rt; is_with(&world, &ONE, 0, 0, 0)?);
+    assert!(rt; is_with(&world, &ONE, 0, 0, 0));
     assert!(rt; says(&rt, &sign_text(), &mut world, 0, "index 0\n"));
     assert!(rt; says(&rt, &VERIFY, &mut world, 0, "valid\n"));
-    assert!(rt; is_with(&world, &ONE, 1, 1, 0)?);
+    assert!(rt; is_with(&world, &ONE, 1, 1, 0));
     let lines = "levels 5/8\ncounter 1\ncapacity 32\nleft 31\nopenings 1\nburnt 0\n";
     assert!(rt; says(&rt, &INFO, &mut world, 0, lines));
     assert!(rt; says(&rt, &sign_text(), &mut world, 0, "index 1\n"));
@@ -111,7 +110,7 @@ fn describes_two_levels(rt: HostRuntime) -> Result<(), Fail> {
     let mut world = keyed_with(rt.alloc(), &TWO, 12, 2, 3)?;
     let lines = "levels 5/8,5/8\ncounter 12\ncapacity 1024\nleft 1012\nopenings 2\nburnt 3\n";
     assert!(rt; says(&rt, &INFO, &mut world, 0, lines));
-    assert!(rt; is_with(&world, &TWO, 12, 2, 3)?);
+    assert!(rt; is_with(&world, &TWO, 12, 2, 3));
     Ok(())
 }
 
@@ -149,7 +148,7 @@ fn signs_as_the_slow_signer(rt: HostRuntime) -> Result<(), Fail> {
     let mut world = keyed(rt.alloc(), &TWO, 30)?;
     for g in 30..34 {
         assert!(rt; signs_slowly(&rt, &mut world, g)?, "{g}");
-        assert!(rt; is_at(&world, &TWO, g + 1)?, "{g}");
+        assert!(rt; is_with(&world, &TWO, g + 1, g - 29, 0), "{g}");
     }
     Ok(())
 }
@@ -200,7 +199,7 @@ fn refuses_a_bad_random(rt: HostRuntime) -> Result<(), Fail> {
     let mut world = keyed(rt.alloc(), &ONE, 5)?;
     let words = sign("33", "none");
     assert!(rt; fails_with(&rt, &words, &mut world, 2, "error: bad random\n"));
-    assert!(rt; is_at(&world, &ONE, 5)?);
+    assert!(rt; is_with(&world, &ONE, 5, 0, 0));
     Ok(())
 }
 
@@ -210,7 +209,7 @@ fn keeps_a_state_that_exists(rt: HostRuntime) -> Result<(), Fail> {
     world.write("key.pub", b"as it was")?;
     let words = keygen("5/8,5/8", SEED, ID);
     assert!(rt; fails_with(&rt, &words, &mut world, 3, "error: state exists\n"));
-    assert!(rt; is_at(&world, &ONE, 5)?);
+    assert!(rt; is_with(&world, &ONE, 5, 0, 0));
     let public = world.read(rt.alloc(), "key.pub")?;
     assert!(rt; public.as_slice() == b"as it was".as_slice());
     Ok(())
@@ -227,7 +226,7 @@ fn in_use(alloc: Global) -> Result<MemoryWorld, Fail> {
 fn is_left(rt: &(impl Threads + Wait + AllocGlobal + Sync), words: &[&str]) -> Result<bool, Fail> {
     let mut world = in_use(rt.alloc())?;
     let left = fails_with(rt, words, &mut world, 3, "error: state in use\n");
-    Ok(left && is_at(&world, &ONE, 5)?)
+    Ok(left && is_with(&world, &ONE, 5, 0, 0))
 }
 
 /// A state that another program has is not read.

@@ -1,7 +1,7 @@
 //! States of keys, and worlds that have them.
 use lms_book::MemoryStore;
 use lms_hss::{HssKey, Levels};
-use lms_image::{Image, decode_image, encode_image};
+use lms_image::{Image, ImageBytes, encode_image};
 use lms_params::{LmsType, OtsType};
 use lms_world::{MemoryWorld, World};
 use std::alloc::Global;
@@ -30,26 +30,18 @@ pub(super) fn turned_state(alloc: Global) -> Result<Vec<u8>, Fail> {
     Ok(hex::decode(alloc, TURNED_STATE)?)
 }
 
-/// The key of these levels.
-fn key_of(levels: &[(LmsType, OtsType)]) -> Result<HssKey, Fail> {
-    let levels = Levels::new(levels)
-        .ok()
-        .ok_or("the signer takes the levels")?;
-    Ok(HssKey::new(levels, [0x11; 32], [0x22; 16]))
-}
-
-/// The text of the state with these levels and these numbers.
-pub(super) fn image_with(
+/// The text of the state with these levels and these numbers. `None` where there is no such state.
+fn image_with(
     levels: &[(LmsType, OtsType)],
     counter: u64,
     openings: u64,
     burnt: u64,
-) -> Result<lms_image::ImageBytes, Fail> {
-    let key = key_of(levels)?;
+) -> Option<ImageBytes> {
+    let key = HssKey::new(Levels::new(levels).ok()?, [0x11; 32], [0x22; 16]);
     if counter > key.capacity() || openings > counter || burnt > counter {
-        return Err(Fail::from("numbers past the counter or the capacity"));
+        return None;
     }
-    Ok(encode_image(&Image {
+    Some(encode_image(&Image {
         key,
         counter,
         openings,
@@ -58,11 +50,8 @@ pub(super) fn image_with(
 }
 
 /// The text of the state with these levels and this counter, with no opening counted and no index lost.
-pub(super) fn image_of(
-    levels: &[(LmsType, OtsType)],
-    counter: u64,
-) -> Result<lms_image::ImageBytes, Fail> {
-    image_with(levels, counter, 0, 0)
+pub(super) fn image_of(levels: &[(LmsType, OtsType)], counter: u64) -> Result<ImageBytes, Fail> {
+    Ok(image_with(levels, counter, 0, 0).ok_or("a state with this counter")?)
 }
 
 pub(super) fn store_of(alloc: Global, text: Option<&[u8]>) -> Result<MemoryStore, Fail> {
@@ -113,10 +102,8 @@ pub(super) fn keyed_with(
     openings: u64,
     burnt: u64,
 ) -> Result<MemoryWorld, Fail> {
-    stated(
-        alloc,
-        image_with(levels, counter, openings, burnt)?.as_slice(),
-    )
+    let image = image_with(levels, counter, openings, burnt).ok_or("a state with these numbers")?;
+    stated(alloc, image.as_slice())
 }
 
 /// Whether the state has this text.
@@ -134,25 +121,9 @@ pub(super) fn is_with(
     counter: u64,
     openings: u64,
     burnt: u64,
-) -> Result<bool, Fail> {
-    Ok(has_text(
-        world,
-        image_with(levels, counter, openings, burnt)?.as_slice(),
-    ))
-}
-
-/// Whether the state is one with these levels and this counter, whatever else it counts.
-pub(super) fn is_at(
-    world: &MemoryWorld,
-    levels: &[(LmsType, OtsType)],
-    counter: u64,
-) -> Result<bool, Fail> {
-    let key = key_of(levels)?;
-    let Some(store) = world.state() else {
-        return Ok(false);
-    };
-    Ok(match decode_image(store.text().unwrap_or(&[])) {
-        Ok(image) => image.key == key && image.counter == counter,
-        Err(_) => false,
-    })
+) -> bool {
+    match image_with(levels, counter, openings, burnt) {
+        Some(image) => has_text(world, image.as_slice()),
+        None => false,
+    }
 }

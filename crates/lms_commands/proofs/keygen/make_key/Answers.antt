@@ -1,9 +1,10 @@
-use Rattle.std.proofs.Common.{subst, codes, List, ℕ, ◌≡◌, ◌⊎◌}
+use Rattle.std.proofs.Common.{subst, ⊎_elim, codes, List, ℕ, ◌≡◌, ◌⊎◌}
 use Rattle.std.specs.Prelude.{IfErr}
 use Rattle.std.specs.Io.KnownBytes.{Appends}
 use Rattle.std.proofs.lemmas.Result.{IfErr-weaker}
 use Rattle.lms_commands.specs.Descriptions.{number_line}
 use Rattle.lms_world.specs.Known.{IsPrintedLast}
+use Rattle.lms_commands.specs.Faults.{IsBeforeFiles}
 use Rattle.lms_commands.specs.declared.fault.Fault.TheVariants.{OutOfMemory, Output}
 use Rattle.lms_commands.proofs.Failing.{both_ok, not_published}
 use Rattle.lms_commands.proofs.keygen.make_key.Goals as goal
@@ -35,3 +36,8 @@ returns-clause-failed g c =
     IfErr-weaker c.publish.result _ _
     (not_published old stored new c.args.key c.args.state.now c.args.public.now before after (c.exists.ensures.missing c.if-exists.false _ c.in_ok-lock.ensures.locked)
     (c.in_ok-store_key.ensures.stored _ c.in_ok-lock.ensures.locked) (c.publish.ensures.states c.args.state.now)) failed
+
+pub returns-clause-unwritten : goal.returns-clause-unwritten
+returns-clause-unwritten g c = IfErr-weaker c.publish.result _ _
+    (λ fault failed before. ⊎_elim (λ is. absurd (subst IsBeforeFiles is before)) (λ both. absurd (subst IsBeforeFiles both.0 before)) failed)
+    c.publish.ensures.failed

@@ -44,3 +44,6 @@ returns-clause-failed g c =
 
 pub returns-clause-silent : goal.returns-clause-silent
 returns-clause-silent g c = IfErr-weaker c.deliver.result _ _ (λ fault failed other. absurd (other failed.0)) c.deliver.ensures.failed
+
+pub returns-clause-unwritten : goal.returns-clause-unwritten
+returns-clause-unwritten g c = IfErr-weaker c.deliver.result _ _ (λ fault failed other. absurd (other failed.0)) c.deliver.ensures.failed

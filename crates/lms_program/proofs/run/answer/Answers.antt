@@ -1,7 +1,7 @@
 use Rattle.std.proofs.Common.{ap, inl, inr, map, ⊎_elim}
 use Rattle.std.proofs.lemmas.Result.{IfOk-weaker}
 use Rattle.lms_program.specs.Runs.{moment}
-use Rattle.lms_program.proofs.Ending.{both_err, command_ends, command_fails}
+use Rattle.lms_program.proofs.Ending.{both_err, command_ends, command_fails, kept_before_files}
 use Rattle.lms_program.proofs.run.answer.Goals as goal
 
 pub returns-in-Ok-clause-ends : goal.returns-in-Ok-clause-ends
@@ -27,3 +27,6 @@ returns-in-Ok-clause-files g c =
 pub returns-in-Ok-clause-unread : goal.returns-in-Ok-clause-unread
 returns-in-Ok-clause-unread g c =
     ⊎_elim inl (λ reads. inr (c.in-Ok.command, (c.in-Ok.ensures.reads, c.in-Ok.ensures.faults), reads)) c.obey.ensures.unread
+
+pub returns-in-Ok-clause-unwritten : goal.returns-in-Ok-clause-unwritten
+returns-in-Ok-clause-unwritten g c = kept_before_files _ _ c.in-Ok.command c.obey.result _ c.obey.ensures.done c.obey.ensures.unwritten

@@ -1,6 +1,7 @@
 use Rattle.std.proofs.Common.{inl, inr}
 use Rattle.clap.proofs.TakesLemmas.{passed_up}
 use Rattle.lms_commands.proofs.Failing.{stays_same}
+use Rattle.lms_program.proofs.Ending.{not_output}
 use Rattle.lms_program.proofs.run.obey.Goals as goal
 
 pub returns-in_err-key-in-Keygen-clause-failed : goal.returns-in_err-key-in-Keygen-clause-failed
@@ -18,3 +19,12 @@ pub returns-in_err-sign_jobs-in-Batch-clause-failed : goal.returns-in_err-sign_j
 returns-in_err-sign_jobs-in-Batch-clause-failed g c =
     let failed = rw (c.deref-in-Batch.ensures, c.deref-in-Batch-2.ensures) at c.in_err-sign_jobs-in-Batch.ensures.failed in
     rw c.in-Batch.is (passed_up _ _ _ c.from_residual-in_err-sign_jobs-in-Batch.ensures.1 failed)
+
+pub returns-in_err-sign_file-in-Sign-clause-unwritten : goal.returns-in_err-sign_file-in-Sign-clause-unwritten
+returns-in_err-sign_file-in-Sign-clause-unwritten g c =
+    passed_up _ _ _ c.from_residual-in_err-sign_file-in-Sign.ensures.1 (λ before. c.in_err-sign_file-in-Sign.ensures.unwritten (not_output _ before))
+
+pub returns-in_ok-sign_file-in-Sign-clause-others : goal.returns-in_ok-sign_file-in-Sign-clause-others
+returns-in_ok-sign_file-in-Sign-clause-others g c =
+    let files = rw (c.deref-in-Sign-4.ensures) at c.in_ok-sign_file-in-Sign.ensures.files in
+    rw c.in-Sign.is files

@@ -1,5 +1,5 @@
 use Rattle.std.proofs.Common.{◌++◌, take}
-use Rattle.lms_world.proofs.Consumed.{consumes-both}
+use Rattle.lms_blocks.proofs.Consumed.{consumes-both}
 use Rattle.lms_world.proofs.disk.hand_blocks.Goals as goal
 
 pub loop-turn-preserved : goal.loop-turn-preserved
