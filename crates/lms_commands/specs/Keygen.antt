@@ -11,7 +11,7 @@ use Rattle.lms_hss.specs.Levels.{IsAdmitted, JudgesLevels}
 use Rattle.lms_hss.specs.declared.key.HssKey.{HssKey as KeyOfCode}
 use Rattle.lms_hss.specs.declared.levels.KeyFault.{KeyFault}
 use Rattle.lms_hss.specs.declared.levels.KeyFault.TheVariants as refused
-use Rattle.lms_image.specs.Image.{image_of}
+use Rattle.lms_image.specs.Image.{id_size, image_of, seed_size}
 use Rattle.lms_commands.specs.Descriptions.{number_line}
 use Rattle.lms_world.specs.Known.{IsOldOr, IsPrintedLast, Known, MayExist, Stays, Text}
 use Rattle.lms_commands.specs.Options.{IsLevelsText}
@@ -25,8 +25,8 @@ IsHexOf n text = (bytes : List ℕ) × (length bytes ≡ n) × (decode_of text �
 -- the signer takes the key's levels, its seed has 32 bytes and its identifier 16
 pub record IsTaken (key : KeyOfCode) : Type 0 where
   pub admitted : IsAdmitted key.levels
-  pub seed_length : length key.seed ≡ 32
-  pub id_length : length key.i ≡ 16
+  pub seed_length : length key.seed ≡ seed_size
+  pub id_length : length key.i ≡ id_size
 
 -- the texts are those of a key's levels, seed and identifier, and the signer takes the key
 pub record IsKeyOf (levels seed id : Text) (key : KeyOfCode) : Type 0 where
@@ -48,8 +48,8 @@ abbrev pub IsNoKey : Text → Text → Text → Fault → Type 0
 IsNoKey levels seed id BadLevels = (pairs : List (LmsType × OtsType)) → ¬ IsLevelsText levels pairs
 IsNoKey levels seed id TooManyLevels = AreRefused levels refused.TooManyLevels
 IsNoKey levels seed id TooTall = AreRefused levels refused.TooTall
-IsNoKey levels seed id BadSeed = AreTaken levels × ¬ IsHexOf 32 seed
-IsNoKey levels seed id BadId = AreTaken levels × IsHexOf 32 seed × ¬ IsHexOf 16 id
+IsNoKey levels seed id BadSeed = AreTaken levels × ¬ IsHexOf seed_size seed
+IsNoKey levels seed id BadId = AreTaken levels × IsHexOf seed_size seed × ¬ IsHexOf id_size id
 IsNoKey levels seed id OutOfMemory = Unit {0}
 IsNoKey levels seed id _ = ⊥
 

@@ -2,6 +2,7 @@
 use Rattle.std.specs.Prelude.{ℕ, zero, suc, ◌≡◌, ◌⊎◌, ◌+◌, ◌-◌, ◌<◌, ◌≤◌, List, ◌++◌, [], ◌∷◌, length, Ok, Err, Some, Option, codes}
 use Rattle.std.specs.Io.KnownBytes.{Appends}
 use Rattle.hex.specs.Hex.{decode_of}
+use Rattle.lms_spec.specs.HashLength.{hash_length}
 use Rattle.lms_spec.specs.Hss.{capacity_of, HssAccepts}
 use Rattle.lms_spec.specs.Profile.{hss_public_key, hss_signature}
 use Rattle.lms_hss.specs.Keys.{hss_key_of}
@@ -121,7 +122,7 @@ pub record SignsMessage (old new : Known) (state random message : Text) : Type 0
   pub text : List ℕ
   pub signature : List ℕ
   pub index : ℕ
-  pub randomizer_read : (length randomizer ≡ 32) × (decode_of random ≡ Ok randomizer)
+  pub randomizer_read : (length randomizer ≡ hash_length) × (decode_of random ≡ Ok randomizer)
   pub text_may_be_given : old.may_give message text
   pub signed : SignsNext old new state randomizer text signature index
 
@@ -142,12 +143,12 @@ LacksMemory old new state message = (old.may_refuse message world.OutOfMemory �
 
 -- why no message was signed, in the order in which it is found; where only the output failed, an index is used
 abbrev pub FailsToSign : Known → Known → Text → Text → Text → Text → Option (List ℕ) → Option (List ℕ) → Fault → Type 0
-FailsToSign old new state random message out before after BadRandom = (¬ IsHexOf 32 random) × Stays old new state
+FailsToSign old new state random message out before after BadRandom = (¬ IsHexOf hash_length random) × Stays old new state
 FailsToSign old new state random message out before after Input =
-    IsHexOf 32 random × old.may_refuse message world.Device × Stays old new state
+    IsHexOf hash_length random × old.may_refuse message world.Device × Stays old new state
 FailsToSign old new state random message out before after StateInUse =
-    IsHexOf 32 random × MayBeRead old message × old.may_be_in_use state × Stays old new state
-FailsToSign old new state random message out before after OutOfMemory = IsHexOf 32 random × LacksMemory old new state message
+    IsHexOf hash_length random × MayBeRead old message × old.may_be_in_use state × Stays old new state
+FailsToSign old new state random message out before after OutOfMemory = IsHexOf hash_length random × LacksMemory old new state message
 FailsToSign old new state random message out before after Output = SignsInVain old new state random message out before after
 FailsToSign old new state random message out before after fault =
-    IsHexOf 32 random × MayBeRead old message × FailsToSignNext old new state fault
+    IsHexOf hash_length random × MayBeRead old message × FailsToSignNext old new state fault

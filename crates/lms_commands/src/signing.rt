@@ -2,6 +2,7 @@
 ghost use Rattle.std.specs.Prelude.{◌≡◌, ◌≢◌, ◌⊎◌, ◌+◌, ℕ, List, IfErr, IfOk, Ok, OnOk, codes, length};
 ghost use Rattle.std.specs.Io.KnownBytes.{Appends};
 ghost use Rattle.hex.specs.Hex.{decode_of};
+ghost use Rattle.lms_spec.specs.HashLength.{hash_length};
 ghost use Rattle.lms_spec.specs.Hss.{HssAccepts};
 ghost use Rattle.lms_spec.specs.Profile.{hss_signature, hss_public_key};
 ghost use Rattle.lms_hss.specs.Keys.{hss_key_of};
@@ -98,8 +99,8 @@ pub fn sign_file<W: World, O: Write>(
 
 /// The randomizer of a text of 64 hexadecimal digits, else `BadRandom`.
 fn randomizer_from(text: &str) -> Result<[u8; 32], Fault>
-    ensures read { IfOk result (λ c. (length c ≡ 32) × (decode_of text.now ≡ Ok c)) }
-    ensures refused { IfErr result (λ fault. (fault ≡ Fault.BadRandom) × ¬ IsHexOf 32 text.now) }
+    ensures read { IfOk result (λ c. (length c ≡ hash_length) × (decode_of text.now ≡ Ok c)) }
+    ensures refused { IfErr result (λ fault. (fault ≡ Fault.BadRandom) × ¬ IsHexOf hash_length text.now) }
 {
     match read_bytes(text) {
         Some(c) => Ok(c),

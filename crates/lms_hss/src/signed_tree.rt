@@ -1,5 +1,6 @@
 //! A tree of a hierarchy, with what the levels above it sign.
 ghost use Rattle.std.specs.Prelude.{ℕ, ◌≡◌, ◌+◌, ◌≤◌, ◌++◌, length, IfOk};
+ghost use Rattle.lms_spec.specs.Parameters.{lms_public_key_length};
 ghost use Rattle.lms_spec.specs.Tree.{lms_signature};
 ghost use Rattle.lms_spec.specs.Hss.{level};
 ghost use Rattle.lms_spec.specs.Profile.{hss_public_key, leaf_at, tree_at};
@@ -111,7 +112,7 @@ impl SignedTree {
     fn sign_key_into(&self, q: u32, c: &[u8; 32], public: &[u8; LMS_KEY_LEN], out: &mut [u8])
         requires from { self.now.tree.first ≤ q }
         requires to { q ≤ self.now.tree.last }
-        requires room { length out.old ≡ length self.now.head.items + signature_length_under self.now.tree.key + 56 }
+        requires room { length out.old ≡ length self.now.head.items + signature_length_under self.now.tree.key + lms_public_key_length }
         ensures { out.new ≡ self.now.head.items ++ lms_signature (tree_of self.now.tree.key) q c.now public.now ++ public.now }
     {
         let signed = out.len() - LMS_KEY_LEN;

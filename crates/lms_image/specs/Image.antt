@@ -7,6 +7,7 @@ use Rattle.std.specs.Str.{bytes_eq}
 use Rattle.std.specs.Int.{w64, to_be_bytes}
 use Rattle.std.specs.Simd.{first_chunks}
 use Rattle.sha2.specs.Sha256.{sha256}
+use Rattle.lms_spec.specs.HashLength.{hash_length}
 use Rattle.lms_spec.specs.Parameters.{ots_set, lms_set}
 use Rattle.lms_spec.specs.Bytes.{u32str, number_of}
 use Rattle.lms_spec.specs.Hss.{capacity_of, most_levels}
@@ -54,7 +55,7 @@ abbrev pub level_size : ℕ
 level_size = 2 * code_size
 
 abbrev pub seed_size : ℕ
-seed_size = 32
+seed_size = hash_length
 
 abbrev pub id_size : ℕ
 id_size = 16

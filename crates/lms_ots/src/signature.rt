@@ -3,7 +3,7 @@ ghost use Rattle.std.specs.Prelude.{ℕ, ◌≡◌, ◌+◌, ◌<◌, ◌≤◌,
 ghost use Rattle.sha2.specs.Hashers.{Holds256};
 ghost use Rattle.lms_spec.specs.Bytes.{u16str, u32str};
 ghost use Rattle.lms_spec.specs.Hashing.{place, d_mesg};
-ghost use Rattle.lms_spec.specs.Parameters.{ots_signature_length};
+ghost use Rattle.lms_spec.specs.Parameters.{most_chains, ots_signature_length};
 ghost use Rattle.lms_spec.specs.Ots.{public_hash as public_hash_of, message_hash as message_hash_of, ots_signature, IsOtsSignature, LeadsTo};
 ghost use Rattle.lms_params.specs.OtsType.{ots_set_of};
 
@@ -43,7 +43,7 @@ pub fn sign_into(t: OtsType, seed: &[u8; 32], id: OtsId, c: &[u8; 32], msg: &[u8
 
 /// How many hashes lead from the seed to each digit: one makes the secret.
 fn hashes_to(digits: &[u8; 265]) -> [u16; 265]
-    ensures { (i : ℕ) → i < 265 → slice_index result i ≡ slice_index digits.now i + 1 }
+    ensures { (i : ℕ) → i < most_chains → slice_index result i ≡ slice_index digits.now i + 1 }
 {
     let mut hashes = [0; 265];
     'chains: for i in 0..265 {

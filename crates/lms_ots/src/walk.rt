@@ -1,6 +1,7 @@
 //! All chains of a key, each from its start to its end, those with most hashes first, so that few lanes wait for others.
 ghost use Rattle.std.specs.Prelude.{◌≡◌, ℕ, ◌+◌, ◌-◌, ◌%◌, ◌<◌, ◌≤◌, List, [], ◌++◌, length, min, slice_index, slice_index_or};
 ghost use Rattle.lms_lanes.specs.Chains.{walked};
+ghost use Rattle.lms_spec.specs.Parameters.{most_chains};
 ghost use Rattle.lms_spec.specs.Bytes.{u16str};
 ghost use Rattle.lms_spec.specs.Hashing.{place};
 ghost use Rattle.lms_params.specs.OtsType.{ots_set_of};
@@ -66,7 +67,7 @@ fn walk_some(
     steps: &[u16; 265],
     starts: &[[u8; 32]],
 ) -> [[u8; 32]; 8]
-    requires within { (k : ℕ) → k < 8 → slice_index chains.now k < 265 }
+    requires within { (k : ℕ) → k < 8 → slice_index chains.now k < most_chains }
     requires started { 0 < length starts.now }
     ensures { (k : ℕ) → k < 8 → slice_index_or result k []
         ≡ walked (place id.i id.q ++ u16str (slice_index chains.now k)) (slice_index firsts.now (slice_index chains.now k))
@@ -86,7 +87,7 @@ fn walk_some(
 
 /// Puts the values of eight chains into their places.
 fn put(ends: &mut [[u8; 32]; 265], chains: &[u16; 8], values: &[[u8; 32]; 8])
-    requires { (k : ℕ) → k < 8 → slice_index chains.now k < 265 }
+    requires { (k : ℕ) → k < 8 → slice_index chains.now k < most_chains }
     ensures stay { (f : ℕ → List ℕ) → ((k : ℕ) → k < 8 → slice_index_or values.now k [] ≡ f (slice_index chains.now k))
         → (i : ℕ) → slice_index_or ends.old i [] ≡ f i → slice_index_or ends.new i [] ≡ f i }
     ensures come { (f : ℕ → List ℕ) → ((k : ℕ) → k < 8 → slice_index_or values.now k [] ≡ f (slice_index chains.now k))

@@ -70,8 +70,8 @@ hash_digits W2 = refl
 hash_digits W4 = refl
 hash_digits W8 = refl
 
-pub most_chains : (t : OtsType) → (ots_set_of t).p ≤ 265
-most_chains W1 = lit≤ tt
-most_chains W2 = lit≤ tt
-most_chains W4 = lit≤ tt
-most_chains W8 = lit≤ tt
+pub chains_limited : (t : OtsType) → (ots_set_of t).p ≤ 265
+chains_limited W1 = lit≤ tt
+chains_limited W2 = lit≤ tt
+chains_limited W4 = lit≤ tt
+chains_limited W8 = lit≤ tt

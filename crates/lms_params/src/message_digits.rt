@@ -1,5 +1,7 @@
 //! Digits and the checksum (RFC 8554, 3.1.3 and 4.4).
 ghost use Rattle.std.specs.Prelude.{◌≡◌, ◌+◌, ◌-◌, ◌*◌, ◌/◌, ◌%◌, ◌^◌, ◌<◌, ◌≤◌, ◌++◌, length, replicate};
+ghost use Rattle.lms_spec.specs.HashLength.{hash_length};
+ghost use Rattle.lms_spec.specs.Parameters.{most_chains};
 ghost use Rattle.lms_spec.specs.Bytes.{u16str};
 ghost use Rattle.lms_spec.specs.Digits.{digit as digit_of, checksum as checksum_of, digits_of};
 ghost use Rattle.lms_params.specs.OtsType.{ots_set_of};
@@ -10,7 +12,7 @@ use byteorder::{BigEndian, ByteOrder};
 /// The digits that a one-time signature of the hash `q` signs (RFC 8554, 4.4 and 4.5): first the `t.p()` digits of
 /// the hash and its checksum, each below 2^w, then zeros.
 pub fn digits(q: &[u8; 32], t: OtsType) -> [u8; 265]
-    ensures { result ≡ digits_of (ots_set_of t) q.now ++ replicate (265 - (ots_set_of t).p) 0 }
+    ensures { result ≡ digits_of (ots_set_of t) q.now ++ replicate (most_chains - (ots_set_of t).p) 0 }
 {
     let text = with_checksum(q, t);
     let mut digits = [0; 265];
@@ -45,7 +47,7 @@ fn checksum(q: &[u8; 32], t: OtsType) -> u16
 /// Digit i of a byte string, counted from its most significant bit (3.1.3).
 fn digit(bytes: &[u8], i: usize, t: OtsType) -> u8
     requires within { i < length bytes.now * (8 / (ots_set_of t).w) }
-    requires short { length bytes.now ≤ 34 }
+    requires short { length bytes.now ≤ hash_length + 2 }
     ensures { result ≡ digit_of bytes.now i (ots_set_of t).w }
 {
     let w = t.w() as usize;

@@ -9,8 +9,12 @@ use std::sync::Wait;
 use std::thread::Threads;
 use std::time::{Clock, CpuClock, Duration};
 
-/// How often each time of a batch is taken. The least counts, so one round with free processors is enough.
-const BATCH_ROUNDS: u32 = 20;
+/// In how many rounds each time of a batch is taken. The least counts, so one round with free processors is enough.
+const BATCH_ROUNDS: u32 = 10;
+
+/// How many batches are signed one after another in a round, and how often bare digests are made so: the processors that the first of
+/// them wakes are awake at the others.
+const IN_A_ROW: u32 = 4;
 
 /// How often lines are timed. The least counts.
 const LINE_ROUNDS: u32 = 5;
@@ -126,17 +130,39 @@ where
     R: AllocGlobal + Clock + CpuClock + Threads + Wait + Sync,
 {
     for (workers, least) in WORKERS.into_iter().zip(least) {
-        let signed = batches.sign(rt, workers)?;
+        for _ in 0..IN_A_ROW {
+            *least = least.least(time_batch(rt, batches, workers)?);
+        }
+        for _ in 0..IN_A_ROW {
+            let at_once = time_digests_at_once(rt, compressions, workers.count())?;
+            *least = least.least(Times {
+                at_once,
+                ..Times::NONE
+            });
+        }
+        let cover = batches.time_cover(rt)?;
+        let bare = time_digests(rt, compressions)?;
         *least = least.least(Times {
-            whole: signed.whole,
-            cover: batches.time_cover(rt)?,
-            signing: signed.signing,
-            processor: signed.processor,
-            bare: time_digests(rt, compressions)?,
-            at_once: time_digests_at_once(rt, compressions, workers.count())?,
+            cover,
+            bare,
+            ..Times::NONE
         });
     }
     Ok(())
+}
+
+/// The times of one batch.
+fn time_batch<R>(rt: &R, batches: &Batches, workers: Workers) -> Result<Times>
+where
+    R: AllocGlobal + Clock + CpuClock + Threads + Wait + Sync,
+{
+    let signed = batches.sign(rt, workers)?;
+    Ok(Times {
+        whole: signed.whole,
+        signing: signed.signing,
+        processor: signed.processor,
+        ..Times::NONE
+    })
 }
 
 fn print_times(rt: &impl Print, one: Times, times: Times) -> Result<()> {
@@ -153,31 +179,31 @@ fn print_times(rt: &impl Print, one: Times, times: Times) -> Result<()> {
 }
 
 /// Prints how many bytes of job lines are read a second, and of answers written; then how much processor time both take beside
-/// that in which one worker signs the jobs, and beside that of the whole call, with the trees that it builds.
+/// that of signing the jobs by one worker, with the trees that it builds, and beside that of the signatures alone.
 fn measure_lines<R>(rt: &R) -> Result<()>
 where
     R: Print + AllocGlobal + Clock + CpuClock + Threads + Wait + Sync,
 {
     let mut lines = Lines::new(rt.alloc(), JOBS)?;
     let mut read = Duration::MAX;
-    let mut signing = Duration::MAX;
+    let mut signatures = Duration::MAX;
     let mut call = Duration::MAX;
     let mut write = Duration::MAX;
     for _ in 0..LINE_ROUNDS {
         let (jobs, time) = lines.jobs(rt)?;
         read = read.min(time);
         let signed = answered(rt, jobs)?;
-        signing = signing.min(signed.processor);
+        signatures = signatures.min(signed.processor);
         call = call.min(signed.whole_processor);
         write = write.min(lines.time_write(rt, &signed.batch)?);
     }
     let read_rate = f64::from(lines.bytes_read()) / 1e6 / read.as_secs_f64();
     let write_rate = f64::from(lines.bytes_written()) / 1e6 / write.as_secs_f64();
     let both = read.as_secs_f64() + write.as_secs_f64();
-    let of_signing = both / signing.as_secs_f64();
-    let of_call = both / call.as_secs_f64();
+    let of_signing = both / call.as_secs_f64();
+    let of_signatures = both / signatures.as_secs_f64();
     println!(rt;
-        "read_jobs: {read_rate:.1} MB/s, write_batch {ANSWERING}: {write_rate:.1} MB/s, {of_signing:.3} of the time of signing, {of_call:.3} of that of the call"
+        "read_jobs: {read_rate:.1} MB/s, write_batch {ANSWERING}: {write_rate:.1} MB/s, {of_signing:.3} of the time of sign_batch, {of_signatures:.3} of that of the signatures alone"
     )?;
     Ok(())
 }

@@ -2,7 +2,7 @@
 -- Level 0 is the top. Which trees, leaves and randomizers a key of this project signs with says `Profile`.
 use Rattle.std.specs.Prelude.{ℕ, zero, suc, ◌≡◌, ◌+◌, ◌-◌, ◌*◌, ◌^◌, ◌≤◌, List, ◌++◌, length, sum_by, slice_index_or, Some}
 use Rattle.std.specs.List.{concat}
-use Rattle.lms_spec.specs.Parameters.{OtsSet, LmsSet, ots_set, lms_set, lms_signature_length}
+use Rattle.lms_spec.specs.Parameters.{OtsSet, LmsSet, ots_set, lms_set, lms_signature_length, lms_public_key_length}
 use Rattle.lms_spec.specs.Bytes.{u32str}
 use Rattle.lms_spec.specs.Tree.{Tree, public_key_of, lms_signature, LmsAccepts}
 
@@ -43,7 +43,7 @@ capacity_of key = 2 ^ height_of key.levels
 
 -- the bytes of a signature under these levels (6.2)
 abbrev pub hss_signature_length : List Level → ℕ
-hss_signature_length levels = 4 + sum_by (λ l. lms_signature_length l.lms l.ots) levels + 56 * (length levels - 1)
+hss_signature_length levels = 4 + sum_by (λ l. lms_signature_length l.lms l.ots) levels + lms_public_key_length * (length levels - 1)
 
 -- the public key of so many levels below a top tree (6.1)
 abbrev pub public_key_over : ℕ → Tree → List ℕ

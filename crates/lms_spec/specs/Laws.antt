@@ -2,7 +2,8 @@
 use Rattle.std.specs.Prelude.{ℕ, suc, ◌≡◌, ◌+◌, ◌-◌, ◌*◌, ◌/◌, ◌%◌, ◌^◌, ◌<◌, ◌≤◌, List, ◌++◌, length, All, Some, slice_index, take, drop}
 use Rattle.std.specs.List.{concat}
 use Rattle.lms_spec.specs.Bytes.{number_of, u16str, u32str}
-use Rattle.lms_spec.specs.Parameters.{OtsSet, LmsSet, ots_set, lms_set, ots_signature_length, lms_signature_length}
+use Rattle.lms_spec.specs.HashLength.{hash_length}
+use Rattle.lms_spec.specs.Parameters.{OtsSet, LmsSet, ots_set, lms_set, ots_signature_length, lms_signature_length, lms_public_key_length}
 use Rattle.lms_spec.specs.Digits.{digit, checksum, digits_of}
 use Rattle.lms_spec.specs.Ots.{chain, public_hash, ots_signature, LeadsTo}
 use Rattle.lms_spec.specs.Tree.{Tree, leaf_hash, inner_hash, node, path_of, climb, lms_public_key, public_key_of, lms_signature, LmsAccepts}
@@ -44,7 +45,7 @@ DigitBits =
 -- what the checksum is for: where each digit of one hash, its checksum's too, is at most another's, the two hashes have the same digits
 abbrev pub ChecksumGuards : Type 0
 ChecksumGuards =
-    (t : OtsSet) (hash hash' : List ℕ) → ots_set t.code ≡ Some t → length hash ≡ 32 → length hash' ≡ 32
+    (t : OtsSet) (hash hash' : List ℕ) → ots_set t.code ≡ Some t → length hash ≡ hash_length → length hash' ≡ hash_length
     → ((i : ℕ) → i < t.p → slice_index (digits_of t hash) i ≤ slice_index (digits_of t hash') i)
     → (i : ℕ) → i < 256 / t.w → digit hash i t.w ≡ digit hash' i t.w
 
@@ -57,13 +58,13 @@ ChainsCompose =
 -- how long a one-time signature is
 abbrev pub OtsSignatureLength : Type 0
 OtsSignatureLength =
-    (t : OtsSet) (id seed : List ℕ) (q : ℕ) (randomizer message : List ℕ) → length randomizer ≡ 32
+    (t : OtsSet) (id seed : List ℕ) (q : ℕ) (randomizer message : List ℕ) → length randomizer ≡ hash_length
     → length (ots_signature t id seed q randomizer message) ≡ ots_signature_length t
 
 -- a one-time signature leads to the public hash of its key
 abbrev pub CandidateIsPublicHash : Type 0
 CandidateIsPublicHash =
-    (t : OtsSet) (id seed : List ℕ) (q : ℕ) (randomizer message : List ℕ) → length randomizer ≡ 32
+    (t : OtsSet) (id seed : List ℕ) (q : ℕ) (randomizer message : List ℕ) → length randomizer ≡ hash_length
     → LeadsTo t id q (ots_signature t id seed q randomizer message) message (public_hash t id seed q)
 
 -- a one-time signature leads to one candidate
@@ -92,12 +93,12 @@ ClimbReachesRoot =
 
 -- how long a tree's public key is
 abbrev pub LmsPublicKeyLength : Type 0
-LmsPublicKeyLength = (key : Tree) → length key.id ≡ 16 → length (public_key_of key) ≡ 56
+LmsPublicKeyLength = (key : Tree) → length key.id ≡ 16 → length (public_key_of key) ≡ lms_public_key_length
 
 -- how long a leaf's signature is
 abbrev pub LmsSignatureLength : Type 0
 LmsSignatureLength =
-    (key : Tree) (q : ℕ) (randomizer message : List ℕ) → length randomizer ≡ 32
+    (key : Tree) (q : ℕ) (randomizer message : List ℕ) → length randomizer ≡ hash_length
     → length (lms_signature key q randomizer message) ≡ lms_signature_length key.lms key.ots
 
 -- a leaf's signature is accepted under its tree's public key
@@ -105,20 +106,20 @@ abbrev pub LmsSignatureAccepted : Type 0
 LmsSignatureAccepted =
     (key : Tree) (q : ℕ) (randomizer message : List ℕ)
     → lms_set key.lms.code ≡ Some key.lms → ots_set key.ots.code ≡ Some key.ots → length key.id ≡ 16
-    → q < 2 ^ key.lms.h → length randomizer ≡ 32
+    → q < 2 ^ key.lms.h → length randomizer ≡ hash_length
     → LmsAccepts (public_key_of key) message (lms_signature key q randomizer message)
 
 -- how long an accepted signature and its key are
 abbrev pub AcceptedLengths : Type 0
 AcceptedLengths =
     (public_key message signature : List ℕ) (a : LmsAccepts public_key message signature)
-    → (length public_key ≡ 56) × (length signature ≡ lms_signature_length a.lms a.ots)
+    → (length public_key ≡ lms_public_key_length) × (length signature ≡ lms_signature_length a.lms a.ots)
 
 -- one parse of a key and a signature decides: if it is accepted at all, then this parse climbs to the root
 abbrev pub AcceptedByParts : Type 0
 AcceptedByParts =
     (m : LmsSet) (t : OtsSet) (id root : List ℕ) (q : ℕ) (ots_part : List ℕ) (path : List (List ℕ)) (message candidate : List ℕ)
-    → lms_set m.code ≡ Some m → ots_set t.code ≡ Some t → length id ≡ 16 → q < 2 ^ m.h → length path ≡ m.h → All (λ v. length v ≡ 32) path
+    → lms_set m.code ≡ Some m → ots_set t.code ≡ Some t → length id ≡ 16 → q < 2 ^ m.h → length path ≡ m.h → All (λ v. length v ≡ hash_length) path
     → LeadsTo t id q ots_part message candidate
     → LmsAccepts (lms_public_key m t id root) message (u32str q ++ ots_part ++ u32str m.code ++ concat path)
     → climb id (2 ^ m.h + q) (leaf_hash id (2 ^ m.h + q) candidate) path ≡ root
@@ -130,14 +131,14 @@ HssPublicKeyLength = (key : HssKey) → length key.id ≡ 16 → length (hss_pub
 -- how long a hierarchy's signature is
 abbrev pub HssSignatureLength : Type 0
 HssSignatureLength =
-    (key : HssKey) (g : ℕ) (randomizer message : List ℕ) → 1 ≤ length key.levels → length key.id ≡ 16 → length randomizer ≡ 32
+    (key : HssKey) (g : ℕ) (randomizer message : List ℕ) → 1 ≤ length key.levels → length key.id ≡ 16 → length randomizer ≡ hash_length
     → length (hss_signature key g randomizer message) ≡ hss_signature_length key.levels
 
 -- a signature by any index is accepted under the key's public key
 abbrev pub HssSignatureAccepted : Type 0
 HssSignatureAccepted =
     (key : HssKey) (g : ℕ) (randomizer message : List ℕ)
-    → 1 ≤ length key.levels → length key.levels ≤ most_levels → All HasKnownSets key.levels → length key.id ≡ 16 → length randomizer ≡ 32
+    → 1 ≤ length key.levels → length key.levels ≤ most_levels → All HasKnownSets key.levels → length key.id ≡ 16 → length randomizer ≡ hash_length
     → HssAccepts (hss_public_key key) message (hss_signature key g randomizer message)
 
 -- the parts of accepted signatures stand where the sets of the key above put them
@@ -146,8 +147,8 @@ ThroughParts =
     (count : ℕ) (m : LmsSet) (t : OtsSet) (id root message signatures : List ℕ)
     → lms_set m.code ≡ Some m → ots_set t.code ≡ Some t → length id ≡ 16
     → AcceptsThrough (suc count) (lms_public_key m t id root) message signatures
-    → LmsAccepts (lms_public_key m t id root) (take 56 (drop (lms_signature_length m t) signatures)) (take (lms_signature_length m t) signatures)
-    × AcceptsThrough count (take 56 (drop (lms_signature_length m t) signatures)) message (drop (lms_signature_length m t + 56) signatures)
+    → LmsAccepts (lms_public_key m t id root) (take lms_public_key_length (drop (lms_signature_length m t) signatures)) (take (lms_signature_length m t) signatures)
+    × AcceptsThrough count (take lms_public_key_length (drop (lms_signature_length m t) signatures)) message (drop (lms_signature_length m t + lms_public_key_length) signatures)
 
 -- what a level signs depends on the leaves that the index goes through down to it
 abbrev pub SameUpperText : Type 0

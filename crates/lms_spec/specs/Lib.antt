@@ -1,3 +1,4 @@
+pub mod HashLength
 pub mod Parameters
 pub mod Bytes
 pub mod Digits

@@ -3,6 +3,7 @@
 use Rattle.std.specs.Prelude.{ℕ, zero, suc, ◌≡◌, ◌+◌, ◌-◌, ◌^◌, List, [], ◌++◌, length, map, All, slice_index}
 use Rattle.std.specs.List.{concat, slice_index_or}
 use Rattle.sha2.specs.Sha256.{sha256}
+use Rattle.lms_spec.specs.HashLength.{hash_length}
 use Rattle.lms_spec.specs.Parameters.{OtsSet}
 use Rattle.lms_spec.specs.Digits.{digits_of}
 use Rattle.lms_spec.specs.Bytes.{below, u16str, u32str}
@@ -53,9 +54,9 @@ candidate_of t id q randomizer values message =
 
 -- the parts of a one-time signature (4.5)
 pub record IsOtsSignature (t : OtsSet) (randomizer : List ℕ) (values : List (List ℕ)) (signature : List ℕ) : Type 0 where
-  pub randomizer_length : length randomizer ≡ 32
+  pub randomizer_length : length randomizer ≡ hash_length
   pub values_count : length values ≡ t.p
-  pub value_lengths : All (λ v. length v ≡ 32) values
+  pub value_lengths : All (λ v. length v ≡ hash_length) values
   pub parts : signature ≡ u32str t.code ++ randomizer ++ concat values
 
 -- a signature that has a candidate, and that candidate (4.6)

@@ -1,5 +1,6 @@
 -- The parameter sets of RFC 8554 with SHA-256 and 32-byte hashes (4.1 table 1, 5.1 table 2).
 use Rattle.std.specs.Prelude.{ℕ, ◌+◌, ◌*◌, List, [], ◌∷◌, ◌==◌, find, Option}
+use Rattle.lms_spec.specs.HashLength.{hash_length}
 
 -- an LM-OTS set: its typecode, the Winternitz width w, the number of chains p, the checksum's shift ls
 pub record OtsSet : Type 0 where
@@ -49,6 +50,13 @@ ots_sets = ots_w1 ∷ ots_w2 ∷ ots_w4 ∷ ots_w8 ∷ []
 abbrev pub lms_sets : List LmsSet
 lms_sets = lms_h5 ∷ lms_h10 ∷ lms_h15 ∷ lms_h20 ∷ lms_h25 ∷ []
 
+-- the most chains of a one-time key, and the greatest height of a tree
+abbrev pub most_chains : ℕ
+most_chains = 265
+
+abbrev pub tallest_tree : ℕ
+tallest_tree = 25
+
 -- the set of a typecode, if it is known
 abbrev pub ots_set : ℕ → Option OtsSet
 ots_set c = find (λ t. t.code == c) ots_sets
@@ -56,9 +64,12 @@ ots_set c = find (λ t. t.code == c) ots_sets
 abbrev pub lms_set : ℕ → Option LmsSet
 lms_set c = find (λ m. m.code == c) lms_sets
 
--- the bytes of an LM-OTS signature (4.5) and of an LMS signature (5.4)
+-- the bytes of an LM-OTS signature (4.5), of an LMS signature (5.4) and of an LMS public key (5.3)
 abbrev pub ots_signature_length : OtsSet → ℕ
-ots_signature_length t = 4 + 32 * (t.p + 1)
+ots_signature_length t = 4 + hash_length * (t.p + 1)
 
 abbrev pub lms_signature_length : LmsSet → OtsSet → ℕ
-lms_signature_length m t = 8 + ots_signature_length t + 32 * m.h
+lms_signature_length m t = 8 + ots_signature_length t + hash_length * m.h
+
+abbrev pub lms_public_key_length : ℕ
+lms_public_key_length = 56

@@ -3,6 +3,7 @@
 use Rattle.std.specs.Prelude.{ℕ, zero, suc, ◌≡◌, ◌+◌, ◌-◌, ◌*◌, ◌/◌, ◌%◌, ◌^◌, ◌<◌, ◌==◌, nat_le, if◌then◌else◌, Bool, List, [], ◌∷◌, ◌++◌, length, map, All, Some}
 use Rattle.std.specs.List.{concat}
 use Rattle.sha2.specs.Sha256.{sha256}
+use Rattle.lms_spec.specs.HashLength.{hash_length}
 use Rattle.lms_spec.specs.Parameters.{OtsSet, LmsSet, ots_set, lms_set}
 use Rattle.lms_spec.specs.Bytes.{below, u16str, u32str}
 use Rattle.lms_spec.specs.Hashing.{d_leaf, d_intr, place}
@@ -72,7 +73,7 @@ pub record LmsAccepts (public_key message signature : List ℕ) : Type 0 where
   pub id : List ℕ
   pub root : List ℕ
   pub id_length : length id ≡ 16
-  pub root_length : length root ≡ 32
+  pub root_length : length root ≡ hash_length
   pub lms_known : lms_set lms.code ≡ Some lms
   pub ots_known : ots_set ots.code ≡ Some ots
   pub key_parts : public_key ≡ lms_public_key lms ots id root
@@ -81,7 +82,7 @@ pub record LmsAccepts (public_key message signature : List ℕ) : Type 0 where
   pub path : List (List ℕ)
   pub q_in_tree : q < 2 ^ lms.h
   pub path_count : length path ≡ lms.h
-  pub path_lengths : All (λ v. length v ≡ 32) path
+  pub path_lengths : All (λ v. length v ≡ hash_length) path
   pub signature_parts : signature ≡ u32str q ++ ots_part ++ u32str lms.code ++ concat path
   pub candidate : List ℕ
   pub leads_to : LeadsTo ots id q ots_part message candidate

@@ -1,6 +1,7 @@
 -- The parts of an LMS public key and of an LMS signature, as byte strings.
 use Rattle.std.specs.Prelude.{ℕ, ◌≡◌, ◌^◌, ◌<◌, List, ◌++◌, length, All, Some}
 use Rattle.std.specs.List.{concat}
+use Rattle.lms_spec.specs.HashLength.{hash_length}
 use Rattle.lms_spec.specs.Parameters.{OtsSet, LmsSet, ots_set, lms_set, ots_signature_length, lms_signature_length}
 use Rattle.lms_spec.specs.Bytes.{u32str}
 use Rattle.lms_spec.specs.Ots.{IsOtsSignature}
@@ -11,7 +12,7 @@ pub record IsLmsPublicKey (m : LmsSet) (t : OtsSet) (id root public_key : List �
   pub lms_known : lms_set m.code ≡ Some m
   pub ots_known : ots_set t.code ≡ Some t
   pub id_length : length id ≡ 16
-  pub root_length : length root ≡ 32
+  pub root_length : length root ≡ hash_length
   pub parts : public_key ≡ lms_public_key m t id root
 
 -- a public key under which signatures have n bytes (5.4)
@@ -28,7 +29,7 @@ pub record IsLmsSignature (m : LmsSet) (t : OtsSet) (q : ℕ) (ots_part : List �
   pub q_in_tree : q < 2 ^ m.h
   pub ots_length : length ots_part ≡ ots_signature_length t
   pub path_count : length path ≡ m.h
-  pub path_lengths : All (λ v. length v ≡ 32) path
+  pub path_lengths : All (λ v. length v ≡ hash_length) path
   pub parts : signature ≡ u32str q ++ ots_part ++ u32str m.code ++ concat path
 
 -- a public key of known sets, and a signature of its typecodes and lengths, the one-time part's among them (5.3, 5.4 and 4.5)

@@ -1,6 +1,7 @@
 -- What a `TreeKey` means.
 use Rattle.std.specs.Prelude.{ℕ, ◌*◌, List}
 use Rattle.std.specs.List.{concat}
+use Rattle.lms_spec.specs.HashLength.{hash_length}
 use Rattle.lms_spec.specs.Parameters.{lms_signature_length}
 use Rattle.lms_spec.specs.Tree.{Tree, path_of, public_key_of, lms_signature}
 use Rattle.lms_params.specs.LmsType.{lms_set_of}
@@ -29,4 +30,4 @@ path_text key q = concat (path_of (tree_of key) q)
 
 -- the bytes of a path (5.4)
 abbrev pub path_length_under : TreeKey → ℕ
-path_length_under key = 32 * (tree_of key).lms.h
+path_length_under key = hash_length * (tree_of key).lms.h

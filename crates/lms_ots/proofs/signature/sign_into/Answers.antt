@@ -11,7 +11,7 @@ use Rattle.lms_spec.specs.Ots.{chain, message_hash, message_digits, ots_signatur
 use Rattle.lms_spec.proofs.Below.{concat-below-suc}
 use Rattle.lms_spec.proofs.OneTime.{signed_value, signature-leads_to}
 use Rattle.lms_params.specs.OtsType.{ots_set_of}
-use Rattle.lms_params.proofs.Widths.{most_chains}
+use Rattle.lms_params.proofs.Widths.{chains_limited}
 use Rattle.lms_ots.proofs.Candidates.{digit-in-chain, digit-in-front}
 use Rattle.lms_ots.proofs.LaneChains.{lane-from_seed, last_digit-byte}
 use Rattle.lms_ots.proofs.signature.sign_into.Goals as goal
@@ -36,7 +36,7 @@ loop-i-preserved c =
     let digit : a ≡ slice_index (message_digits t id.i id.q c.args.c.now c.args.msg.now) i
     = ap (λ ds. slice_index ds i) digits ∙ digit-in-front t hash zeros i (omega arith) in
     let seed : List ℕ = c.args.seed.now in
-    let most : i < 265 = omega (arith, most_chains c.args.t) in
+    let most : i < 265 = omega (arith, chains_limited c.args.t) in
     let small : a ≤ 255 = omega (arith, ap (λ ds. slice_index ds i) digits, digit-in-chain t hash zeros i (omega arith), last_digit-byte c.args.t) in
     let signed : get_or c.walk_all.new.ends i [] ≡ chain id.i id.q i 0 a (chain_secret id.i seed id.q i)
     = c.walk_all.ensures i (omega arith)
