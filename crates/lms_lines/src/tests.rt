@@ -3,8 +3,7 @@
 use crate::{JobsFault, WriteFault, read_jobs, write_batch};
 use lms_batch::{Batch, Job};
 use std::alloc::Global;
-use std::io;
-use std::io::{Read, Write};
+use std::io::{self, Read, Write};
 use std::test::Fail;
 
 /// The randomizer 0, 1, .. 31, in both cases of letters.

@@ -7,7 +7,8 @@ use Rattle.lms_book.specs.declared.history.Entry.{Entry}
 use Rattle.lms_book.specs.declared.history.Entry.TheVariants.{Given, Burnt}
 use Rattle.lms_book.specs.declared.refusals.BookFault.TheVariants.{Store}
 use Rattle.lms_book.specs.History.{given_len, burnt_len}
-use Rattle.lms_book.specs.States.{BookState, LeaseState}
+use Rattle.lms_book.specs.Stops.{Texts}
+use Rattle.lms_book.specs.States.{BookState, LeaseState, IsOpenedFrom}
 use Rattle.lms_book.specs.Books.{Reserves}
 use Rattle.lms_shared_book.specs.Desks.{Sums, plus, sums_of}
 use Rattle.lms_shared_book.specs.Shared.{IsAfter, IsAfterEntry, IsFound, IsSettled}
@@ -49,15 +50,15 @@ after_sums start es book is = ap sums_of (after_history start es book is) ∙ su
 
 -- what a reservation gave is an entry
 pub gives_entry : (n : ℕ) (old : BookState) (lease : LeaseState) (new : BookState) → new.key ≡ old.key → new.base ≡ old.base
-    → new.openings ≡ old.openings → new.burnt ≡ old.burnt
+    → new.openings ≡ old.openings → new.burnt ≡ old.burnt → ((held : Texts) → IsOpenedFrom held old → IsOpenedFrom held new)
     → Reserves n old (Ok lease) new → IsAfterEntry old (Given n) new
-gives_entry n old lease new k b o u (room, is, history, wrote) = record { key = k; base = b; openings = o; burnt = u; makes = (room, refl, history, wrote) }
+gives_entry n old lease new k b o u kept (room, is, history, wrote) = record { key = k; base = b; openings = o; burnt = u; opened = kept; makes = (room, refl, history, wrote) }
 
 -- so is what it burnt
 pub burns_entry : (n start len : ℕ) (old new : BookState) → new.key ≡ old.key → new.base ≡ old.base
-    → new.openings ≡ old.openings → new.burnt ≡ old.burnt
+    → new.openings ≡ old.openings → new.burnt ≡ old.burnt → ((held : Texts) → IsOpenedFrom held old → IsOpenedFrom held new)
     → Reserves n old (Err (Store start len)) new → IsAfterEntry old (Burnt n) new
-burns_entry n start len old new k b o u (room, s, l, history, failed) = record { key = k; base = b; openings = o; burnt = u; makes = (room, refl, refl, history, failed) }
+burns_entry n start len old new k b o u kept (room, s, l, history, failed) = record { key = k; base = b; openings = o; burnt = u; opened = kept; makes = (room, refl, refl, history, failed) }
 
 -- a book behind the lock; the part of the sums that is the book's own counts what was before
 pub behind : (shared : BookState) (desks : ℕ) (desk part totals : Sums) (found : BookState) (es : List Entry) → IsAfter shared es found

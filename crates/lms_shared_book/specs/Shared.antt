@@ -3,7 +3,8 @@ use Rattle.std.specs.Prelude.{◌≡◌, ℕ, List, [], ◌∷◌, Ok, Err}
 use Rattle.lms_book.specs.declared.history.Entry.{Entry}
 use Rattle.lms_book.specs.declared.history.Entry.TheVariants.{Given, Burnt}
 use Rattle.lms_book.specs.declared.refusals.BookFault.TheVariants.{Store}
-use Rattle.lms_book.specs.States.{BookState, LeaseState}
+use Rattle.lms_book.specs.Stops.{Texts}
+use Rattle.lms_book.specs.States.{BookState, LeaseState, IsOpenedFrom}
 use Rattle.lms_book.specs.Books.{Reserves, counter}
 use Rattle.lms_shared_book.specs.Desks.{SharedState, Sums, sums_of}
 
@@ -16,12 +17,13 @@ abbrev pub Makes : BookState → Entry → BookState → Type 0
 Makes old (Given n) new = Reserves n old (Ok (next_lease old n)) new
 Makes old (Burnt n) new = Reserves n old (Err (Store (counter old) n)) new
 
--- the same, which keeps the key and what was read
+-- the same, which keeps the key, what was read and the texts that the store was opened with
 pub record IsAfterEntry (old : BookState) (entry : Entry) (new : BookState) : Type 0 where
   pub key : new.key ≡ old.key
   pub base : new.base ≡ old.base
   pub openings : new.openings ≡ old.openings
   pub burnt : new.burnt ≡ old.burnt
+  pub opened : (held : Texts) → IsOpenedFrom held old → IsOpenedFrom held new
   pub makes : Makes old entry new
 
 -- a book became this one by the reservations of these entries, one after another

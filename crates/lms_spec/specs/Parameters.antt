@@ -52,10 +52,10 @@ lms_sets = lms_h5 ∷ lms_h10 ∷ lms_h15 ∷ lms_h20 ∷ lms_h25 ∷ []
 
 -- the most chains of a one-time key, and the greatest height of a tree
 abbrev pub most_chains : ℕ
-most_chains = 265
+most_chains = ots_w1.p
 
-abbrev pub tallest_tree : ℕ
-tallest_tree = 25
+abbrev pub greatest_height : ℕ
+greatest_height = lms_h25.h
 
 -- the set of a typecode, if it is known
 abbrev pub ots_set : ℕ → Option OtsSet
@@ -72,4 +72,4 @@ abbrev pub lms_signature_length : LmsSet → OtsSet → ℕ
 lms_signature_length m t = 8 + ots_signature_length t + hash_length * m.h
 
 abbrev pub lms_public_key_length : ℕ
-lms_public_key_length = 56
+lms_public_key_length = 24 + hash_length

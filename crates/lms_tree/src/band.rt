@@ -1,6 +1,6 @@
 //! Nodes of a tree that are held, row by row.
 ghost use Rattle.std.specs.Prelude.{ℕ, ◌≡◌, ◌+◌, ◌*◌, ◌^◌, ◌<◌, ◌≤◌, ◌↔◌, [], length, slice_index_or, IsTrue, IfOk, IfSome};
-ghost use Rattle.lms_spec.specs.Parameters.{tallest_tree};
+ghost use Rattle.lms_spec.specs.Parameters.{greatest_height};
 ghost use Rattle.lms_spec.specs.Tree.{node as node_of};
 ghost use Rattle.lms_tree.specs.TreeKey.{tree_of};
 ghost use Rattle.lms_tree.specs.Bands.{root_rows};
@@ -46,7 +46,7 @@ impl Rows {
 
     /// Room for all nodes of these rows, 32 bytes each. `OutOfMemory` where the one request for memory is refused.
     pub(crate) fn room(self, alloc: Global) -> Result<Vec<[u8; 32]>, OutOfMemory>
-        requires { AreInTree tallest_tree self }
+        requires { AreInTree greatest_height self }
         ensures { IfOk result (λ nodes. length nodes.items ≡ nodes_in self) }
     {
         let lowest = self.row(self.depth);
@@ -56,10 +56,10 @@ impl Rows {
     /// Row `level`, counted from the top, in a list of the rows from the top down. Each row has twice as many nodes as the one
     /// above it.
     fn row(self, level: u32) -> Row
-        requires in_tree { AreInTree tallest_tree self }
+        requires in_tree { AreInTree greatest_height self }
         requires level { level ≤ self.depth }
         ensures row { result ≡ row_of self level }
-        ensures in_tree { result.first + result.count ≤ 2 ^ (tallest_tree + 1) }
+        ensures in_tree { result.first + result.count ≤ 2 ^ (greatest_height + 1) }
         ensures place { result.place < result.count }
     {
         let count = self.width << level;

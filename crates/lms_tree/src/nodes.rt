@@ -1,7 +1,7 @@
 //! The nodes of a tree (RFC 8554, 5.3). Node 1 is the root, nodes 2r and 2r + 1 are the children of r, and leaf q is node
 //! 2^h + q.
 ghost use Rattle.std.specs.Prelude.{◌≡◌, ◌+◌, ◌^◌, ◌<◌};
-ghost use Rattle.lms_spec.specs.Parameters.{tallest_tree};
+ghost use Rattle.lms_spec.specs.Parameters.{greatest_height};
 ghost use Rattle.lms_spec.specs.Tree.{leaf_hash as leaf_hash_of, inner_hash as inner_hash_of};
 ghost use Rattle.lms_params.specs.LmsType.{lms_set_of};
 
@@ -17,7 +17,7 @@ const D_INTR: u16 = 0x8383;
 /// The number of leaves, 2^h.
 pub(crate) fn leaf_count(lms: LmsType) -> u32
     ensures count { result ≡ 2 ^ (lms_set_of lms).h }
-    ensures fits { result < 2 ^ (tallest_tree + 1) }
+    ensures fits { result < 2 ^ (greatest_height + 1) }
 {
     1 << lms.height()
 }

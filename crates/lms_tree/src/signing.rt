@@ -1,6 +1,6 @@
 //! Public keys and signatures from a source of nodes (RFC 8554, 5.3 and 5.4.1).
 ghost use Rattle.std.specs.Prelude.{◌≡◌, ◌+◌, ◌*◌, ◌^◌, ◌≤◌, ◌<◌, ◌++◌, length};
-ghost use Rattle.lms_spec.specs.Parameters.{ots_signature_length, tallest_tree};
+ghost use Rattle.lms_spec.specs.Parameters.{ots_signature_length, greatest_height};
 ghost use Rattle.lms_spec.specs.Bytes.{u32str};
 ghost use Rattle.lms_spec.specs.Ots.{ots_signature};
 ghost use Rattle.lms_spec.specs.Tree.{sibling as sibling_of, lms_public_key, LmsAccepts};
@@ -69,7 +69,7 @@ fn write_path<N: NodeSource>(source: &N, q: u32, out: &mut [u8])
 
 /// The other child of a node's parent.
 fn sibling(r: u32) -> u32
-    requires { r < 2 ^ (tallest_tree + 1) }
+    requires { r < 2 ^ (greatest_height + 1) }
     ensures { result ≡ sibling_of r }
 {
     if r % 2 == 0 { r + 1 } else { r - 1 }

@@ -55,7 +55,7 @@ invariant_of-self g c = (
   (
     _,
     after_push g.E.Tally.book c.self.invariant.5.0 (Given c.args.n) c.self.inside.book c.reserve.new.self c.self.invariant.5.1
-        (gives_entry c.args.n c.self.inside.book _ c.reserve.new.self c.reserve.ensures.key c.reserve.ensures.base c.reserve.ensures.openings c.reserve.ensures.burnt c.in-Ok.ensures.reserves),
+        (gives_entry c.args.n c.self.inside.book _ c.reserve.new.self c.reserve.ensures.key c.reserve.ensures.base c.reserve.ensures.openings c.reserve.ensures.burnt c.reserve.ensures.opened c.in-Ok.ensures.reserves),
   ),
 )
 
@@ -70,7 +70,7 @@ invariant_of-self-in-Err-Store g c =
       (
         _,
         after_push g.E.Tally.book c.self.invariant.5.0 (Burnt c.args.n) c.self.inside.book c.reserve.new.self c.self.invariant.5.1
-            (burns_entry c.args.n _ _ c.self.inside.book c.reserve.new.self c.reserve.ensures.key c.reserve.ensures.base c.reserve.ensures.openings c.reserve.ensures.burnt reserves),
+            (burns_entry c.args.n _ _ c.self.inside.book c.reserve.new.self c.reserve.ensures.key c.reserve.ensures.base c.reserve.ensures.openings c.reserve.ensures.burnt c.reserve.ensures.opened reserves),
       ),
     )
 
