@@ -4,15 +4,11 @@
 
 mod collector;
 mod crew;
-#[cfg(test)]
-mod fixtures;
 mod gate;
 mod job;
 mod open_lease;
 mod receipt;
 mod service;
-#[cfg(test)]
-mod tests;
 mod worker;
 
 pub use crate::collector::{Batch, Collector, TakeFault};

@@ -20,8 +20,6 @@ use std::sync::Wait;
 use std::thread::Threads;
 use std::{error, fmt};
 
-#[cfg(test)]
-mod tests;
 
 /// The most workers of a batch.
 pub const MOST_WORKERS: usize = 64;

@@ -5,8 +5,6 @@
 #![tactic(auto)]
 
 mod book;
-#[cfg(test)]
-mod fixtures;
 mod history;
 pub mod laws;
 mod memory;
@@ -14,8 +12,6 @@ mod plans;
 mod refusals;
 mod reservations;
 mod store;
-#[cfg(test)]
-mod tests;
 mod text;
 
 pub use crate::book::{Book, Lease};

@@ -10,8 +10,6 @@ mod key;
 mod level_trees;
 mod levels;
 mod signed_tree;
-#[cfg(test)]
-mod tests;
 mod text;
 mod verification;
 

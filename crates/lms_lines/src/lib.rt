@@ -8,8 +8,6 @@ mod job_line;
 mod jobs;
 pub mod laws;
 mod signing;
-#[cfg(test)]
-mod tests;
 
 pub use crate::answers::{WriteFault, write_batch};
 pub use crate::fault::JobsFault;

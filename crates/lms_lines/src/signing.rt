@@ -17,8 +17,6 @@ use std::sync::Wait;
 use std::thread::Threads;
 use thiserror::Error;
 
-#[cfg(test)]
-mod tests;
 
 /// What became of job lines.
 #[derive(Clone, Copy, Debug, PartialEq, Eq)]

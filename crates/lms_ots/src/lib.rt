@@ -18,6 +18,3 @@ pub use crate::hashing::hasher_at;
 pub use crate::one_time_key::{OtsId, chain, public_hash, secret};
 pub use crate::signature::sign_into;
 pub use crate::verification::{Verifier, candidate};
-
-#[cfg(test)]
-mod tests;

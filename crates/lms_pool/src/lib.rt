@@ -6,8 +6,6 @@
 
 mod claim;
 mod finish;
-#[cfg(test)]
-mod fixtures;
 mod history;
 pub mod laws;
 mod look;
@@ -17,8 +15,6 @@ mod pool;
 mod rule;
 mod seat;
 mod stop;
-#[cfg(test)]
-mod tests;
 
 pub use crate::finish::{MissingSeats, Tally};
 pub use crate::pass::{Ended, IndexPass};

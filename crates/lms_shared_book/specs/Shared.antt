@@ -17,7 +17,7 @@ abbrev pub Makes : BookState → Entry → BookState → Type 0
 Makes old (Given n) new = Reserves n old (Ok (next_lease old n)) new
 Makes old (Burnt n) new = Reserves n old (Err (Store (counter old) n)) new
 
--- the same, which keeps the key, what was read and the texts that the store was opened with
+-- the same, which keeps the key and what was read, and goes on being an opening of the same texts
 pub record IsAfterEntry (old : BookState) (entry : Entry) (new : BookState) : Type 0 where
   pub key : new.key ≡ old.key
   pub base : new.base ≡ old.base

@@ -3,8 +3,6 @@
 
 mod counted;
 mod desk;
-#[cfg(test)]
-mod fixtures;
 mod missing;
 mod shared;
 mod sums;

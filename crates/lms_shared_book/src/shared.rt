@@ -17,8 +17,6 @@ use std::alloc::Global;
 use std::marker::Model;
 use std::sync::{Mutex, Wait};
 
-#[cfg(test)]
-mod tests;
 
 /// A book behind a lock. Whoever gets the lock finds the counter within the key's capacity, and the leases disjoint and
 /// below every counter that could be found in the store after a crash. Three ledgers count the entries, the indices given

@@ -126,7 +126,7 @@ AcceptedByParts =
 
 -- how long a hierarchy's public key is
 abbrev pub HssPublicKeyLength : Type 0
-HssPublicKeyLength = (key : HssKey) → length key.id ≡ 16 → length (hss_public_key key) ≡ 60
+HssPublicKeyLength = (key : HssKey) → length key.id ≡ 16 → length (hss_public_key key) ≡ 4 + lms_public_key_length
 
 -- how long a hierarchy's signature is
 abbrev pub HssSignatureLength : Type 0

@@ -50,7 +50,7 @@ ots_sets = ots_w1 ∷ ots_w2 ∷ ots_w4 ∷ ots_w8 ∷ []
 abbrev pub lms_sets : List LmsSet
 lms_sets = lms_h5 ∷ lms_h10 ∷ lms_h15 ∷ lms_h20 ∷ lms_h25 ∷ []
 
--- the most chains of a one-time key, and the greatest height of a tree
+-- the most chains of a one-time key, which has them at the least width, and the greatest height of a tree
 abbrev pub most_chains : ℕ
 most_chains = ots_w1.p
 

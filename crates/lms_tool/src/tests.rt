@@ -14,7 +14,6 @@ mod state;
 mod states;
 mod stopping;
 mod stops;
-mod words;
 
 use lms_program::run::run;
 use lms_slow::vectors::ONE_5_8;

@@ -10,8 +10,6 @@ mod node_source;
 mod nodes;
 mod progress;
 mod signing;
-#[cfg(test)]
-mod tests;
 mod tree_key;
 mod verification;
 mod whole_tree;

@@ -1,8 +1,6 @@
 //! How far a call is that works out trees.
 use std::marker::Sync;
 
-#[cfg(test)]
-mod tests;
 
 /// Who is told how far a call is that works out trees. All its threads tell, several at once, and each goes on when the method
 /// returns.

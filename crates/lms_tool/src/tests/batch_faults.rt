@@ -1,5 +1,5 @@
 //! `batch` over streams, states and memory that fail.
-use super::batch::{batch, end_of_batch, end_of_batch_to, lines, push_line};
+use super::batch::{FOUR_LINES, TWO_LINES, batch, end_of_batch, end_of_batch_to};
 use super::state::{CHEAP, ONE, TWO};
 use super::states::{image_of, is_with, keyed, store_at, store_of};
 use super::{Closed, Ended, Stuck};
@@ -82,6 +82,29 @@ fn cannot_read_job_lines(rt: HostRuntime) -> Result<(), Fail> {
     Ok(())
 }
 
+/// Whether a batch says that its answers could not be written, where a writer gets a beginning of them and no more.
+fn gives_a_beginning(
+    rt: &(impl Threads + Wait + AllocGlobal + Sync),
+    world: &mut MemoryWorld,
+    full: &mut Full,
+    answers: &[u8],
+) -> bool {
+    let room = full.room;
+    let mut rest = TWO_LINES.as_bytes();
+    let line = "error: cannot write output\n";
+    fails_by(rt, world, &mut rest, full, line)
+        && full.taken.len() == room
+        && answers.starts_with(&full.taken)
+}
+
+/// Whether a batch that failed used the indices 5 and 6, so that the next one begins with index 7.
+fn goes_on(rt: &(impl Threads + Wait + AllocGlobal + Sync), world: &mut MemoryWorld) -> bool {
+    is_with(world, &ONE, 7, 1, 0)
+        && end_of_batch(rt, world, "1", TWO_LINES)
+            .output
+            .starts_with(b"7 ")
+}
+
 /// Whether a writer with room for so many bytes gets a beginning of these answers, and the batch after it the next indices.
 fn gets_a_beginning(
     rt: &(impl Threads + Wait + AllocGlobal + Sync),
@@ -90,36 +113,24 @@ fn gets_a_beginning(
     fails: bool,
 ) -> Result<bool, Fail> {
     let mut world = keyed(rt.alloc(), &ONE, 5)?;
-    let text = lines(rt.alloc(), 2)?;
-    let mut rest: &[u8] = &text;
     let mut full = Full {
         taken: Vec::new(rt.alloc()),
         room,
         fails,
     };
-    let line = "error: cannot write output\n";
-    let is_said = fails_by(rt, &mut world, &mut rest, &mut full, line)
-        && is_with(&world, &ONE, 7, 1, 0);
-    let next = end_of_batch(rt, &mut world, "1", &text);
-    Ok(
-        is_said
-            && full.taken.len() == room
-            && answers.starts_with(&full.taken)
-            && next.output.starts_with(b"7 "),
-    )
+    Ok(gives_a_beginning(rt, &mut world, &mut full, answers) && goes_on(rt, &mut world))
 }
 
 /// All indices are used where the answers can't be written, or not passed on.
 #[test]
 fn cannot_write_answers(rt: HostRuntime) -> Result<(), Fail> {
-    let text = lines(rt.alloc(), 2)?;
     let mut world = keyed(rt.alloc(), &ONE, 5)?;
-    let end = end_of_batch(&rt, &mut world, "2", &text);
+    let end = end_of_batch(&rt, &mut world, "2", TWO_LINES);
     for room in [0, 1, 2, 2594, 2595, 2596, 5189] {
         assert!(rt; gets_a_beginning(&rt, &end.output, room, true)?, "{room}");
         assert!(rt; gets_a_beginning(&rt, &end.output, room, false)?, "{room}");
     }
-    let mut rest: &[u8] = &text;
+    let mut rest = TWO_LINES.as_bytes();
     let line = "error: cannot write output\n";
     assert!(rt; fails_by(&rt, &mut world, &mut rest, &mut Stuck, line));
     assert!(rt; is_with(&world, &ONE, 9, 2, 0));
@@ -142,9 +153,8 @@ fn burns_indices(
     counter: u64,
     openings: u64,
 ) -> Result<bool, Fail> {
-    let text = lines(rt.alloc(), 4)?;
     let mut world = unwritable(rt.alloc(), left)?;
-    let end = end_of_batch(rt, &mut world, "2", &text);
+    let end = end_of_batch(rt, &mut world, "2", FOUR_LINES);
     Ok(
         end.is(3, "", "error: cannot write state: 0 to 3 burnt\n")
             && is_with(&world, &TWO, counter, openings, 0),
@@ -166,7 +176,7 @@ fn fails_before_the_line(
     status: u8,
     errors: &str,
 ) -> bool {
-    end_of_batch(rt, world, workers, b"\n").is(status, "", errors)
+    end_of_batch(rt, world, workers, "\n").is(status, "", errors)
 }
 
 /// The state is asked for before the input is read, and the workers before both.
@@ -235,18 +245,6 @@ fn is_true(end: &Ended, before: u64, after: u64) -> bool {
     }
 }
 
-/// Four job lines, with room made at the first or at the second try.
-fn four_lines(alloc: Global) -> Result<Vec<u8>, Fail> {
-    let mut text = match Vec::with_capacity(alloc, 512) {
-        Ok(room) => room,
-        Err(_) => Vec::with_capacity(alloc, 512)?,
-    };
-    for number in 0..4 {
-        push_line(&mut text, number)?;
-    }
-    Ok(text)
-}
-
 /// An empty list with room for four answer lines, made at the first or at the second try. So writing them takes no memory.
 fn roomy(alloc: Global) -> Result<Vec<u8>, Fail> {
     match Vec::with_capacity(alloc, 36_000) {
@@ -275,13 +273,12 @@ fn world_at_last(alloc: Global) -> Result<MemoryWorld, Fail> {
 /// `tests/refused lms_tool tests::batch_faults::a_batch_says_what_it_used` refuses each request in turn.
 #[test]
 fn a_batch_says_what_it_used(rt: HostRuntime) -> Result<(), Fail> {
-    let text = four_lines(rt.alloc())?;
     let mut world = world_at_last(rt.alloc())?;
     let output = roomy(rt.alloc())?;
-    let first = end_of_batch_to(&rt, &mut world, "4", &text, output);
+    let first = end_of_batch_to(&rt, &mut world, "4", FOUR_LINES, output);
     let between = used(&world)?;
     let output = roomy(rt.alloc())?;
-    let second = end_of_batch_to(&rt, &mut world, "4", &text, output);
+    let second = end_of_batch_to(&rt, &mut world, "4", FOUR_LINES, output);
     let after = used(&world)?;
     assert!(rt; is_true(&first, 0, between));
     assert!(rt; is_true(&second, between, after));

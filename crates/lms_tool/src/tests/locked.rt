@@ -1,5 +1,5 @@
 //! The lock on a state, as long as a command runs.
-use super::batch::lines;
+use super::batch::TWO_LINES;
 use super::disk::{INFO, KEYGEN, SIGN, begin, end};
 use lms_commands::Status;
 use lms_program::run::run;
@@ -72,7 +72,6 @@ fn holds_the_lock_to_the_end(rt: HostRuntime) -> Result<(), Fail> {
     assert!(rt; prints_locked(&rt, &rt, &KEYGEN, b""));
     assert!(rt; prints_locked(&rt, &rt, &SIGN, b""));
     assert!(rt; prints_locked(&rt, &rt, &INFO, b""));
-    let text = lines(rt.alloc(), 2)?;
-    assert!(rt; prints_locked(&rt, &rt, &BATCH, &text));
+    assert!(rt; prints_locked(&rt, &rt, &BATCH, TWO_LINES.as_bytes()));
     end(&rt)
 }

@@ -1,0 +1,5 @@
+//! Tests of `lms_batch`.
+#![tactic(auto)]
+
+#[cfg(test)]
+mod tests;

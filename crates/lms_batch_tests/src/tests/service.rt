@@ -1,0 +1,389 @@
+ghost use Rattle.std.specs.Prelude.{◌≡◌, ◌≤◌};
+ghost use Rattle.lms_shared_book.specs.Desks.{BlankFits};
+
+mod gates;
+mod memory;
+mod outcome;
+
+use crate::tests::fixtures::{LEVELS, book_of, job, public_key, store_at};
+use gates::Meeting;
+use lms_batch::{BatchFault, Gate, Job, MOST_WORKERS, OpenGate, SigningService};
+use lms_book::{Book, BookFault, Entry, Left, MemoryStore};
+use lms_params::OutOfMemory;
+use lms_shared_book::{Blanks, Desk, SharedBook, Tally};
+use outcome::{Answer, Outcome, starts_of};
+use std::alloc::{AllocGlobal, Global};
+use std::marker::Brand;
+use std::sync::Wait;
+use std::sync::ledger::Blank;
+use std::test::Fail;
+use std::thread;
+use std::thread::Threads;
+
+/// What is asked of a service that has four desks: batches one after another at the first desk, of the first so many jobs each.
+#[derive(Drop)]
+struct Asked<'a, W> {
+    jobs: &'a [Job],
+    lengths: &'a [usize],
+    workers: usize,
+    gate: &'a W,
+    /// Whether each of the four desks asks for them, in a thread of its own.
+    at_once: bool,
+}
+
+/// What a desk counted: entries, received, burnt.
+fn counts<E: Tally, G: Tally, B: Tally>(desk: &Desk<E, G, B>) -> (u64, u64, u64) {
+    (desk.entries(), desk.received(), desk.burnt())
+}
+
+/// Asks for a batch of so many of the jobs, by 1 to `MOST_WORKERS` workers.
+fn answer_at<E: Tally, G: Tally, B: Tally, W: Gate>(
+    rt: &(impl AllocGlobal + Threads + Wait + Sync),
+    service: &SigningService<MemoryStore, E, G, B>,
+    desk: &mut Desk<E, G, B>,
+    asked: &Asked<W>,
+    length: usize,
+) -> Answer {
+    let length = length.min(asked.jobs.len());
+    let workers = asked.workers.clamp(1, MOST_WORKERS);
+    let jobs = &asked.jobs[..length];
+    let batch = service.sign_batch(rt, rt.alloc(), desk, jobs, workers, asked.gate);
+    Answer {
+        batch,
+        counts: counts(desk),
+    }
+}
+
+/// Room for so many answers. Memory that is refused once is asked for again.
+fn room(alloc: Global, count: usize) -> Result<Vec<Answer>, OutOfMemory> {
+    match Vec::with_capacity(alloc, count) {
+        Ok(room) => Ok(room),
+        Err(_) => Ok(Vec::with_capacity(alloc, count)?),
+    }
+}
+
+/// Asks for the batches at a desk.
+fn answers_at<E: Tally, G: Tally, B: Tally, W: Gate>(
+    rt: &(impl AllocGlobal + Threads + Wait + Sync),
+    service: &SigningService<MemoryStore, E, G, B>,
+    desk: &mut Desk<E, G, B>,
+    asked: &Asked<W>,
+) -> Result<Vec<Answer>, OutOfMemory> {
+    let mut answers = room(rt.alloc(), asked.lengths.len())?;
+    for length in asked.lengths {
+        answers.push(answer_at(rt, service, desk, asked, *length))?;
+    }
+    Ok(answers)
+}
+
+/// The same, by a thread that hands the desk back.
+fn visited<E: Tally, G: Tally, B: Tally, W: Gate>(
+    rt: &(impl AllocGlobal + Threads + Wait + Sync),
+    service: &SigningService<MemoryStore, E, G, B>,
+    desk: Desk<E, G, B>,
+    asked: &Asked<W>,
+) -> (Desk<E, G, B>, Result<Vec<Answer>, OutOfMemory>) {
+    let mut desk = desk;
+    let answers = answers_at(rt, service, &mut desk, asked);
+    (desk, answers)
+}
+
+/// Puts what a thread got behind the answers.
+fn keep(
+    answers: &mut Vec<Answer>,
+    found: Result<Vec<Answer>, OutOfMemory>,
+) -> Result<(), OutOfMemory> {
+    let mut found = found?;
+    answers.append(&mut found)?;
+    Ok(())
+}
+
+/// The desks that the threads hand back, and the answers that they got.
+fn gathered<E: Tally, G: Tally, B: Tally>(
+    alloc: Global,
+    visits: Vec<(Desk<E, G, B>, Result<Vec<Answer>, OutOfMemory>)>,
+) -> Result<(Vec<Desk<E, G, B>>, Vec<Answer>), OutOfMemory> {
+    let mut desks = Vec::new(alloc);
+    let mut answers = Vec::new(alloc);
+    for (desk, found) in visits {
+        desks.push(desk)?;
+        keep(&mut answers, found)?;
+    }
+    Ok((desks, answers))
+}
+
+/// Asks for the batches at the first desk, or at all desks at once.
+fn asked_for<E: Tally + Send + Sync, G: Tally + Send + Sync, B: Tally + Send + Sync, W: Gate>(
+    rt: &(impl AllocGlobal + Threads + Wait + Sync),
+    service: &SigningService<MemoryStore, E, G, B>,
+    desks: Vec<Desk<E, G, B>>,
+    asked: &Asked<W>,
+) -> Result<(Vec<Desk<E, G, B>>, Vec<Answer>), Fail> {
+    if asked.at_once {
+        let visits = thread::map_vec(rt, desks, &|desk| visited(rt, service, desk, asked))?;
+        return Ok(gathered(rt.alloc(), visits)?);
+    }
+    let mut desks = desks;
+    let desk = desks.first_mut().ok_or("a desk")?;
+    let answers = answers_at(rt, service, desk, asked)?;
+    Ok((desks, answers))
+}
+
+/// Asks a service for the batches, and settles then with all desks.
+fn settled<E: Tally + Send + Sync, G: Tally + Send + Sync, B: Tally + Send + Sync, W: Gate>(
+    rt: &(impl AllocGlobal + Threads + Wait + Sync),
+    service: SigningService<MemoryStore, E, G, B>,
+    desks: Vec<Desk<E, G, B>>,
+    asked: &Asked<W>,
+) -> Result<Outcome, Fail> {
+    let key = service.key();
+    let (desks, answers) = asked_for(rt, &service, desks, asked)?;
+    match service.into_book().settle(desks) {
+        Ok(book) => Ok(Outcome { key, answers, book }),
+        Err(_) => Err(Fail::from("all desks are there")),
+    }
+}
+
+/// Shares a book, and asks a service over it for the batches.
+fn carried_out<E: Tally + Send + Sync, G: Tally + Send + Sync, B: Tally + Send + Sync, W: Gate>(
+    rt: &(impl AllocGlobal + Threads + Wait + Sync),
+    book: Book<MemoryStore>,
+    blanks: Blanks,
+    asked: &Asked<W>,
+) -> Result<Outcome, Fail>
+    requires same { book ≡ E.book }
+    requires entries { BlankFits blanks.entries E.name E.parts 5 }
+    requires given { BlankFits blanks.given G.name G.parts 5 }
+    requires burnt { BlankFits blanks.burnt B.name B.parts 5 }
+{
+    let shared = match SharedBook::<MemoryStore, E, G, B>::share(rt.alloc(), book, blanks, 4) {
+        Err((_, book, blanks)) => SharedBook::share(rt.alloc(), book, blanks, 4),
+        answer => answer,
+    };
+    match shared {
+        Ok((shared, desks)) => settled(rt, SigningService::over(shared), desks, asked),
+        Err(_) => Err(Fail::from("memory for desks")),
+    }
+}
+
+/// Asks a service over the book of this store for the batches.
+fn carry_out<W: Gate>(
+    rt: &(impl AllocGlobal + Threads + Wait + Sync),
+    store: MemoryStore,
+    asked: &Asked<W>,
+) -> Result<Outcome, Fail> {
+    let book = book_of(rt.alloc(), store)?;
+    let blanks = Blanks {
+        entries: Blank::new(5),
+        given: Blank::new(5),
+        burnt: Blank::new(5),
+    };
+    carried_out::<Brand, Brand, Brand, W>(rt, book, blanks, asked)
+}
+
+/// As many jobs, whose messages are the numbers from 0 on, and whose randomizers begin with them.
+fn jobs_of(alloc: Global, count: usize) -> Result<Vec<Job>, Fail> {
+    let mut jobs = match Vec::with_capacity(alloc, count) {
+        Ok(jobs) => jobs,
+        Err(_) => Vec::with_capacity(alloc, count)?,
+    };
+    for number in 0..count {
+        let number = (number as u64).to_be_bytes();
+        let mut job = job(alloc, &number)?;
+        job.c[..8].copy_from_slice(&number);
+        jobs.push(job)?;
+    }
+    Ok(jobs)
+}
+
+/// Signs jobs at the open gate, over a store whose next index is this one.
+fn signed_from(
+    rt: &(impl AllocGlobal + Threads + Wait + Sync),
+    start: u64,
+    jobs: &[Job],
+    lengths: &[usize],
+    workers: usize,
+) -> Result<Outcome, Fail> {
+    let store = store_at(rt.alloc(), &LEVELS, 0x11, start)?;
+    let asked = Asked {
+        jobs,
+        lengths,
+        workers,
+        gate: &OpenGate,
+        at_once: false,
+    };
+    carry_out(rt, store, &asked)
+}
+
+/// Whether so many workers sign four jobs.
+fn four_are_signed(
+    rt: &(impl AllocGlobal + Threads + Wait + Sync),
+    jobs: &[Job],
+    workers: usize,
+) -> Result<bool, Fail> {
+    let outcome = signed_from(rt, 30, jobs, &[4], workers)?;
+    let is_counted = outcome.has_counted(0, (1, 4, 0));
+    let has_ended = outcome.has_ended(&[Entry::Given { len: 4 }], 34);
+    Ok(is_counted && has_ended && outcome.is_complete(rt, 0, 30, jobs)?)
+}
+
+#[test]
+fn four_jobs_are_signed_by_each_number_of_workers(rt: HostRuntime) -> Result<(), Fail> {
+    let jobs = jobs_of(rt.alloc(), 4)?;
+    for workers in [1, 4, 64] {
+        assert!(rt; four_are_signed(&rt, &jobs, workers)?, "{workers}");
+    }
+    Ok(())
+}
+
+/// No job makes a batch of none; 1025 jobs are refused, and 1024 where 994 indices are left. Nothing is reserved.
+#[test]
+fn too_few_and_too_many_jobs_reserve_nothing(rt: HostRuntime) -> Result<(), Fail> {
+    let jobs = jobs_of(rt.alloc(), 1025)?;
+    let outcome = signed_from(&rt, 30, &jobs, &[0, 1025, 1024], 1)?;
+    assert!(rt; outcome.is_of_none(0));
+    assert!(rt; outcome.has_fault(1, BatchFault::TooMany));
+    assert!(rt; outcome.has_fault(2, BatchFault::Book(BookFault::Exhausted { left: 994 })));
+    assert!(rt; outcome.has_counted(2, (0, 0, 0)));
+    assert!(rt; outcome.has_ended(&[], 30));
+    Ok(())
+}
+
+/// Two batches of the jobs by two workers at a store whose first write fails.
+fn signed_past_a_failed_write(
+    rt: &(impl AllocGlobal + Threads + Wait + Sync),
+    jobs: &[Job],
+) -> Result<Outcome, Fail> {
+    let mut store = store_at(rt.alloc(), &LEVELS, 0x11, 0)?;
+    store.fail_replace(1, Left::Old);
+    let asked = Asked {
+        jobs,
+        lengths: &[4, 4],
+        workers: 2,
+        gate: &OpenGate,
+        at_once: false,
+    };
+    carry_out(rt, store, &asked)
+}
+
+/// A batch of four whose write fails burns its indices, and the next one goes on after them.
+#[test]
+fn a_failed_write_burns_a_batch(rt: HostRuntime) -> Result<(), Fail> {
+    let jobs = jobs_of(rt.alloc(), 4)?;
+    let outcome = signed_past_a_failed_write(&rt, &jobs)?;
+    assert!(rt; outcome.has_fault(0, BatchFault::Book(BookFault::Store { start: 0, len: 4 })));
+    assert!(rt; outcome.has_counted(0, (1, 0, 4)));
+    assert!(rt; outcome.is_complete(&rt, 1, 4, &jobs)?);
+    assert!(rt; outcome.has_counted(1, (2, 4, 4)));
+    assert!(rt; outcome.has_ended(&[Entry::Burnt { len: 4 }, Entry::Given { len: 4 }], 8));
+    Ok(())
+}
+
+/// Two batches of the jobs by two workers, at each of four desks at once.
+fn signed_at_once(
+    rt: &(impl AllocGlobal + Threads + Wait + Sync),
+    jobs: &[Job],
+) -> Result<Outcome, Fail> {
+    let store = store_at(rt.alloc(), &LEVELS, 0x11, 0)?;
+    let asked = Asked {
+        jobs,
+        lengths: &[8, 8],
+        workers: 2,
+        gate: &OpenGate,
+        at_once: true,
+    };
+    carry_out(rt, store, &asked)
+}
+
+/// Whether each of four desks counted two batches of eight in the end.
+fn are_counted(outcome: &Outcome) -> bool {
+    let mut is_right = true;
+    for last in [1, 3, 5, 7] {
+        is_right = is_right && outcome.has_counted(last, (2, 16, 0));
+    }
+    is_right
+}
+
+/// Whether the batches are valid, and begin at the multiples of 8 up to 56, each once.
+fn are_at_multiples(
+    rt: &(impl AllocGlobal + Threads + Sync),
+    outcome: &Outcome,
+    jobs: &[Job],
+) -> Result<bool, Fail> {
+    let multiples = [
+        Some(0),
+        Some(8),
+        Some(16),
+        Some(24),
+        Some(32),
+        Some(40),
+        Some(48),
+        Some(56),
+    ];
+    let public = public_key(rt, outcome.key)?;
+    let starts = starts_of(rt.alloc(), &public, outcome, jobs)?;
+    Ok(starts.as_slice() == multiples.as_slice())
+}
+
+/// Four threads sign two batches of eight jobs each.
+#[test]
+fn batches_at_once(rt: HostRuntime) -> Result<(), Fail> {
+    let jobs = jobs_of(rt.alloc(), 8)?;
+    let outcome = signed_at_once(&rt, &jobs)?;
+    assert!(rt; are_counted(&outcome));
+    assert!(rt; are_at_multiples(&rt, &outcome, &jobs)?);
+    assert!(rt; outcome.has_ended(&[Entry::Given { len: 8 }; 8], 64));
+    Ok(())
+}
+
+/// 1024 jobs are signed by 64 workers.
+#[test]
+fn all_indices_are_signed_by_as_many_workers_as_may_be(rt: HostRuntime) -> Result<(), Fail> {
+    let jobs = jobs_of(rt.alloc(), 1024)?;
+    let outcome = signed_from(&rt, 0, &jobs, &[1024], 64)?;
+    let public = public_key(&rt, outcome.key)?;
+    assert!(rt; outcome.start_of(0, &public, &jobs) == Some(0));
+    assert!(rt; outcome.has_ended(&[Entry::Given { len: 1024 }], 1024));
+    Ok(())
+}
+
+/// Signs the jobs from index 30 on at a gate.
+fn signed_at<W: Gate>(
+    rt: &(impl AllocGlobal + Threads + Wait + Sync),
+    jobs: &[Job],
+    workers: usize,
+    gate: &W,
+) -> Result<Outcome, Fail> {
+    let store = store_at(rt.alloc(), &LEVELS, 0x11, 30)?;
+    let asked = Asked {
+        jobs,
+        lengths: &[2],
+        workers,
+        gate,
+        at_once: false,
+    };
+    carry_out(rt, store, &asked)
+}
+
+/// Whether so many workers sign two jobs, where one alone waits in vain for another.
+fn two_are_signed(
+    rt: &(impl AllocGlobal + Threads + Wait + Sync),
+    jobs: &[Job],
+    workers: usize,
+) -> Result<bool, Fail> {
+    let gate = Meeting::new();
+    let outcome = signed_at(rt, jobs, workers, &gate)?;
+    let is_met = gate.is_missed() == (workers == 1) && gate.is_called_in_turn();
+    let has_ended = outcome.has_ended(&[Entry::Given { len: 2 }], 32);
+    Ok(is_met && has_ended && outcome.is_complete(rt, 0, 30, jobs)?)
+}
+
+/// Each signature waits a while until the other one has begun. A third worker finds no job.
+#[test]
+fn two_workers_sign_at_once(rt: HostRuntime) -> Result<(), Fail> {
+    let jobs = jobs_of(rt.alloc(), 2)?;
+    for workers in [3, 2, 1] {
+        assert!(rt; two_are_signed(&rt, &jobs, workers)?, "{workers}");
+    }
+    Ok(())
+}

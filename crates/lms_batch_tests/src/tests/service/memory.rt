@@ -1,0 +1,158 @@
+//! Batches where a request for memory is refused.
+use super::gates::Notes;
+use super::outcome::Outcome;
+use super::{Asked, carry_out, jobs_of};
+use crate::tests::fixtures::{CHEAP, key_of, store_at};
+use crate::tests::slow;
+use lms_batch::{Batch, BatchFault, Job};
+use lms_book::{BookFault, Entry};
+use lms_hss::{Forest, HssKey};
+use std::alloc::Global;
+use std::process::Abort;
+use std::sync::Wait;
+use std::test::Fail;
+use std::thread::Threads;
+
+/// What signs indices 30 to 33 of a key, made at the first or at the second try.
+fn forest_of(rt: &(impl AllocGlobal + Threads + Sync), key: HssKey) -> Result<Forest, Fail> {
+    if key.capacity() < 34 {
+        return Err(Fail::from("a capacity of 1024"));
+    }
+    match Forest::cover(rt, rt.alloc(), key, 30, 4) {
+        Ok(forest) => Ok(forest),
+        Err(_) => Ok(Forest::cover(rt, rt.alloc(), key, 30, 4)?),
+    }
+}
+
+/// The signature of a job by an index, made at the first or at the second try.
+fn signature_of(forest: &Forest, g: u64, job: &Job) -> Result<Vec<u8>, Fail> {
+    if !forest.covers(g) {
+        return Err(Fail::from("an index that is covered"));
+    }
+    match forest.sign(g, &job.c, &job.message) {
+        Ok(signature) => Ok(signature),
+        Err(_) => Ok(forest.sign(g, &job.c, &job.message)?),
+    }
+}
+
+/// The signatures of four jobs by indices 30 to 33.
+fn signatures_of(
+    rt: &(impl AllocGlobal + Threads + Sync),
+    key: HssKey,
+    jobs: &[Job],
+) -> Result<Vec<Vec<u8>>, Fail> {
+    let forest = forest_of(rt, key)?;
+    let mut signatures = match Vec::with_capacity(rt.alloc(), 4) {
+        Ok(room) => room,
+        Err(_) => Vec::with_capacity(rt.alloc(), 4)?,
+    };
+    for (job, g) in jobs.iter().zip(30..34) {
+        signatures.push(signature_of(&forest, g, job)?)?;
+    }
+    Ok(signatures)
+}
+
+/// How many of these signatures are the slow signer's of these jobs, from index 30 on.
+fn slow_ones(alloc: Global, jobs: &[Job], signatures: &[Vec<u8>]) -> Result<u64, Fail> {
+    let mut count = 0_u64;
+    for ((job, signature), g) in jobs.iter().zip(signatures).zip(30..34) {
+        if *signature == slow(alloc, &CHEAP, g, job)? {
+            count = count.saturating_add(1);
+        }
+    }
+    Ok(count)
+}
+
+/// What batches are held against below is what the slow signer makes.
+#[test]
+fn four_signatures_are_the_slow_ones(rt: HostRuntime) -> Result<(), Fail> {
+    let jobs = jobs_of(rt.alloc(), 4)?;
+    let signatures = signatures_of(&rt, key_of(&CHEAP, 0x11)?, &jobs)?;
+    assert_eq!(rt; slow_ones(rt.alloc(), &jobs, &signatures)?, 4);
+    Ok(())
+}
+
+/// Whether each slot is empty or has its own signature, and one at least is empty.
+fn are_some_of(slots: &[Option<Vec<u8>>], expected: &[Vec<u8>]) -> bool {
+    let mut is_right = slots.len() == expected.len();
+    let mut has_gap = false;
+    for (slot, own) in slots.iter().zip(expected) {
+        match slot {
+            Some(signature) => is_right = is_right && signature == own,
+            None => has_gap = true,
+        }
+    }
+    is_right && has_gap
+}
+
+/// Whether a batch begins with index 30 and has these signatures, or some of them, each in its slot.
+fn is_of(batch: &Batch, expected: &[Vec<u8>]) -> bool {
+    match batch {
+        Batch::Complete { start, signatures } => {
+            *start == 30 && signatures.as_slice() == expected
+        }
+        Batch::Partial { start, slots } => *start == 30 && are_some_of(slots, expected),
+    }
+}
+
+/// A batch of these four jobs from index 30 on, by so many workers at a gate.
+fn signed_four(
+    rt: &(impl AllocGlobal + Threads + Wait + Sync),
+    jobs: &[Job],
+    workers: usize,
+    notes: &Notes,
+) -> Result<Outcome, Fail> {
+    let store = store_at(rt.alloc(), &CHEAP, 0x11, 30)?;
+    let asked = Asked {
+        jobs,
+        lengths: &[4],
+        workers,
+        gate: notes,
+        at_once: false,
+    };
+    carry_out(rt, store, &asked)
+}
+
+/// Whether the batch has these signatures, or some of them, or none, and the gate was told accordingly.
+fn is_as_told(outcome: &Outcome, expected: &[Vec<u8>], notes: &Notes, workers: usize) -> bool {
+    if let Some(batch) = outcome.batch(0) {
+        return is_of(batch, expected) && notes.is_of(batch, workers);
+    }
+    let is_refused = outcome.has_fault(0, BatchFault::OutOfMemory { burnt: 4 })
+        || outcome.has_fault(0, BatchFault::Book(BookFault::OutOfMemory));
+    is_refused && notes.is_blank()
+}
+
+/// Whether the indices are used, or nothing is reserved where the book was refused memory.
+fn is_counted(outcome: &Outcome) -> bool {
+    if outcome.has_fault(0, BatchFault::Book(BookFault::OutOfMemory)) {
+        return outcome.has_counted(0, (0, 0, 0)) && outcome.has_ended(&[], 30);
+    }
+    outcome.has_counted(0, (1, 4, 0)) && outcome.has_ended(&[Entry::Given { len: 4 }], 34)
+}
+
+/// Whether all jobs are signed, or some, or none, with their indices used; or nothing is reserved. The gate is told accordingly.
+fn sign_four(
+    rt: &(impl Abort + AllocGlobal + Threads + Wait + Sync),
+    workers: usize,
+) -> Result<(), Fail> {
+    let jobs = jobs_of(rt.alloc(), 4)?;
+    let notes = Notes::new();
+    let outcome = signed_four(rt, &jobs, workers, &notes)?;
+    let expected = signatures_of(rt, outcome.key, &jobs)?;
+    assert!(rt; is_as_told(&outcome, &expected, &notes, workers));
+    assert!(rt; is_counted(&outcome));
+    Ok(())
+}
+
+/// `tests/refused` refuses each request for memory in turn.
+#[test]
+fn four_workers_after_refused_memory(rt: HostRuntime) -> Result<(), Fail> {
+    sign_four(&rt, 4)
+}
+
+/// The same by one worker.
+#[test]
+fn one_worker_after_refused_memory(rt: HostRuntime) -> Result<(), Fail> {
+    sign_four(&rt, 1)
+}

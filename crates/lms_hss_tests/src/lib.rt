@@ -1,0 +1,5 @@
+//! Tests of `lms_hss`.
+#![tactic(auto)]
+
+#[cfg(test)]
+mod tests;

@@ -1,0 +1,5 @@
+//! Tests of `lms_image`.
+#![tactic(auto)]
+
+#[cfg(test)]
+mod tests;

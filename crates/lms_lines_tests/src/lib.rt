@@ -1,0 +1,5 @@
+//! Tests of `lms_lines`.
+#![tactic(auto)]
+
+#[cfg(test)]
+mod tests;

@@ -1,0 +1,361 @@
+ghost use Rattle.std.specs.Prelude.{◌≡◌, ◌≤◌, [], IfOk};
+ghost use Rattle.lms_shared_book.specs.Desks.{BlankFits};
+
+mod memory;
+
+use crate::tests::{Sink, Source, lines};
+use lms_batch::{BatchFault, SigningService};
+use lms_book::{Book, BookFault, MemoryStore};
+use lms_hss::{HssKey, Levels};
+use lms_image::{Image, encode_image};
+use lms_lines::{Done, JobsFault, LinesFault, sign_lines};
+use lms_params::{LmsType, OtsType};
+use lms_shared_book::{Blanks, Desk, SharedBook, Tally};
+use std::alloc::{AllocGlobal, Global};
+use std::marker::Brand;
+use std::process::Abort;
+use std::sync::Wait;
+use std::sync::ledger::Blank;
+use std::test::Fail;
+use std::thread::Threads;
+
+/// What is done with a service that has one desk.
+#[derive(Clone, Copy)]
+enum Scenario {
+    /// Batches one after another, some of which fail.
+    Batches,
+    /// Four lines by four workers, where any request for memory may be refused.
+    RefusedMemory,
+    /// Four lines to a writer that fails after so many writes, or takes nothing, and four more.
+    FailedWriter { writes: usize, fails: bool },
+}
+
+/// The levels 5/8,5/8, and how long their answer line for an index of two digits is.
+const LEVELS: [(LmsType, OtsType); 2] = [(LmsType::H5, OtsType::W8); 2];
+
+const LINE: usize = 5292;
+
+/// The same of the levels 5/2,5/2, whose trees take a twentieth of the work.
+const CHEAP: [(LmsType, OtsType); 2] = [(LmsType::H5, OtsType::W2); 2];
+
+const CHEAP_LINE: usize = 17_964;
+
+/// How many writes four answer lines of 5/2,5/2 are: for each its index, a space, nine parts of its digits, and its end.
+const CHEAP_WRITES: usize = 48;
+
+/// A book of a key of these levels whose next index is 30. Memory that is refused once is asked for again.
+fn book(alloc: Global, levels: &[(LmsType, OtsType)]) -> Result<Book<MemoryStore>, Fail>
+    ensures { IfOk result (λ book. book.history ≡ []) }
+{
+    let Ok(levels) = Levels::new(levels) else {
+        return Err(Fail::from("the signer takes the levels"));
+    };
+    let key = HssKey::new(levels, [0x11; 32], [0x22; 16]);
+    if key.capacity() < 30 {
+        return Err(Fail::from("a capacity of 1024"));
+    }
+    let image = encode_image(&Image {
+        key,
+        counter: 30,
+        openings: 0,
+        burnt: 0,
+    });
+    let store = match MemoryStore::new(alloc, Some(image.as_slice()), 8) {
+        Ok(store) => store,
+        Err(_) => MemoryStore::new(alloc, Some(image.as_slice()), 8)?,
+    };
+    match Book::open(alloc, store) {
+        Ok(book) => Ok(book),
+        Err((_, store)) => match Book::open(alloc, store) {
+            Ok(book) => Ok(book),
+            Err(_) => Err(Fail::from("the store opens")),
+        },
+    }
+}
+
+/// Signs job lines by two workers, to a writer.
+fn signed<E: Tally, G: Tally, B: Tally>(
+    rt: &(impl AllocGlobal + Threads + Wait + Sync),
+    service: &SigningService<MemoryStore, E, G, B>,
+    desk: &mut Desk<E, G, B>,
+    text: &[u8],
+    writer: &mut Sink,
+) -> Result<Done, LinesFault> {
+    let mut rest = text;
+    sign_lines(rt, rt.alloc(), service, &mut rest, writer, desk, 2)
+}
+
+/// A writer that takes so many bytes, one a write, and then fails, or takes nothing.
+fn sink(alloc: Global, writes: usize, fails: bool) -> Sink {
+    Sink {
+        taken: Vec::new(alloc),
+        most: 1,
+        writes,
+        fails,
+        is_interrupted: false,
+    }
+}
+
+/// Whether a text begins as an answer line does that has this index, of two digits.
+fn begins_answer(text: &[u8], index: u64) -> bool {
+    let tens = b'0' + (index / 10 % 10) as u8;
+    let ones = b'0' + (index % 10) as u8;
+    text.starts_with(&[tens, ones, b' '])
+}
+
+/// Whether a text is an answer line of this length that has this index, of two digits.
+fn is_answer(text: &[u8], length: usize, index: u64) -> bool {
+    text.len() == length && begins_answer(text, index) && text.ends_with(b"\n")
+}
+
+/// Whether a text has four answer lines of this length, from this index on.
+fn has_four_answers(text: &[u8], length: usize, first: u64) -> bool
+    requires some { 1 ≤ length }
+    requires at_most { length ≤ 20000 }
+{
+    let mut index = first;
+    let mut is_right = text.len() == 4 * length;
+    for line in text.chunks(length) {
+        is_right = is_right && is_answer(line, length, index);
+        index = index.saturating_add(1);
+    }
+    is_right
+}
+
+/// What a desk counted: entries, received, burnt.
+fn counts<E: Tally, G: Tally, B: Tally>(desk: &Desk<E, G, B>) -> (u64, u64, u64) {
+    (desk.entries(), desk.received(), desk.burnt())
+}
+
+/// Whether this text is refused, with nothing written and nothing counted.
+fn refuses<E: Tally, G: Tally, B: Tally>(
+    rt: &(impl AllocGlobal + Threads + Wait + Sync),
+    service: &SigningService<MemoryStore, E, G, B>,
+    desk: &mut Desk<E, G, B>,
+    text: &[u8],
+    fault: LinesFault,
+) -> bool {
+    let mut writer = sink(rt.alloc(), 1, true);
+    let before = counts(desk);
+    let answer = signed(rt, service, desk, text, &mut writer);
+    answer == Err(fault) && writer.taken.is_empty() && counts(desk) == before
+}
+
+/// Whether four lines are answered from this index on, by lines of this length.
+fn answers_four<E: Tally, G: Tally, B: Tally>(
+    rt: &(impl AllocGlobal + Threads + Wait + Sync),
+    service: &SigningService<MemoryStore, E, G, B>,
+    desk: &mut Desk<E, G, B>,
+    length: usize,
+    first: u64,
+) -> Result<bool, Fail>
+    requires some { 1 ≤ length }
+    requires at_most { length ≤ 20000 }
+{
+    let text = lines(rt.alloc(), 4)?;
+    let mut writer = sink(rt.alloc(), 100_000, true);
+    let done = signed(rt, service, desk, &text, &mut writer);
+    let all = Done {
+        signed: 4,
+        asked: 4,
+    };
+    Ok(done == Ok(all) && has_four_answers(&writer.taken, length, first))
+}
+
+/// Whether a writer that takes 5300 bytes gets the first answer and the beginning of the second.
+fn writes_a_beginning<E: Tally, G: Tally, B: Tally>(
+    rt: &(impl AllocGlobal + Threads + Wait + Sync),
+    service: &SigningService<MemoryStore, E, G, B>,
+    desk: &mut Desk<E, G, B>,
+    first: u64,
+    fails: bool,
+) -> Result<bool, Fail> {
+    let text = lines(rt.alloc(), 4)?;
+    let mut writer = sink(rt.alloc(), 5300, fails);
+    let answer = signed(rt, service, desk, &text, &mut writer);
+    let (line, more) = writer.taken.split_at(writer.taken.len().min(LINE));
+    let second = first.saturating_add(1);
+    let is_beginning = is_answer(line, LINE, first)
+        && begins_answer(more, second)
+        && more.len() == 8;
+    Ok(answer == Err(LinesFault::Write) && is_beginning)
+}
+
+/// Whether no line is signed where the text can't be read past so many blocks, and nothing is counted.
+fn is_unread<E: Tally, G: Tally, B: Tally>(
+    rt: &(impl AllocGlobal + Threads + Wait + Sync),
+    service: &SigningService<MemoryStore, E, G, B>,
+    desk: &mut Desk<E, G, B>,
+    text: &[u8],
+    reads: usize,
+) -> bool {
+    let mut source = Source {
+        rest: text,
+        step: 70,
+        reads,
+        is_interrupted: false,
+    };
+    let mut writer = sink(rt.alloc(), 1, true);
+    let before = counts(desk);
+    let answer = sign_lines(rt, rt.alloc(), service, &mut source, &mut writer, desk, 2);
+    let fault = LinesFault::Jobs(JobsFault::Read);
+    answer == Err(fault) && writer.taken.is_empty() && counts(desk) == before
+}
+
+/// Whether no line of four is signed where the text can't be read, from the first block or a later one on.
+fn is_never_signed_unread<E: Tally, G: Tally, B: Tally>(
+    rt: &(impl AllocGlobal + Threads + Wait + Sync),
+    service: &SigningService<MemoryStore, E, G, B>,
+    desk: &mut Desk<E, G, B>,
+) -> Result<bool, Fail> {
+    let text = lines(rt.alloc(), 4)?;
+    let mut is_right = true;
+    for reads in 0..5 {
+        is_right = is_right && is_unread(rt, service, desk, &text, reads);
+    }
+    Ok(is_right)
+}
+
+/// Whether more lines than the key has indices are refused, from index 46 on.
+fn refuses_too_many<E: Tally, G: Tally, B: Tally>(
+    rt: &(impl AllocGlobal + Threads + Wait + Sync),
+    service: &SigningService<MemoryStore, E, G, B>,
+    desk: &mut Desk<E, G, B>,
+) -> Result<bool, Fail> {
+    let many = lines(rt.alloc(), 1024)?;
+    let exhausted = LinesFault::Batch(BatchFault::Book(BookFault::Exhausted { left: 978 }));
+    Ok(refuses(rt, service, desk, &many, exhausted))
+}
+
+/// Signs lines from index 30 on.
+fn sign_batches<E: Tally, G: Tally, B: Tally>(
+    rt: &(impl Abort + AllocGlobal + Threads + Wait + Sync),
+    service: &SigningService<MemoryStore, E, G, B>,
+    desk: &mut Desk<E, G, B>,
+) -> Result<(), Fail> {
+    let bad = LinesFault::Jobs(JobsFault::BadJob { line: 1 });
+    assert!(rt; refuses(rt, service, desk, b"\n", bad));
+    assert!(rt; is_never_signed_unread(rt, service, desk)?);
+    assert!(rt; writes_a_beginning(rt, service, desk, 30, true)?);
+    assert!(rt; answers_four(rt, service, desk, LINE, 34)?);
+    assert!(rt; writes_a_beginning(rt, service, desk, 38, false)?);
+    assert!(rt; answers_four(rt, service, desk, LINE, 42)?);
+    assert!(rt; refuses_too_many(rt, service, desk)?);
+    assert!(rt; counts(desk) == (4, 16, 0));
+    Ok(())
+}
+
+/// Whether a writer that fails after so many writes, or takes nothing, has a beginning of the answers to four lines from index 30
+/// on, and all of them where it takes as many writes as they are.
+fn leaves_a_beginning<E: Tally, G: Tally, B: Tally>(
+    rt: &(impl AllocGlobal + Threads + Wait + Sync),
+    service: &SigningService<MemoryStore, E, G, B>,
+    desk: &mut Desk<E, G, B>,
+    writes: usize,
+    fails: bool,
+) -> Result<bool, Fail> {
+    let answers = memory::four_answers(rt, service.key())?;
+    let text = lines(rt.alloc(), 4)?;
+    let mut writer = sink(rt.alloc(), writes, fails);
+    writer.most = CHEAP_LINE;
+    let answer = signed(rt, service, desk, &text, &mut writer);
+    let is_as_wanted = if writes < CHEAP_WRITES {
+        answer == Err(LinesFault::Write)
+    } else {
+        answer.is_ok() && writer.taken.len() == answers.len()
+    };
+    Ok(is_as_wanted && answers.starts_with(&writer.taken))
+}
+
+/// Signs four lines from index 30 on to a writer that fails after so many writes, or takes nothing: it has a beginning of the
+/// answers, and the next four lines are answered from index 34 on.
+fn fail_to_write<E: Tally, G: Tally, B: Tally>(
+    rt: &(impl Abort + AllocGlobal + Threads + Wait + Sync),
+    service: &SigningService<MemoryStore, E, G, B>,
+    desk: &mut Desk<E, G, B>,
+    writes: usize,
+    fails: bool,
+) -> Result<(), Fail> {
+    assert!(rt;
+        leaves_a_beginning(rt, service, desk, writes, fails)?,
+        "{writes}"
+    );
+    assert!(rt;
+        answers_four(rt, service, desk, CHEAP_LINE, 34)?,
+        "{writes}"
+    );
+    Ok(())
+}
+
+/// Carries a scenario out with the first of these desks.
+fn carry_on<E: Tally, G: Tally, B: Tally>(
+    rt: &(impl Abort + AllocGlobal + Threads + Wait + Sync),
+    service: SigningService<MemoryStore, E, G, B>,
+    desks: Vec<Desk<E, G, B>>,
+    scenario: Scenario,
+) -> Result<(), Fail> {
+    let mut desks = desks;
+    let Some(desk) = desks.first_mut() else {
+        return Err(Fail::from("a desk"));
+    };
+    match scenario {
+        Scenario::Batches => sign_batches(rt, &service, desk),
+        Scenario::RefusedMemory => memory::sign_four(rt, service, desks),
+        Scenario::FailedWriter { writes, fails } => {
+            fail_to_write(rt, &service, desk, writes, fails)
+        }
+    }
+}
+
+/// Shares a book, and carries the scenario out.
+fn carried_out<E: Tally, G: Tally, B: Tally>(
+    rt: &(impl Abort + AllocGlobal + Threads + Wait + Sync),
+    book: Book<MemoryStore>,
+    blanks: Blanks,
+    scenario: Scenario,
+) -> Result<(), Fail>
+    requires same { book ≡ E.book }
+    requires entries { BlankFits blanks.entries E.name E.parts 2 }
+    requires given { BlankFits blanks.given G.name G.parts 2 }
+    requires burnt { BlankFits blanks.burnt B.name B.parts 2 }
+{
+    let shared = match SharedBook::<MemoryStore, E, G, B>::share(rt.alloc(), book, blanks, 1) {
+        Err((_, book, blanks)) => SharedBook::share(rt.alloc(), book, blanks, 1),
+        answer => answer,
+    };
+    match shared {
+        Ok((shared, desks)) => carry_on(rt, SigningService::over(shared), desks, scenario),
+        Err(_) => Err(Fail::from("memory for a desk")),
+    }
+}
+
+/// Carries a scenario out with a key of these levels.
+fn carry_out(
+    rt: &(impl Abort + AllocGlobal + Threads + Wait + Sync),
+    levels: &[(LmsType, OtsType)],
+    scenario: Scenario,
+) -> Result<(), Fail> {
+    let book = book(rt.alloc(), levels)?;
+    let blanks = Blanks {
+        entries: Blank::new(2),
+        given: Blank::new(2),
+        burnt: Blank::new(2),
+    };
+    carried_out::<Brand, Brand, Brand>(rt, book, blanks, scenario)
+}
+
+#[test]
+fn lines_are_signed(rt: HostRuntime) -> Result<(), Fail> {
+    carry_out(&rt, &LEVELS, Scenario::Batches)
+}
+
+/// Each write of four answers fails in turn.
+#[test]
+fn each_failed_write_leaves_a_beginning(rt: HostRuntime) -> Result<(), Fail> {
+    for writes in 0..=CHEAP_WRITES {
+        for fails in [true, false] {
+            carry_out(&rt, &CHEAP, Scenario::FailedWriter { writes, fails })?;
+        }
+    }
+    Ok(())
+}

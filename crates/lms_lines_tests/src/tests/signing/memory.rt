@@ -1,0 +1,172 @@
+//! Job lines signed where a request for memory is refused.
+use super::{CHEAP, CHEAP_LINE, Scenario, carry_out, counts, has_four_answers};
+use crate::tests::push_line;
+use lms_batch::{Batch, BatchFault, SigningService};
+use lms_book::{BookFault, MemoryStore};
+use lms_hss::{Forest, HssKey};
+use lms_lines::{Done, JobsFault, LinesFault, sign_lines, write_batch};
+use lms_shared_book::{Desk, Tally};
+use std::alloc::Global;
+use std::process::Abort;
+use std::sync::Wait;
+use std::test::Fail;
+use std::thread::Threads;
+
+/// The randomizer and the message of each line.
+const C: [u8; 32] = [
+    0, 1, 2, 3, 4, 5, 6, 7, 8, 9, 10, 11, 12, 13, 14, 15, 16, 17, 18, 19, 20, 21, 22, 23, 24, 25,
+    26, 27, 28, 29, 30, 31,
+];
+
+const MESSAGE: [u8; 2] = [0xab, 0xff];
+
+/// An empty text with room for four answer lines, made at the first or at the second try.
+fn roomy(alloc: Global) -> Result<Vec<u8>, Fail> {
+    match Vec::with_capacity(alloc, 4 * CHEAP_LINE) {
+        Ok(room) => Ok(room),
+        Err(_) => Ok(Vec::with_capacity(alloc, 4 * CHEAP_LINE)?),
+    }
+}
+
+/// Four lines, with room made at the first or at the second try.
+fn four_lines(alloc: Global) -> Result<Vec<u8>, Fail> {
+    let mut text = match Vec::with_capacity(alloc, 512) {
+        Ok(room) => room,
+        Err(_) => Vec::with_capacity(alloc, 512)?,
+    };
+    for _ in 0..4 {
+        push_line(&mut text, "aBFf", "\n")?;
+    }
+    Ok(text)
+}
+
+/// What signs indices 30 to 33 of a key, made at the first or at the second try.
+fn forest_of(rt: &(impl AllocGlobal + Threads + Sync), key: HssKey) -> Result<Forest, Fail> {
+    if key.capacity() < 34 {
+        return Err(Fail::from("a capacity of 1024"));
+    }
+    match Forest::cover(rt, rt.alloc(), key, 30, 4) {
+        Ok(forest) => Ok(forest),
+        Err(_) => Ok(Forest::cover(rt, rt.alloc(), key, 30, 4)?),
+    }
+}
+
+/// The signature of a line's job by an index, made at the first or at the second try.
+fn signature_of(forest: &Forest, g: u64) -> Result<Vec<u8>, Fail> {
+    if !forest.covers(g) {
+        return Err(Fail::from("an index that is covered"));
+    }
+    match forest.sign(g, &C, &MESSAGE) {
+        Ok(signature) => Ok(signature),
+        Err(_) => Ok(forest.sign(g, &C, &MESSAGE)?),
+    }
+}
+
+/// The four answers to lines signed from index 30 on.
+pub(super) fn four_answers(
+    rt: &(impl AllocGlobal + Threads + Sync),
+    key: HssKey,
+) -> Result<Vec<u8>, Fail> {
+    let forest = forest_of(rt, key)?;
+    let mut text = roomy(rt.alloc())?;
+    for start in 30..34 {
+        let signature = signature_of(&forest, start)?;
+        let mut signatures = match Vec::with_capacity(rt.alloc(), 1) {
+            Ok(room) => room,
+            Err(_) => Vec::with_capacity(rt.alloc(), 1)?,
+        };
+        signatures.push(signature)?;
+        write_batch(&mut text, &Batch::Complete { start, signatures })?;
+    }
+    Ok(text)
+}
+
+/// How many of the four answers make up a text, each at most once and in their order, or `None` where it is no such text.
+fn answers_in(text: &[u8], whole: &[u8]) -> Option<usize> {
+    let mut rest = text;
+    let mut count = 0_usize;
+    for line in whole.chunks(CHEAP_LINE) {
+        if let Some(more) = rest.strip_prefix(line) {
+            rest = more;
+            count = count.saturating_add(1);
+        }
+    }
+    if rest.is_empty() { Some(count) } else { None }
+}
+
+/// How many answers were written where signing ended so, and how many indices it used.
+fn wanted(answer: Result<Done, LinesFault>) -> Option<(usize, u64)> {
+    match answer {
+        Ok(Done { signed, asked: 4 }) => Some((signed, 4)),
+        Err(LinesFault::Batch(BatchFault::OutOfMemory { burnt: 4 })) => Some((0, 4)),
+        Err(LinesFault::Batch(BatchFault::Book(BookFault::OutOfMemory))) => Some((0, 0)),
+        Err(LinesFault::Jobs(JobsFault::OutOfMemory)) => Some((0, 0)),
+        _ => None,
+    }
+}
+
+/// Signs four lines by four workers, and says how many answers were written, and how many indices it used.
+fn signed_by_four<E: Tally, G: Tally, B: Tally>(
+    rt: &(impl AllocGlobal + Threads + Wait + Sync),
+    service: &SigningService<MemoryStore, E, G, B>,
+    desk: &mut Desk<E, G, B>,
+    text: &mut Vec<u8>,
+) -> Result<Option<(usize, u64)>, Fail> {
+    let input = four_lines(rt.alloc())?;
+    let mut rest: &[u8] = &input;
+    let answer = sign_lines(rt, rt.alloc(), service, &mut rest, text, desk, 4);
+    Ok(wanted(answer))
+}
+
+/// Signs four lines from index 30 on: all are answered, or some, or none. Says how many indices it used.
+fn sign_from_30<E: Tally, G: Tally, B: Tally>(
+    rt: &(impl Abort + AllocGlobal + Threads + Wait + Sync),
+    service: &SigningService<MemoryStore, E, G, B>,
+    desk: &mut Desk<E, G, B>,
+) -> Result<u64, Fail> {
+    let whole = four_answers(rt, service.key())?;
+    assert!(rt; has_four_answers(&whole, CHEAP_LINE, 30));
+    let mut text = roomy(rt.alloc())?;
+    match signed_by_four(rt, service, desk, &mut text)? {
+        Some((signed, used)) => {
+            assert!(rt; answers_in(&text, &whole) == Some(signed));
+            assert!(rt; counts(desk) == (used / 4, used, 0));
+            Ok(used)
+        }
+        None => Err(Fail::from("an answer of those that are known")),
+    }
+}
+
+/// Whether all desks are there, and the book has used so many indices from index 30 on.
+fn has_used<E: Tally, G: Tally, B: Tally>(
+    service: SigningService<MemoryStore, E, G, B>,
+    desks: Vec<Desk<E, G, B>>,
+    used: u64,
+) -> bool {
+    match service.into_book().settle(desks) {
+        Ok(book) => book.counter() == 30_u64.saturating_add(used),
+        Err(_) => false,
+    }
+}
+
+/// Signs four lines from index 30 on by four workers: all are answered, or some, or none, with their indices used; or nothing is
+/// reserved.
+pub(super) fn sign_four<E: Tally, G: Tally, B: Tally>(
+    rt: &(impl Abort + AllocGlobal + Threads + Wait + Sync),
+    service: SigningService<MemoryStore, E, G, B>,
+    desks: Vec<Desk<E, G, B>>,
+) -> Result<(), Fail> {
+    let mut desks = desks;
+    let Some(desk) = desks.first_mut() else {
+        return Err(Fail::from("a desk"));
+    };
+    let used = sign_from_30(rt, &service, desk)?;
+    assert!(rt; has_used(service, desks, used));
+    Ok(())
+}
+
+/// `tests/refused` refuses each request for memory in turn.
+#[test]
+fn lines_after_refused_memory(rt: HostRuntime) -> Result<(), Fail> {
+    carry_out(&rt, &CHEAP, Scenario::RefusedMemory)
+}

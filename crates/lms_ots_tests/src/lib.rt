@@ -1,0 +1,5 @@
+//! Tests of `lms_ots`.
+#![tactic(auto)]
+
+#[cfg(test)]
+mod tests;

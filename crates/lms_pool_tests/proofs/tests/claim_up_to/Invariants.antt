@@ -1,0 +1,5 @@
+use Rattle.std.proofs.Common.{◌≡◌}
+use Rattle.lms_pool_tests.proofs.tests.claim_up_to.Given as goal
+
+abbrev pub invariant-loop : goal.invariant-loop
+invariant-loop l = l.seat.pool ≡ l.pool

@@ -1,0 +1,15 @@
+use Rattle.std.proofs.Common.{◌≡◌, [], All, subst}
+use Rattle.std.proofs.lemmas.List.Elements.{All-pop, All-push, All-same}
+use Rattle.lms_pool.specs.States.{SeatState}
+use Rattle.lms_pool.proofs.Wholes.{all_at}
+use Rattle.lms_pool_tests.proofs.tests.finished_in_order.Goals as goal
+
+pub loop-drawn-preserved : goal.loop-drawn-preserved
+loop-drawn-preserved c =
+    let Ours : SeatState → Type 0 = λ s. s.pool ≡ c.args.pool in
+    let inv = c.loop-drawn.invariant in
+    let last = all_at (λ d. Ours d.0) c.pop.new.self.items c.in-Some.drawn [] (subst (All (λ d. Ours d.0)) c.in-Some.ensures.items inv.all) in
+    record {
+      all = (All-pop (λ d. Ours d.0) _ _ _ c.pop.ensures.items inv.all).0;
+      seats = All-same Ours _ _ c.in_ok-push.ensures.items (All-push Ours c.loop-drawn.seats.items c.in-Some.drawn.0 inv.seats last);
+    }

@@ -1,0 +1,5 @@
+//! Tests of `lms_pool`.
+#![tactic(auto)]
+
+#[cfg(test)]
+mod tests;

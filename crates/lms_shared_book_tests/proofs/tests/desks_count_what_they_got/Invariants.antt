@@ -1,0 +1,19 @@
+use Rattle.lms_shared_book_tests.proofs.tests.desks_count_what_they_got.Given as goal
+
+abbrev pub ghosts-three_desks-E-Ledger : goal.ghosts-three_desks-E-Ledger
+ghosts-three_desks-E-Ledger g a = record { name = a.blanks.entries.name; parts = a.blanks.entries.parts }
+
+abbrev pub ghosts-three_desks-G-Ledger : goal.ghosts-three_desks-G-Ledger
+ghosts-three_desks-G-Ledger g a = record { name = a.blanks.given.name; parts = a.blanks.given.parts }
+
+abbrev pub ghosts-three_desks-B-Ledger : goal.ghosts-three_desks-B-Ledger
+ghosts-three_desks-B-Ledger g a = record { name = a.blanks.burnt.name; parts = a.blanks.burnt.parts }
+
+abbrev pub ghosts-three_desks-E-Tally : goal.ghosts-three_desks-E-Tally
+ghosts-three_desks-E-Tally g a = record { book = a.book }
+
+abbrev pub ghosts-three_desks-G-Tally : goal.ghosts-three_desks-G-Tally
+ghosts-three_desks-G-Tally g a = record { book = a.book }
+
+abbrev pub ghosts-three_desks-B-Tally : goal.ghosts-three_desks-B-Tally
+ghosts-three_desks-B-Tally g a = record { book = a.book }

@@ -1,0 +1,355 @@
+ghost use Rattle.std.specs.Prelude.{◌≡◌, ◌≤◌, ◌+◌};
+ghost use Rattle.lms_shared_book.specs.Desks.{most_desks, BlankFits};
+
+mod fixtures;
+
+use crate::tests::fixtures::{opened, reserved, small_store, tall_store};
+use lms_book::{Book, BookFault, Entry, Lease, Left, MemoryStore};
+use lms_params::OutOfMemory;
+use lms_shared_book::{Blanks, Desk, MissingDesks, SharedBook, Tally};
+use std::alloc::{AllocGlobal, Global};
+use std::marker::Brand;
+use std::process::Abort;
+use std::sync::Wait;
+use std::sync::ledger::Blank;
+use std::test::Fail;
+use std::thread;
+use std::thread::Threads;
+
+fn blanks(parts: u64) -> Blanks
+    ensures { (result.entries.parts ≡ parts) × (result.given.parts ≡ parts) × (result.burnt.parts ≡ parts) }
+{
+    Blanks {
+        entries: Blank::new(parts),
+        given: Blank::new(parts),
+        burnt: Blank::new(parts),
+    }
+}
+
+/// What a desk counted: entries, received, burnt.
+fn counts<E: Tally, G: Tally, B: Tally>(desk: &Desk<E, G, B>) -> (u64, u64, u64) {
+    (desk.entries(), desk.received(), desk.burnt())
+}
+
+/// What the desk of this place counted.
+fn counts_at<E: Tally, G: Tally, B: Tally>(
+    desks: &[Desk<E, G, B>],
+    place: usize,
+) -> Option<(u64, u64, u64)> {
+    desks.get(place).map(|desk| counts(desk))
+}
+
+/// The first index of a lease and the number of its indices.
+fn spent(lease: Lease) -> (u64, u64) {
+    let range = (lease.start(), lease.len());
+    lease.end();
+    range
+}
+
+/// Reserves at the desk of this place, and gives the lease back: the first index and the number of indices.
+fn reserved_at<E: Tally, G: Tally, B: Tally>(
+    rt: &impl Wait,
+    shared: &SharedBook<MemoryStore, E, G, B>,
+    desks: &mut [Desk<E, G, B>],
+    place: usize,
+    n: u64,
+) -> Option<Result<(u64, u64), BookFault>>
+    requires some { 1 ≤ n }
+    requires at_most { n ≤ 1024 }
+{
+    let desk = desks.get_mut(place)?;
+    let lease = match shared.reserve(rt, desk, n) {
+        Err(BookFault::OutOfMemory) => shared.reserve(rt, desk, n),
+        answer => answer,
+    };
+    Some(lease.map(|lease| spent(lease)))
+}
+
+/// Settles with all desks, and compares the history.
+fn settled<E: Tally, G: Tally, B: Tally>(
+    rt: &impl Abort,
+    shared: SharedBook<MemoryStore, E, G, B>,
+    desks: Vec<Desk<E, G, B>>,
+    history: &[Entry],
+) -> Result<(), Fail> {
+    let book = shared.settle(desks).ok().ok_or("all desks are there")?;
+    assert_eq!(rt; book.history(), history);
+    Ok(())
+}
+
+/// Shares a book, and once more with what was handed back where memory is refused.
+fn shared_at_last<E: Tally, G: Tally, B: Tally>(
+    alloc: Global,
+    book: Book<MemoryStore>,
+    blanks: Blanks,
+) -> Result<(SharedBook<MemoryStore, E, G, B>, Vec<Desk<E, G, B>>), Fail>
+    requires entries { BlankFits blanks.entries E.name E.parts 3 }
+    requires given { BlankFits blanks.given G.name G.parts 3 }
+    requires burnt { BlankFits blanks.burnt B.name B.parts 3 }
+    requires same { book ≡ E.book }
+{
+    let shared = match SharedBook::share(alloc, book, blanks, 2) {
+        Err((OutOfMemory, book, blanks)) => SharedBook::share(alloc, book, blanks, 2),
+        answer => answer,
+    };
+    Ok(shared.ok().ok_or("a second try shares")?)
+}
+
+/// Shares a book that gave 3 indices before, and reserves 2 at the second of two desks.
+fn two_desks<E: Tally, G: Tally, B: Tally>(
+    rt: &(impl Abort + AllocGlobal + Wait),
+    book: Book<MemoryStore>,
+    blanks: Blanks,
+) -> Result<(), Fail>
+    requires entries { BlankFits blanks.entries E.name E.parts 3 }
+    requires given { BlankFits blanks.given G.name G.parts 3 }
+    requires burnt { BlankFits blanks.burnt B.name B.parts 3 }
+    requires same { book ≡ E.book }
+{
+    let (shared, mut desks) = shared_at_last::<E, G, B>(rt.alloc(), book, blanks)?;
+    assert_eq!(rt;
+        reserved_at(rt, &shared, &mut desks, 1, 2),
+        Some(Ok((8, 2)))
+    );
+    assert_eq!(rt; counts_at(&desks, 0), Some((0, 0, 0)));
+    assert_eq!(rt; counts_at(&desks, 1), Some((1, 2, 0)));
+    let history = [Entry::Given { len: 3 }, Entry::Given { len: 2 }];
+    settled(rt, shared, desks, &history)
+}
+
+/// `rt test` refuses no memory. `tests/refused lms_shared_book_tests tests::a_book_is_shared_after_refused_memory`, at the
+/// workspace's top, refuses each of the four requests that are made here, the last for the desks: the second call works.
+#[test]
+fn a_book_is_shared_after_refused_memory(rt: HostRuntime) -> Result<(), Fail> {
+    let mut book = opened(rt.alloc(), small_store(rt.alloc(), 5)?)?;
+    assert_eq!(rt; reserved(&mut book, 3), Ok((5, 3)));
+    two_desks::<Brand, Brand, Brand>(&rt, book, blanks(3))
+}
+
+/// Settles with a desk less than all, reads those that are handed back, and settles with all.
+fn settled_at_last<E: Tally, G: Tally, B: Tally>(
+    rt: &(impl Abort + AllocGlobal),
+    shared: SharedBook<MemoryStore, E, G, B>,
+    desks: Vec<Desk<E, G, B>>,
+    history: &[Entry],
+) -> Result<(), Fail> {
+    let mut desks = desks;
+    let last = desks.pop().ok_or("a desk")?;
+    let Err((missing, shared, mut desks)) = shared.settle(desks) else {
+        return Err(Fail::from("a desk is missing"));
+    };
+    assert_eq!(rt; missing, MissingDesks { present: 2 });
+    assert_eq!(rt;
+        missing.to_string(rt.alloc())?.as_str(),
+        "desks are missing: 2 came"
+    );
+    assert_eq!(rt; counts_at(&desks, 0), Some((2, 7, 0)));
+    assert_eq!(rt; counts_at(&desks, 1), Some((1, 0, 3)));
+    desks.push(last)?;
+    settled(rt, shared, desks, history)
+}
+
+/// Three desks: 2 given, 3 burnt, 5 given, and one at which nothing is reserved.
+fn three_desks<E: Tally, G: Tally, B: Tally>(
+    rt: &(impl Abort + AllocGlobal + Wait),
+    book: Book<MemoryStore>,
+    blanks: Blanks,
+) -> Result<(), Fail>
+    requires same { book ≡ E.book }
+    requires entries { BlankFits blanks.entries E.name E.parts 4 }
+    requires given { BlankFits blanks.given G.name G.parts 4 }
+    requires burnt { BlankFits blanks.burnt B.name B.parts 4 }
+{
+    let key = book.key();
+    let shared = SharedBook::<MemoryStore, E, G, B>::share(rt.alloc(), book, blanks, 3);
+    let (shared, mut desks) = shared.ok().ok_or("memory for desks")?;
+    assert!(rt; shared.key() == key);
+    assert_eq!(rt;
+        reserved_at(rt, &shared, &mut desks, 0, 2),
+        Some(Ok((0, 2)))
+    );
+    let burnt = BookFault::Store { start: 2, len: 3 };
+    assert_eq!(rt;
+        reserved_at(rt, &shared, &mut desks, 1, 3),
+        Some(Err(burnt))
+    );
+    assert_eq!(rt; base_counter_stored_entries(rt, &shared), (0, 5, 2, 2));
+    assert_eq!(rt;
+        reserved_at(rt, &shared, &mut desks, 0, 5),
+        Some(Ok((5, 5)))
+    );
+    assert_eq!(rt; counts_at(&desks, 0), Some((2, 7, 0)));
+    assert_eq!(rt; counts_at(&desks, 1), Some((1, 0, 3)));
+    assert_eq!(rt; counts_at(&desks, 2), Some((0, 0, 0)));
+    assert_eq!(rt; base_counter_stored_entries(rt, &shared), (0, 10, 10, 3));
+    let history = [
+        Entry::Given { len: 2 },
+        Entry::Burnt { len: 3 },
+        Entry::Given { len: 5 },
+    ];
+    settled_at_last(rt, shared, desks, &history)
+}
+
+/// What a shared book says of its reservations: base, counter, what is stored, entries. Its key is that of the reservations.
+fn base_counter_stored_entries<E: Tally, G: Tally, B: Tally>(
+    rt: &(impl Abort + Wait),
+    shared: &SharedBook<MemoryStore, E, G, B>,
+) -> (u64, u64, u64, usize) {
+    let key = shared.key();
+    assert!(rt; shared.with(rt, |found| found.key() == key));
+    shared.with(
+        rt,
+        |found| (
+            found.base(),
+            found.counter(),
+            found.stored(),
+            found.history().len(),
+        ),
+    )
+}
+
+#[test]
+fn desks_count_what_they_got(rt: HostRuntime) -> Result<(), Fail> {
+    let mut store = small_store(rt.alloc(), 0)?;
+    store.fail_replace(2, Left::Old);
+    let book = opened(rt.alloc(), store)?;
+    three_desks::<Brand, Brand, Brand>(&rt, book, blanks(4))
+}
+
+/// Reserves at each desk once.
+fn each_reserves<E: Tally, G: Tally, B: Tally>(
+    rt: &(impl Abort + Wait),
+    shared: &SharedBook<MemoryStore, E, G, B>,
+    desks: &mut [Desk<E, G, B>],
+) {
+    for place in 0..desks.len() {
+        let start = place as u64;
+        assert_eq!(rt;
+            reserved_at(rt, shared, desks, place, 1),
+            Some(Ok((start, 1)))
+        );
+        assert_eq!(rt; counts_at(desks, place), Some((1, 1, 0)));
+    }
+}
+
+/// So many desks, each of which reserves once.
+fn many_desks<E: Tally, G: Tally, B: Tally>(
+    rt: &(impl Abort + AllocGlobal + Wait),
+    book: Book<MemoryStore>,
+    blanks: Blanks,
+    desks: usize,
+) -> Result<(), Fail>
+    requires some { 1 ≤ desks }
+    requires at_most { desks ≤ most_desks }
+    requires same { book ≡ E.book }
+    requires entries { BlankFits blanks.entries E.name E.parts (desks + 1) }
+    requires given { BlankFits blanks.given G.name G.parts (desks + 1) }
+    requires burnt { BlankFits blanks.burnt B.name B.parts (desks + 1) }
+{
+    let shared = SharedBook::<MemoryStore, E, G, B>::share(rt.alloc(), book, blanks, desks);
+    let (shared, mut all) = shared.ok().ok_or("memory for desks")?;
+    assert_eq!(rt; all.len(), desks);
+    each_reserves(rt, &shared, &mut all);
+    settled(rt, shared, all, &[Entry::Given { len: 1 }; 64][..desks])
+}
+
+fn desks_of_a_new_book(rt: &(impl Abort + AllocGlobal + Wait), desks: usize) -> Result<(), Fail>
+    requires some { 1 ≤ desks }
+    requires at_most { desks ≤ most_desks }
+{
+    let book = opened(rt.alloc(), tall_store(rt.alloc())?)?;
+    many_desks::<Brand, Brand, Brand>(rt, book, blanks(desks as u64 + 1), desks)
+}
+
+#[test]
+fn each_number_of_desks_is_shared(rt: HostRuntime) -> Result<(), Fail> {
+    for desks in 1..65 {
+        desks_of_a_new_book(&rt, desks)?;
+    }
+    Ok(())
+}
+
+/// Eight leases of one index, each asked of the book: the starts of those that it knew.
+fn reserve_eight<E: Tally, G: Tally, B: Tally>(
+    rt: &impl Wait,
+    shared: &SharedBook<MemoryStore, E, G, B>,
+    desk: Desk<E, G, B>,
+) -> (Desk<E, G, B>, [Option<u64>; 8]) {
+    let mut desk = desk;
+    let mut starts = [None; 8];
+    for start in starts.iter_mut() {
+        if let Ok(lease) = shared.reserve(rt, &mut desk, 1) {
+            if shared.with(rt, |found| found.knows(&lease)) {
+                *start = Some(lease.start());
+            }
+            shared.give_back(lease);
+        }
+    }
+    (desk, starts)
+}
+
+/// The desks of four threads, where the starts that they got are 0 to 31, each once.
+fn gathered<E: Tally, G: Tally, B: Tally>(
+    rt: &(impl Abort + AllocGlobal),
+    visits: Vec<(Desk<E, G, B>, [Option<u64>; 8])>,
+) -> Result<Vec<Desk<E, G, B>>, Fail> {
+    let mut desks = Vec::new(rt.alloc());
+    let mut is_given = [false; 32];
+    for (desk, starts) in visits {
+        assert_eq!(rt; counts(&desk), (8, 8, 0));
+        desks.push(desk)?;
+        for start in starts {
+            let start = start.ok_or("a lease that the book knows")?;
+            let place = is_given.get_mut(start as usize).ok_or("an index below 32")?;
+            assert!(rt; !*place);
+            *place = true;
+        }
+    }
+    assert_eq!(rt; is_given, [true; 32]);
+    Ok(desks)
+}
+
+/// Settles with no desk, which is refused, and then with all.
+fn settled_after_none<E: Tally, G: Tally, B: Tally>(
+    rt: &(impl Abort + AllocGlobal),
+    shared: SharedBook<MemoryStore, E, G, B>,
+    desks: Vec<Desk<E, G, B>>,
+    history: &[Entry],
+) -> Result<(), Fail> {
+    let Err((missing, shared, _none)) = shared.settle(Vec::new(rt.alloc())) else {
+        return Err(Fail::from("no desk is there"));
+    };
+    assert_eq!(rt; missing, MissingDesks { present: 0 });
+    settled(rt, shared, desks, history)
+}
+
+/// Four threads, each with a desk, use up a key of 32 indices.
+fn four_threads<E: Tally + Send + Sync, G: Tally + Send + Sync, B: Tally + Send + Sync>(
+    rt: &(impl Abort + AllocGlobal + Threads + Wait + Sync),
+    book: Book<MemoryStore>,
+    blanks: Blanks,
+) -> Result<(), Fail>
+    requires same { book ≡ E.book }
+    requires entries { BlankFits blanks.entries E.name E.parts 5 }
+    requires given { BlankFits blanks.given G.name G.parts 5 }
+    requires burnt { BlankFits blanks.burnt B.name B.parts 5 }
+{
+    let shared = SharedBook::<MemoryStore, E, G, B>::share(rt.alloc(), book, blanks, 4);
+    let (shared, desks) = shared.ok().ok_or("memory for desks")?;
+    let lent = &shared;
+    let visits = thread::map_vec(rt, desks, &|desk| reserve_eight(rt, lent, desk))?;
+    let mut desks = gathered(rt, visits)?;
+    let exhausted = BookFault::Exhausted { left: 0 };
+    assert_eq!(rt;
+        reserved_at(rt, &shared, &mut desks, 0, 1),
+        Some(Err(exhausted))
+    );
+    assert_eq!(rt; counts_at(&desks, 0), Some((8, 8, 0)));
+    settled_after_none(rt, shared, desks, &[Entry::Given { len: 1 }; 32])
+}
+
+#[test]
+fn leases_are_known(rt: HostRuntime) -> Result<(), Fail> {
+    let book = opened(rt.alloc(), small_store(rt.alloc(), 0)?)?;
+    four_threads::<Brand, Brand, Brand>(&rt, book, blanks(5))
+}

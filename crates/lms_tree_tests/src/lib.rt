@@ -1,0 +1,5 @@
+//! Tests of `lms_tree`.
+#![tactic(auto)]
+
+#[cfg(test)]
+mod tests;
