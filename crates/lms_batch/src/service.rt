@@ -20,7 +20,6 @@ use std::sync::Wait;
 use std::thread::Threads;
 use std::{error, fmt};
 
-
 /// The most workers of a batch.
 pub const MOST_WORKERS: usize = 64;
 

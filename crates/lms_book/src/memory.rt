@@ -12,7 +12,6 @@ use std::alloc::Global;
 use std::marker::Model;
 use std::mem;
 
-
 /// A store in memory. Contracts see the bytes that it holds, those that it held before each write, how many writes it has
 /// room for, how many calls failed, and which calls are to fail.
 #[derive(Drop)]

@@ -18,7 +18,6 @@ use sha2::{Digest, Sha256};
 use std::error::Error;
 use std::fmt;
 
-
 /// The first bytes of every image.
 const MAGIC: [u8; MAGIC_LEN] = *b"HSSK";
 

@@ -17,7 +17,6 @@ use std::sync::Wait;
 use std::thread::Threads;
 use thiserror::Error;
 
-
 /// What became of job lines.
 #[derive(Clone, Copy, Debug, PartialEq, Eq)]
 pub struct Done {

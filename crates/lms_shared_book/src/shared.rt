@@ -17,7 +17,6 @@ use std::alloc::Global;
 use std::marker::Model;
 use std::sync::{Mutex, Wait};
 
-
 /// A book behind a lock. Whoever gets the lock finds the counter within the key's capacity, and the leases disjoint and
 /// below every counter that could be found in the store after a crash. Three ledgers count the entries, the indices given
 /// and the indices burnt. Contracts see the book as it was when it was shared, and the number of desks.

@@ -1,7 +1,6 @@
 //! How far a call is that works out trees.
 use std::marker::Sync;
 
-
 /// Who is told how far a call is that works out trees. All its threads tell, several at once, and each goes on when the method
 /// returns.
 pub trait Progress: Sync {

@@ -13,7 +13,6 @@ use crate::nodes::{inner_hash, leaf_count, leaf_hash};
 use lms_ots::{ByEights, ChainEnds, OtsId};
 use lms_params::{LmsType, OtsType, lms_sig_len, split_u32};
 
-
 /// Whether a signature is accepted for a message under a public key (RFC 8554, 5.4.2). The three may have any length. Its chains are
 /// taken to their ends by eights.
 pub fn verify(public: &[u8], msg: &[u8], sig: &[u8]) -> bool

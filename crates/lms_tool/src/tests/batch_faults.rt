@@ -83,7 +83,7 @@ fn cannot_read_job_lines(rt: HostRuntime) -> Result<(), Fail> {
 }
 
 /// Whether a batch says that its answers could not be written, where a writer gets a beginning of them and no more.
-fn gives_a_beginning(
+fn leaves_a_beginning(
     rt: &(impl Threads + Wait + AllocGlobal + Sync),
     world: &mut MemoryWorld,
     full: &mut Full,
@@ -118,7 +118,7 @@ fn gets_a_beginning(
         room,
         fails,
     };
-    Ok(gives_a_beginning(rt, &mut world, &mut full, answers) && goes_on(rt, &mut world))
+    Ok(leaves_a_beginning(rt, &mut world, &mut full, answers) && goes_on(rt, &mut world))
 }
 
 /// All indices are used where the answers can't be written, or not passed on.
