@@ -1,9 +1,9 @@
 mod progress;
+mod vectors;
 mod verification;
 
 use hex::FromHex;
 use lms_params::{LmsType, OtsType, OutOfMemory, lms_sig_len};
-use lms_slow::vectors::{ONE_10_8, Vector};
 use lms_slow::{SlowKey, SlowTree, slow_sign};
 use lms_tree::{
     BandTree, NodeSource, TreeKey, WholeTree, public_bytes, sign_into, signature_len, verify,
@@ -333,48 +333,6 @@ fn check_tall_tree(
 #[test]
 fn builds_a_tall_tree(rt: HostRuntime) -> Result<(), Fail> {
     check_tall_tree(&rt, key_of(LmsType::H15, OtsType::W2))
-}
-
-/// A key of one level, 10/8, and what another implementation signs by it.
-fn vector() -> Vector {
-    ONE_10_8
-}
-
-/// The tree of this vector's key.
-fn vector_tree(
-    rt: &(impl Abort + AllocGlobal + Threads + Sync),
-    vector: Vector,
-) -> Result<WholeTree, Fail> {
-    let key = TreeKey {
-        lms: LmsType::H10,
-        ots: OtsType::W8,
-        i: FromHex::from_hex(vector.id)?,
-        seed: FromHex::from_hex(vector.seed)?,
-    };
-    Ok(WholeTree::build(rt, rt.alloc(), key)?)
-}
-
-/// What the vector's leaf signs, after the four bytes of an HSS signature of one level.
-fn check_vector(
-    rt: &(impl Abort + AllocGlobal),
-    tree: &WholeTree,
-    vector: Vector,
-) -> Result<(), Fail> {
-    let q = (vector.index % 1024) as u32;
-    let randomizer = FromHex::from_hex(vector.randomizer)?;
-    let text = signature(rt, tree, q, &randomizer, vector.message.as_bytes())?;
-    let expected = hex::decode(rt.alloc(), vector.signature)?;
-    assert_eq!(rt; Some(text.as_slice()), expected.get(4..));
-    Ok(())
-}
-
-#[test]
-fn agrees_with_another_implementation(rt: HostRuntime) -> Result<(), Fail> {
-    let vector = vector();
-    let tree = vector_tree(&rt, vector)?;
-    let public = hex::decode(rt.alloc(), vector.public)?;
-    assert_eq!(rt; Some(public_bytes(&tree).as_slice()), public.get(4..));
-    check_vector(&rt, &tree, vector)
 }
 
 /// `rt test` refuses no memory, and `tests/refused` each request of a test in turn: where a build is refused, a second one works.

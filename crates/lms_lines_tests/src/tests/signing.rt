@@ -3,7 +3,7 @@ ghost use Rattle.lms_shared_book.specs.Desks.{BlankFits};
 
 mod memory;
 
-use crate::tests::{Sink, Source, lines};
+use crate::tests::{Sink, Source, lines, sink_of};
 use lms_batch::{BatchFault, SigningService};
 use lms_book::{Book, BookFault, MemoryStore};
 use lms_hss::{HssKey, Levels};
@@ -85,17 +85,6 @@ fn signed<E: Tally, G: Tally, B: Tally>(
     sign_lines(rt, rt.alloc(), service, &mut rest, writer, desk, 2)
 }
 
-/// A writer that takes so many bytes, one a write, and then fails, or takes nothing.
-fn sink(alloc: Global, writes: usize, fails: bool) -> Sink {
-    Sink {
-        taken: Vec::new(alloc),
-        most: 1,
-        writes,
-        fails,
-        is_interrupted: false,
-    }
-}
-
 /// Whether a text begins as an answer line does that has this index, of two digits.
 fn begins_answer(text: &[u8], index: u64) -> bool {
     let tens = b'0' + (index / 10 % 10) as u8;
@@ -135,7 +124,7 @@ fn refuses<E: Tally, G: Tally, B: Tally>(
     text: &[u8],
     fault: LinesFault,
 ) -> bool {
-    let mut writer = sink(rt.alloc(), 1, true);
+    let mut writer = sink_of(rt.alloc(), 1, true);
     let before = counts(desk);
     let answer = signed(rt, service, desk, text, &mut writer);
     answer == Err(fault) && writer.taken.is_empty() && counts(desk) == before
@@ -153,7 +142,7 @@ fn answers_four<E: Tally, G: Tally, B: Tally>(
     requires at_most { length ≤ 20000 }
 {
     let text = lines(rt.alloc(), 4)?;
-    let mut writer = sink(rt.alloc(), 100_000, true);
+    let mut writer = sink_of(rt.alloc(), 100_000, true);
     let done = signed(rt, service, desk, &text, &mut writer);
     let all = Done {
         signed: 4,
@@ -171,7 +160,7 @@ fn writes_a_beginning<E: Tally, G: Tally, B: Tally>(
     fails: bool,
 ) -> Result<bool, Fail> {
     let text = lines(rt.alloc(), 4)?;
-    let mut writer = sink(rt.alloc(), 5300, fails);
+    let mut writer = sink_of(rt.alloc(), 5300, fails);
     let answer = signed(rt, service, desk, &text, &mut writer);
     let (line, more) = writer.taken.split_at(writer.taken.len().min(LINE));
     let second = first.saturating_add(1);
@@ -195,7 +184,7 @@ fn is_unread<E: Tally, G: Tally, B: Tally>(
         reads,
         is_interrupted: false,
     };
-    let mut writer = sink(rt.alloc(), 1, true);
+    let mut writer = sink_of(rt.alloc(), 1, true);
     let before = counts(desk);
     let answer = sign_lines(rt, rt.alloc(), service, &mut source, &mut writer, desk, 2);
     let fault = LinesFault::Jobs(JobsFault::Read);
@@ -256,7 +245,7 @@ fn leaves_a_beginning<E: Tally, G: Tally, B: Tally>(
 ) -> Result<bool, Fail> {
     let answers = memory::four_answers(rt, service.key())?;
     let text = lines(rt.alloc(), 4)?;
-    let mut writer = sink(rt.alloc(), writes, fails);
+    let mut writer = sink_of(rt.alloc(), writes, fails);
     writer.most = CHEAP_LINE;
     let answer = signed(rt, service, desk, &text, &mut writer);
     let is_as_wanted = if writes < CHEAP_WRITES {

@@ -1,0 +1,86 @@
+//! What no contract says of answer lines: the written text, and what a failed writer has of it.
+use crate::tests::sink_of;
+use lms_batch::Batch;
+use lms_lines::{WriteFault, write_batch};
+use std::alloc::Global;
+use std::test::Fail;
+
+/// A batch of three signatures.
+fn batch(alloc: Global) -> Result<Batch, Fail> {
+    let mut signatures = Vec::new(alloc);
+    for signature in [[1, 2].as_slice(), [].as_slice(), [0xff].as_slice()] {
+        signatures.push(signature.to_vec(alloc)?)?;
+    }
+    Ok(Batch::Complete {
+        start: 9,
+        signatures,
+    })
+}
+
+/// A batch whose second signature is not there.
+fn partial_batch(alloc: Global) -> Result<Batch, Fail> {
+    let mut slots = Vec::new(alloc);
+    slots.push(Some([0xab].to_vec(alloc)?))?;
+    slots.push(None)?;
+    slots.push(Some([0].to_vec(alloc)?))?;
+    Ok(Batch::Partial {
+        start: u64::MAX,
+        slots,
+    })
+}
+
+/// A batch of one signature of 2644 zeros.
+fn long_batch(alloc: Global) -> Result<Batch, Fail> {
+    let mut signatures = Vec::new(alloc);
+    signatures.push(vec![in alloc; 0u8; 2644]?)?;
+    Ok(Batch::Complete {
+        start: 30,
+        signatures,
+    })
+}
+
+/// Whether a batch is written as this text.
+fn writes(alloc: Global, batch: &Batch, wanted: &[u8]) -> bool {
+    let mut text = Vec::new(alloc);
+    write_batch(&mut text, batch) == Ok(()) && text.as_slice() == wanted
+}
+
+/// Whether a batch is written as a text of this length that begins so.
+fn writes_long(alloc: Global, batch: &Batch, length: usize, front: &[u8]) -> bool {
+    let mut text = Vec::new(alloc);
+    write_batch(&mut text, batch) == Ok(()) && text.len() == length && text.starts_with(front)
+}
+
+#[test]
+fn answers_are_written(rt: HostRuntime) -> Result<(), Fail> {
+    let alloc = rt.alloc();
+    assert!(rt; writes(alloc, &batch(alloc)?, b"9 0102\n10 \n11 ff\n"));
+    let partial = b"18446744073709551615 ab\n18446744073709551617 00\n";
+    assert!(rt; writes(alloc, &partial_batch(alloc)?, partial));
+    assert!(rt; writes_long(alloc, &long_batch(alloc)?, 5292, b"30 00"));
+    Ok(())
+}
+
+/// Whether a writer that takes so many bytes, one a write, gets as many of the 17 of a text, and a fault tells that they are not all.
+fn writes_a_beginning(alloc: Global, writes: usize, fails: bool) -> Result<bool, Fail> {
+    let batch = batch(alloc)?;
+    let mut writer = sink_of(alloc, writes, fails);
+    let answer = write_batch(&mut writer, &batch);
+    let wanted = if writes < 17 { Err(WriteFault) } else { Ok(()) };
+    Ok(
+        answer == wanted
+            && b"9 0102\n10 \n11 ff\n".starts_with(&writer.taken)
+            && writer.taken.len() == writes.min(17),
+    )
+}
+
+#[test]
+fn a_failed_writer_has_a_beginning(rt: HostRuntime) -> Result<(), Fail> {
+    let alloc = rt.alloc();
+    for fails in [false, true] {
+        for writes in 0..30 {
+            assert!(rt; writes_a_beginning(alloc, writes, fails)?, "{writes}");
+        }
+    }
+    Ok(())
+}
