@@ -1,19 +1,13 @@
 mod batch;
 mod batch_faults;
 mod command;
-mod disk;
-mod disk_stops;
 mod faults;
-mod large;
 mod lines;
-mod locked;
 mod memory;
 mod meter;
-mod options;
-mod state;
+mod rows;
 mod states;
-mod stopping;
-mod stops;
+mod words;
 
 use lms_program::run::run;
 use lms_slow::vectors::ONE_5_8;

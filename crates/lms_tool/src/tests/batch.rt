@@ -1,6 +1,6 @@
 //! `batch`: job lines signed by the whole program.
-use super::state::{ID, SEED, TWO, keygen};
 use super::states::{is_with, keyed};
+use super::words::{CHEAP, TWO, keygen};
 use super::{Ended, VERIFY, says, text_of};
 use lms_program::run::run;
 use lms_world::{MemoryWorld, World};
@@ -110,7 +110,7 @@ fn are_answers(
     answers: &str,
 ) -> Result<bool, Fail> {
     let mut world = MemoryWorld::new(rt.alloc());
-    let words = keygen("5/8,5/8", SEED, ID);
+    let words = keygen("5/8,5/8");
     let mut are_all = says(rt, &words, &mut world, 0, "capacity 1024\n");
     let rows = [
         ("30", b"\x00bc"),
@@ -132,5 +132,42 @@ fn signs_job_lines(rt: HostRuntime) -> Result<(), Fail> {
     assert!(rt; four_answers(&rt, "1")? == answers);
     assert!(rt; four_answers(&rt, "64")? == answers);
     assert!(rt; are_answers(&rt, text_of(&answers))?);
+    Ok(())
+}
+
+/// The empty message, on a line without its end.
+const EMPTY: &str = "0000000000000000000000000000000000000000000000000000000000000000 ";
+
+/// The same, and a line whose randomizer has a digit less.
+const BAD: &str = "0000000000000000000000000000000000000000000000000000000000000000 \n\
+    000000000000000000000000000000000000000000000000000000000000000 ";
+
+/// Whether a batch of these lines, from a state with nothing used, ends with this status and these errors, answers so many lines
+/// and uses as many indices.
+fn ends_with(
+    rt: &(impl Threads + Wait + AllocGlobal + Sync),
+    workers: &str,
+    input: &str,
+    status: u8,
+    errors: &str,
+    answers: usize,
+) -> Result<bool, Fail> {
+    let mut world = keyed(rt.alloc(), &CHEAP, 0)?;
+    let end = end_of_batch(rt, &mut world, workers, input);
+    let is_so = end.status == status && end.errors() == errors;
+    let used = answers as u64;
+    Ok(is_so && end.output().lines().count() == answers && is_with(&world, &CHEAP, used, used, 0))
+}
+
+#[test]
+fn reads_lines(rt: HostRuntime) -> Result<(), Fail> {
+    for workers in ["1", "2", "64"] {
+        assert!(rt; ends_with(&rt, workers, EMPTY, 0, "", 1)?, "{workers}");
+        assert!(rt;
+            ends_with(&rt, workers, BAD, 2, "error: line 2: bad job\n", 0)?,
+            "{workers}"
+        );
+        assert!(rt; ends_with(&rt, workers, "", 0, "", 0)?, "{workers}");
+    }
     Ok(())
 }

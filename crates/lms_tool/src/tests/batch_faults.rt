@@ -1,7 +1,7 @@
 //! `batch` over streams, states and memory that fail.
 use super::batch::{FOUR_LINES, TWO_LINES, batch, end_of_batch, end_of_batch_to};
-use super::state::{CHEAP, ONE, TWO};
 use super::states::{image_of, is_with, keyed, store_at, store_of};
+use super::words::{CHEAP, ONE, TWO};
 use super::{Closed, Ended, Stuck};
 use lms_book::{Left, MemoryStore};
 use lms_commands::Status;

@@ -1,6 +1,6 @@
 //! States, files and streams that fail, in memory.
-use super::state::{INFO, ONE, keygen_one, sign_text};
 use super::states::{is_with, keyed, store_at, store_of};
+use super::words::{INFO, ONE, SIGN, keygen};
 use super::{Closed, VERIFY, fails_with, is_unprinted, says};
 use lms_book::Left;
 use lms_world::{MemoryWorld, World, WorldFault};
@@ -31,7 +31,7 @@ fn is_unread(
 #[test]
 fn cannot_read_the_state(rt: HostRuntime) -> Result<(), Fail> {
     assert!(rt; is_unread(&rt, &INFO)?);
-    assert!(rt; is_unread(&rt, &sign_text())?);
+    assert!(rt; is_unread(&rt, &SIGN)?);
     Ok(())
 }
 
@@ -56,7 +56,7 @@ fn stores_no_key(
 ) -> Result<bool, Fail> {
     let mut world = no_state(rt.alloc(), left)?;
     let line = "error: cannot write state\n";
-    let failed = fails_with(rt, &keygen_one(), &mut world, 3, line);
+    let failed = fails_with(rt, &keygen("5/8"), &mut world, 3, line);
     Ok(failed && is_missing(rt.alloc(), &world, "key.pub"))
 }
 
@@ -79,7 +79,7 @@ fn unwritable(alloc: Global, left: Left) -> Result<MemoryWorld, Fail> {
 /// Whether a write of the state that fails burns index 5, with no signature.
 fn burns(rt: &(impl Threads + Wait + AllocGlobal + Sync), world: &mut MemoryWorld) -> bool {
     let line = "error: cannot write state: 5 to 5 burnt\n";
-    fails_with(rt, &sign_text(), world, 3, line) && is_missing(rt.alloc(), world, "text.sig")
+    fails_with(rt, &SIGN, world, 3, line) && is_missing(rt.alloc(), world, "text.sig")
 }
 
 /// Whether a write that fails, and leaves the old text or the new one, burns index 5, and the next signature says this.
@@ -89,7 +89,7 @@ fn burns_and_signs(
     next: &str,
 ) -> Result<bool, Fail> {
     let mut world = unwritable(rt.alloc(), left)?;
-    Ok(burns(rt, &mut world) && says(rt, &sign_text(), &mut world, 0, next))
+    Ok(burns(rt, &mut world) && says(rt, &SIGN, &mut world, 0, next))
 }
 
 /// A write that fails burns the index, whichever text it leaves.
@@ -103,15 +103,7 @@ fn burns_an_index(rt: HostRuntime) -> Result<(), Fail> {
 #[test]
 fn is_exhausted(rt: HostRuntime) -> Result<(), Fail> {
     let mut world = keyed(rt.alloc(), &ONE, 32)?;
-    assert!(rt;
-        fails_with(
-            &rt,
-            &sign_text(),
-            &mut world,
-            4,
-            "error: exhausted: 0 left\n"
-        )
-    );
+    assert!(rt; fails_with(&rt, &SIGN, &mut world, 4, "error: exhausted: 0 left\n"));
     assert!(rt; is_with(&world, &ONE, 32, 0, 0));
     Ok(())
 }
@@ -128,7 +120,7 @@ fn fails_to_sign(
 ) -> Result<bool, Fail> {
     let mut world = keyed(rt.alloc(), &ONE, 5)?;
     world.fail(name, fault)?;
-    let failed = fails_with(rt, &sign_text(), &mut world, status, line);
+    let failed = fails_with(rt, &SIGN, &mut world, status, line);
     let next = 5_u64.saturating_add(used);
     Ok(failed && is_with(&world, &ONE, next, used, 0))
 }
@@ -164,7 +156,7 @@ fn leaves_a_state(
 ) -> Result<bool, Fail> {
     let mut world = MemoryWorld::new(rt.alloc());
     world.fail("key.pub", fault)?;
-    let failed = fails_with(rt, &keygen_one(), &mut world, status, line);
+    let failed = fails_with(rt, &keygen("5/8"), &mut world, status, line);
     Ok(failed && is_with(&world, &ONE, 0, 0, 0))
 }
 
@@ -181,9 +173,9 @@ fn cannot_write_a_public_key(rt: HostRuntime) -> Result<(), Fail> {
 fn cannot_print(rt: HostRuntime) -> Result<(), Fail> {
     let mut world = MemoryWorld::new(rt.alloc());
     world.write("text", b"abc")?;
-    assert!(rt; is_unprinted(&rt, &keygen_one(), &mut world, &mut Closed));
+    assert!(rt; is_unprinted(&rt, &keygen("5/8"), &mut world, &mut Closed));
     assert!(rt; is_with(&world, &ONE, 0, 0, 0));
-    assert!(rt; is_unprinted(&rt, &sign_text(), &mut world, &mut Closed));
+    assert!(rt; is_unprinted(&rt, &SIGN, &mut world, &mut Closed));
     assert!(rt; is_with(&world, &ONE, 1, 1, 0));
     assert!(rt; says(&rt, &VERIFY, &mut world, 0, "valid\n"));
     assert!(rt; is_unprinted(&rt, &INFO, &mut world, &mut Closed));

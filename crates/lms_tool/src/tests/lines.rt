@@ -1,6 +1,6 @@
 //! Each line is printed by one write, and passed on.
-use super::state::{INFO, keygen_one, sign_text};
-use super::states::{keyed_with, store_of};
+use super::states::keyed_with;
+use super::words::{INFO, SIGN, keygen};
 use super::{VERIFY, status_of};
 use lms_commands::{Fault, print_fault};
 use lms_params::{LmsType, OtsType};
@@ -58,8 +58,8 @@ fn prints(
 fn each_line_is_one_write(rt: HostRuntime) -> Result<(), Fail> {
     let mut world = MemoryWorld::new(rt.alloc());
     world.write("text", b"abc")?;
-    assert!(rt; prints(&rt, &keygen_one(), &mut world, "capacity 32\n|!", ""));
-    assert!(rt; prints(&rt, &sign_text(), &mut world, "index 0\n|!", ""));
+    assert!(rt; prints(&rt, &keygen("5/8"), &mut world, "capacity 32\n|!", ""));
+    assert!(rt; prints(&rt, &SIGN, &mut world, "index 0\n|!", ""));
     let lines = "levels 5/8\n|!counter 1\n|!capacity 32\n|!left 31\n|!openings 1\n|!burnt 0\n|!";
     assert!(rt; prints(&rt, &INFO, &mut world, lines, ""));
     assert!(rt; prints(&rt, &VERIFY, &mut world, "valid\n|!", ""));
@@ -68,7 +68,7 @@ fn each_line_is_one_write(rt: HostRuntime) -> Result<(), Fail> {
     assert!(rt;
         prints(
             &rt,
-            &keygen_one(),
+            &keygen("5/8"),
             &mut world,
             "",
             "error: state exists\n|!"

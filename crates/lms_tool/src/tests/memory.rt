@@ -1,6 +1,6 @@
 //! Commands to which memory is refused once, where it is.
-use super::state::{CHEAP, ID, INFO, SEED, keygen, sign_text};
 use super::states::is_with;
+use super::words::{CHEAP, INFO, SIGN, keygen};
 use super::{Ended, VERIFY, end_of};
 use lms_world::{MemoryWorld, World};
 use std::alloc::Global;
@@ -35,9 +35,9 @@ fn signs(
     world: &mut MemoryWorld,
 ) -> Result<bool, Fail> {
     let before = used(world)?;
-    let first = end_of(rt, &sign_text(), world);
+    let first = end_of(rt, &SIGN, world);
     let between = used(world)?;
-    let second = end_of(rt, &sign_text(), world);
+    let second = end_of(rt, &SIGN, world);
     let after = used(world)?;
     Ok(
         uses(&first) == between.checked_sub(before)
@@ -48,7 +48,7 @@ fn signs(
 
 /// Makes a key, at the second try where memory was refused at the first, unless the first try made its state.
 fn makes_a_key(rt: &(impl Threads + Wait + AllocGlobal + Sync), world: &mut MemoryWorld) -> bool {
-    let words = keygen("5/2", SEED, ID);
+    let words = keygen("5/2");
     let first = end_of(rt, &words, world);
     match (first.status, first.errors()) {
         (0, "") | (6, "error: cannot write output\n") => true,

@@ -1,7 +1,7 @@
 //! What a run that works out trees tells on standard error.
 use super::batch::{TWO_LINES, batch};
 use super::lines::Marked;
-use super::state::{ID, INFO, SEED, keygen, sign_text};
+use super::words::{INFO, SIGN, keygen};
 use crate::meter::{Meter, Wiping};
 use lms_hss::Progress;
 use lms_program::run::run_watched;
@@ -179,8 +179,8 @@ fn tells_of(
 fn keygen_sign_and_batch_tell_of_their_leaves(rt: HostRuntime) -> Result<(), Fail> {
     let mut world = MemoryWorld::new(rt.alloc());
     world.write("text", b"abc")?;
-    assert!(rt; tells_of(&rt, &keygen("5/2,5/2", SEED, ID), &mut world, b"", 32));
-    assert!(rt; tells_of(&rt, &sign_text(), &mut world, b"", 64));
+    assert!(rt; tells_of(&rt, &keygen("5/2,5/2"), &mut world, b"", 32));
+    assert!(rt; tells_of(&rt, &SIGN, &mut world, b"", 64));
     assert!(rt; tells_of(&rt, &batch("2"), &mut world, TWO_LINES.as_bytes(), 64));
     assert!(rt; tells_of(&rt, &INFO, &mut world, b"", 0));
     Ok(())

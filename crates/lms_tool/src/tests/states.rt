@@ -7,29 +7,6 @@ use lms_world::{MemoryWorld, World};
 use std::alloc::Global;
 use std::test::Fail;
 
-/// What version 1 wrote of 5/8 with counter 10, by a Python program.
-const FIRST_STATE: &str =
-    "4853534b000000010000000100000005000000041111111111111111111111111111111111111111\
-    11111111111111111111111122222222222222222222222222222222000000000000000afe473615\
-    7ef0b519fef10949bc7819f4f3fd6f81660e1a1435ccf5ffba43491e";
-
-/// What version 2 writes of it after its first signature, with counter 11, one opening and nothing burnt, by a Python program.
-const TURNED_STATE: &str =
-    "4853534b000000020000000100000005000000041111111111111111111111111111111111111111\
-    11111111111111111111111122222222222222222222222222222222000000000000000b00000000\
-    00000001000000000000000002d1ce7aff451e51926fa6c04af1986bc187b20122f7fdffb004b537\
-    574ebd1d";
-
-/// The bytes of a state that version 1 wrote, of 5/8 with counter 10.
-pub(super) fn first_state(alloc: Global) -> Result<Vec<u8>, Fail> {
-    Ok(hex::decode(alloc, FIRST_STATE)?)
-}
-
-/// The bytes of that state after its first signature.
-pub(super) fn turned_state(alloc: Global) -> Result<Vec<u8>, Fail> {
-    Ok(hex::decode(alloc, TURNED_STATE)?)
-}
-
 /// The text of the state with these levels and these numbers. `None` where there is no such state.
 fn image_with(
     levels: &[(LmsType, OtsType)],
