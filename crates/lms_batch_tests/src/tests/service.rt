@@ -378,7 +378,7 @@ fn two_are_signed(
     Ok(is_met && has_ended && outcome.is_complete(rt, 0, 30, jobs)?)
 }
 
-/// Each signature waits a while until the other one has begun. A third worker finds no job.
+/// Each signature waits a while until the other one has begun. Where three workers are asked for, two sign, since there are two jobs.
 #[test]
 fn two_workers_sign_at_once(rt: HostRuntime) -> Result<(), Fail> {
     let jobs = jobs_of(rt.alloc(), 2)?;

@@ -1,4 +1,4 @@
-//! What the program says of a state that is there.
+//! What `info` and `keygen` say through `run`, and the state that they leave.
 use super::states::{is_with, keyed, keyed_with};
 use super::words::{INFO, ONE, TWO, keygen};
 use super::{fails_with, says};
