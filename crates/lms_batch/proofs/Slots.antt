@@ -12,7 +12,7 @@ use Rattle.std.proofs.lemmas.Grind.{common_steps}
 use Rattle.lms_hss.specs.declared.key.HssKey.{HssKey as KeyOfCode}
 use Rattle.lms_batch.specs.Jobs.{JobText, SignedJob, signature_of}
 use Rattle.lms_spec.specs.Hss.{HssAccepts}
-use Rattle.lms_batch.specs.Batches.{AreAccepted, Gathered, batch_of, HoldsOnly, contents}
+use Rattle.lms_batch.specs.Batches.{AreAccepted, Collected, batch_of, HoldsOnly, contents}
 use Rattle.lms_batch.specs.Takes.{Belongs}
 
 pub length-batch_of : (key : KeyOfCode) (start : ℕ) (jobs : List JobText) → length (batch_of key start jobs) ≡ length jobs
@@ -131,5 +131,5 @@ slice_get-contents-some slots k None at some = absurd (false≢true some)
 slice_get-contents-some slots k (Some v) at some = (v.items, rw (slice_get-map (option_map (λ v. v.items)) slots k, at) refl)
 
 -- a place of the batch is that of a slot
-pub place-within : (batch : Gathered) (signed : SignedJob) (slots : ℕ) → Belongs batch signed → slots ≡ length batch.jobs → signed.place < slots
+pub place-within : (batch : Collected) (signed : SignedJob) (slots : ℕ) → Belongs batch signed → slots ≡ length batch.jobs → signed.place < slots
 place-within batch signed slots belongs one_each = omega (arith, one_each, slice_get_within batch.jobs signed.place signed.job belongs.job)

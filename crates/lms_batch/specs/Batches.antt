@@ -31,30 +31,30 @@ abbrev pub contents : List (Option (Vec ℕ Global)) → List (Option (List ℕ)
 contents slots = map (option_map (λ v. v.items)) slots
 
 -- the jobs of a key from a start, and a slot for each
-pub record Gathered : Type 0 where
+pub record Collected : Type 0 where
   pub key : KeyOfCode
   pub start : ℕ
   pub jobs : List JobText
   pub slots : List (Option (List ℕ))
 
 -- none of the jobs is signed
-abbrev pub none_of : KeyOfCode → ℕ → List JobText → Gathered
+abbrev pub none_of : KeyOfCode → ℕ → List JobText → Collected
 none_of key start jobs = record { key = key; start = start; jobs = jobs; slots = replicate (length jobs) None }
 
 -- the signature stands in the slot of its place
-abbrev pub with_signature : Gathered → SignedJob → Gathered
-with_signature gathered signed = record gathered { slots = slice_set gathered.slots signed.place (Some signed.signature) }
+abbrev pub with_signature : Collected → SignedJob → Collected
+with_signature collected signed = record collected { slots = slice_set collected.slots signed.place (Some signed.signature) }
 
--- both gather the same jobs of the same key from the same start
-pub record IsSameBatch (old new : Gathered) : Type 0 where
+-- both collect the same jobs of the same key from the same start
+pub record IsSameBatch (old new : Collected) : Type 0 where
   pub key : new.key ≡ old.key
   pub start : new.start ≡ old.start
   pub jobs : new.jobs ≡ old.jobs
 
 -- what a collector keeps: each slot is empty or holds the signature of its job, which is accepted, and there is room to list all
-pub record IsGathering (gathered : Gathered) (slots : ℕ) (listed : List (Vec ℕ Global)) (room : ℕ) : Type 0 where
-  pub holds : HoldsOnly (batch_of gathered.key gathered.start gathered.jobs) gathered.slots
-  pub accepted : AreAccepted (hss_public_key (hss_key_of gathered.key)) gathered.jobs gathered.slots
-  pub one_each : slots ≡ length gathered.jobs
+pub record IsCollecting (collected : Collected) (slots : ℕ) (listed : List (Vec ℕ Global)) (room : ℕ) : Type 0 where
+  pub holds : HoldsOnly (batch_of collected.key collected.start collected.jobs) collected.slots
+  pub accepted : AreAccepted (hss_public_key (hss_key_of collected.key)) collected.jobs collected.slots
+  pub one_each : slots ≡ length collected.jobs
   pub none_listed : listed ≡ []
   pub fits : slots ≤ room

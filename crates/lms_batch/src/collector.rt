@@ -52,9 +52,9 @@ pub struct Collector<'j> {
 impl<'j> Model for Collector<'j> {
     ghost use Rattle.std.specs.Prelude.{vec_len, vec_capacity};
     ghost use Rattle.lms_batch.specs.Jobs.{texts_of};
-    ghost use Rattle.lms_batch.specs.Batches.{Gathered, IsGathering, contents};
+    ghost use Rattle.lms_batch.specs.Batches.{Collected, IsCollecting, contents};
 
-    ghost Value = { Gathered };
+    ghost Value = { Collected };
 
     ghost view = { λ c. record {
       key = c.key;
@@ -63,7 +63,7 @@ impl<'j> Model for Collector<'j> {
       slots = contents c.slots.items;
     } };
 
-    ghost invariant = { λ c. IsGathering
+    ghost invariant = { λ c. IsCollecting
         (record { key = c.key; start = c.start; jobs = texts_of c.jobs.now; slots = contents c.slots.items })
         (vec_len c.slots) c.signatures.items (vec_capacity c.signatures) };
 }

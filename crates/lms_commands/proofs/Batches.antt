@@ -32,7 +32,7 @@ use Rattle.lms_commands.specs.declared.fault.Fault.{Fault}
 use Rattle.lms_world.specs.Known.{IsOldOr, Known, Stays, Text}
 use Rattle.lms_commands.specs.SharedBooks.{IsDoneBy, IsRefusedBy, at_one_desk}
 use Rattle.lms_commands.specs.Signing.{MayBurnIndices, MayBeImageOf, MayLackIndices, Opens, MayUseIndices}
-use Rattle.lms_commands.proofs.Signings.{IsFresh, image_is}
+use Rattle.lms_commands.proofs.Signings.{IsJustOpened, image_is}
 
 same_sums : (a b : Sums) → a.entries ≡ b.entries → a.received ≡ b.received → a.burnt ≡ b.burnt → a ≡ b
 same_sums a b e r u i = record { entries = e i; received = r i; burnt = u i }
@@ -107,7 +107,7 @@ refused_so start n fault could = let found = finds_start start n (Err (unsigned.
 
 module _ (old new : Known) (state : Text) (start left : BookState) (store : StoreView)
     (counted : HasImage start.key start.base start.openings start.burnt)
-    (opened : MayBeImageOf old state start.key start.base start.openings start.burnt) (is_fresh : IsFresh start) (view : store ≡ left.store)
+    (opened : MayBeImageOf old state start.key start.base start.openings start.burnt) (is_fresh : IsJustOpened start) (view : store ≡ left.store)
     (taken : (text : List ℕ) → MayLeave start.store text ↔ old.may_hold state text)
     (kept : (text : List ℕ) → MayLeave store text → new.may_hold state text)
     (only : (text : List ℕ) → new.holds state text → MayLeave store text) where
@@ -134,7 +134,7 @@ module _ (old new : Known) (state : Text) (start left : BookState) (store : Stor
   -- where they were given, the image that counts them is left
   uses : (n : ℕ) → IsSettled start (sums 1 (suc n) 0) left → MayUseIndices (suc n) old new state start.key start.base
   uses n settled =
-      let made = (one_given start (suc n) settled.entries left (omega arith) settled.after settled.all).makes in
+      let made = (one_given start (suc n) settled.entries left (omega arith) settled.after settled.all).reservation in
       let text = image_of start.key (start.base + suc n) (start.openings + 1) start.burnt in
       let there : MayLeave left.store text = subst (λ (s : StoreView). MayLeave s text) (sym made.3) (only_has (next_image (suc n) start) text (sym (image_is (suc n) start is_fresh))) in
       record {
@@ -149,7 +149,7 @@ module _ (old new : Known) (state : Text) (start left : BookState) (store : Stor
   -- where they were burnt, the state is what it was, or counts them
   burns : (n : ℕ) → 1 ≤ n → IsSettled start (sums 1 0 n) left → MayBurnIndices n old new state start.base
   burns n some settled =
-      let made = (one_burnt start n settled.entries left some settled.after settled.all).makes in
+      let made = (one_burnt start n settled.entries left some settled.after settled.all).reservation in
       let either : IsOldOr (image_of start.key (start.base + n) (start.openings + 1) start.burnt) old new state
       = λ text holds. ⊎_elim (λ was. inl ((taken text).0 was)) (λ is. inr (is ∙ image_is n start is_fresh))
       (leaves_failed _ start.store left.store made.4 text (subst (λ (s : StoreView). MayLeave s text) view (only text holds))) in

@@ -19,23 +19,23 @@ use Rattle.lms_commands.specs.declared.signing.SignFault.{SignFault}
 use Rattle.lms_commands.specs.declared.signing.SignFault.TheVariants as unsigned
 
 -- a book whose history is empty counts what was read
-pub record IsFresh (book : BookState) : Type 0 where
+pub record IsJustOpened (book : BookState) : Type 0 where
   pub used : counter book ≡ book.base
   pub lost : burnt_now book ≡ book.burnt
 
-pub fresh : (book : BookState) → book.history ≡ [] → IsFresh book
-fresh book none = record {
+pub just_opened : (book : BookState) → book.history ≡ [] → IsJustOpened book
+just_opened book none = record {
   used = omega (arith, ap (λ (history : List Entry). counter_of book.base history) none);
   lost = omega (arith, ap (λ (history : List Entry). burnt_after book.burnt history) none);
 }
 
 -- the image that counts n indices more
-pub image_is : (n : ℕ) (book : BookState) → IsFresh book → next_image n book ≡ image_of book.key (book.base + n) (book.openings + 1) book.burnt
+pub image_is : (n : ℕ) (book : BookState) → IsJustOpened book → next_image n book ≡ image_of book.key (book.base + n) (book.openings + 1) book.burnt
 image_is n book is = ap₂ (λ (at lost : ℕ). image_of book.key (at + n) (book.openings + 1) lost) is.used is.lost
 
 module _ (old new : Known) (state : Text) (before after : BookState) (store : StoreView)
     (counted : HasImage before.key before.base before.openings before.burnt)
-    (opened : MayBeImageOf old state before.key before.base before.openings before.burnt) (is_fresh : IsFresh before) (view : store ≡ after.store)
+    (opened : MayBeImageOf old state before.key before.base before.openings before.burnt) (is_fresh : IsJustOpened before) (view : store ≡ after.store)
     (taken : (text : List ℕ) → MayLeave before.store text ↔ old.may_hold state text)
     (kept : (text : List ℕ) → MayLeave store text → new.may_hold state text)
     (only : (text : List ℕ) → new.holds state text → MayLeave store text) where

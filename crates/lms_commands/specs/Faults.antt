@@ -28,32 +28,32 @@ use Rattle.lms_commands.specs.declared.signing.SignFault.TheVariants as signing
 use Rattle.lms_commands.specs.declared.status.Status.{Status}
 use Rattle.lms_commands.specs.declared.status.Status.TheVariants as status
 
-abbrev pub text_of : Fault → List ℕ
-text_of BadLevels = codes "bad levels"
-text_of TooManyLevels = key_text key.TooManyLevels
-text_of TooTall = key_text key.TooTall
-text_of BadSeed = codes "bad seed"
-text_of BadId = codes "bad id"
-text_of BadRandom = codes "bad random"
-text_of BadWorkers = codes "bad workers"
-text_of (BadJob line) = jobs_fault_text (jobs.BadJob line)
-text_of TooManyJobs = jobs_fault_text jobs.TooManyJobs
-text_of StateExists = codes "state exists"
-text_of StateInUse = codes "state in use"
-text_of ReadState = open_fault_text opening.Store
-text_of (BadState fault) = open_fault_text (opening.Image fault)
-text_of WriteState = store_fault_text
-text_of (WriteStateBurnt start len) = book_fault_text (book.Store start len)
-text_of (Exhausted left) = book_fault_text (book.Exhausted left)
-text_of OutOfMemory = out_of_memory_text
-text_of (OutOfMemoryBurnt count) = batch_fault_text (batch.OutOfMemory count)
-text_of (Partial signed asked) = codes "partial: " ++ decimal signed ++ codes " of " ++ decimal asked ++ codes " signed"
-text_of Input = jobs_fault_text jobs.Read
-text_of Output = write_fault_text
+abbrev pub command_fault_text : Fault → List ℕ
+command_fault_text BadLevels = codes "bad levels"
+command_fault_text TooManyLevels = key_text key.TooManyLevels
+command_fault_text TooTall = key_text key.TooTall
+command_fault_text BadSeed = codes "bad seed"
+command_fault_text BadId = codes "bad id"
+command_fault_text BadRandom = codes "bad random"
+command_fault_text BadWorkers = codes "bad workers"
+command_fault_text (BadJob line) = jobs_fault_text (jobs.BadJob line)
+command_fault_text TooManyJobs = jobs_fault_text jobs.TooManyJobs
+command_fault_text StateExists = codes "state exists"
+command_fault_text StateInUse = codes "state in use"
+command_fault_text ReadState = open_fault_text opening.Store
+command_fault_text (BadState fault) = open_fault_text (opening.Image fault)
+command_fault_text WriteState = store_fault_text
+command_fault_text (WriteStateBurnt start len) = book_fault_text (book.Store start len)
+command_fault_text (Exhausted left) = book_fault_text (book.Exhausted left)
+command_fault_text OutOfMemory = out_of_memory_text
+command_fault_text (OutOfMemoryBurnt count) = batch_fault_text (batch.OutOfMemory count)
+command_fault_text (Partial signed asked) = codes "partial: " ++ decimal signed ++ codes " of " ++ decimal asked ++ codes " signed"
+command_fault_text Input = jobs_fault_text jobs.Read
+command_fault_text Output = write_fault_text
 
 -- the line on standard error
 abbrev pub fault_line : Fault → List ℕ
-fault_line fault = codes "error: " ++ text_of fault ++ codes "\n"
+fault_line fault = codes "error: " ++ command_fault_text fault ++ codes "\n"
 
 abbrev pub status_of : Fault → Status
 status_of BadLevels = status.Usage
@@ -84,14 +84,14 @@ IsBeforeFiles OutOfMemory = ⊥
 IsBeforeFiles Output = ⊥
 IsBeforeFiles _ = Unit {0}
 
-abbrev pub code_of : Status → ℕ
-code_of status.Done = 0
-code_of status.Negative = 1
-code_of status.Usage = 2
-code_of status.State = 3
-code_of status.Exhausted = 4
-code_of status.Memory = 5
-code_of status.Stream = 6
+abbrev pub status_number : Status → ℕ
+status_number status.Done = 0
+status_number status.Negative = 1
+status_number status.Usage = 2
+status_number status.State = 3
+status_number status.Exhausted = 4
+status_number status.Memory = 5
+status_number status.Stream = 6
 
 -- the fault that a refused list of levels is; a list has one level at least
 abbrev pub of_key : KeyFault → Fault

@@ -1,7 +1,7 @@
 //! Why the program ends with a fault, and its printed line.
 ghost use Rattle.std.specs.Prelude.{◌≡◌, OnOk, Some};
 ghost use Rattle.std.specs.Io.KnownBytes.{Appends};
-ghost use Rattle.lms_commands.specs.Faults.{fault_line, of_book, of_key, of_opening, of_text, status_of, text_of};
+ghost use Rattle.lms_commands.specs.Faults.{fault_line, of_book, of_key, of_opening, of_text, status_of, command_fault_text};
 
 use crate::levels_fault::LevelsTextFault;
 use crate::line::print_line;
@@ -93,7 +93,7 @@ impl Fault {
 }
 
 impl fmt::Display for Fault {
-    ghost output = { λ fault. Some (text_of fault) };
+    ghost output = { λ fault. Some (command_fault_text fault) };
 
     fn fmt<W: fmt::Write>(&self, f: &mut fmt::Formatter<W>) -> fmt::Result {
         match *self {

@@ -1,6 +1,6 @@
 //! Why a text of levels is not read.
 ghost use Rattle.std.specs.Prelude.{Some};
-ghost use Rattle.lms_commands.specs.Faults.{of_text, text_of};
+ghost use Rattle.lms_commands.specs.Faults.{of_text, command_fault_text};
 
 use lms_params::OutOfMemory;
 use std::alloc::AllocError;
@@ -17,7 +17,7 @@ pub enum LevelsTextFault {
 }
 
 impl fmt::Display for LevelsTextFault {
-    ghost output = { λ fault. Some (text_of (of_text fault)) };
+    ghost output = { λ fault. Some (command_fault_text (of_text fault)) };
 
     fn fmt<W: fmt::Write>(&self, f: &mut fmt::Formatter<W>) -> fmt::Result {
         match *self {

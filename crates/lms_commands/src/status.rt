@@ -1,6 +1,6 @@
 //! How the program ends.
 ghost use Rattle.std.specs.Prelude.{◌≡◌};
-ghost use Rattle.lms_commands.specs.Faults.{code_of};
+ghost use Rattle.lms_commands.specs.Faults.{status_number};
 
 /// How the program ends, by the number that it exits with.
 #[derive(Clone, Copy, Debug, PartialEq, Eq)]
@@ -24,7 +24,7 @@ pub enum Status {
 impl Status {
     /// The number that the program exits with.
     pub fn code(self) -> u8
-        ensures { result ≡ code_of self }
+        ensures { result ≡ status_number self }
     {
         self as u8
     }

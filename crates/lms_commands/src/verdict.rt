@@ -1,7 +1,7 @@
 //! What verification says, and its printed line.
 ghost use Rattle.std.specs.Prelude.{◌≡◌, ◌<◌, OnOk};
 ghost use Rattle.std.specs.Io.KnownBytes.{Appends};
-ghost use Rattle.lms_commands.specs.Faults.{code_of};
+ghost use Rattle.lms_commands.specs.Faults.{status_number};
 ghost use Rattle.lms_commands.specs.Verdicts.{line_of, verdict_status};
 
 use crate::line::print_line;
@@ -20,7 +20,7 @@ impl Verdict {
     /// How the program ends with this verdict.
     pub fn status(self) -> Status
         ensures status { result ≡ verdict_status self }
-        ensures small { code_of result < 2 }
+        ensures small { status_number result < 2 }
     {
         match self {
             Verdict::Valid => Status::Done,

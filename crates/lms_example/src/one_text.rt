@@ -1,6 +1,6 @@
 //! A store of the program's own.
 ghost use Rattle.std.specs.Prelude.{◌≡◌, None, OnOk, OnErr};
-ghost use Rattle.lms_example.specs.Kept.{holding};
+ghost use Rattle.lms_example.specs.HeldTexts.{holding};
 
 use lms_book::{ReadFault, StateStore, StoreFault};
 use lms_params::OutOfMemory;
@@ -20,9 +20,9 @@ pub(crate) struct OneText {
 
 impl Model for OneText {
     ghost use Rattle.std.specs.Prelude.{map, option_map};
-    ghost use Rattle.lms_example.specs.Kept.{Kept};
+    ghost use Rattle.lms_example.specs.HeldTexts.{HeldTexts};
 
-    ghost Value = { Kept };
+    ghost Value = { HeldTexts };
 
     ghost view = { λ store. record {
       past = map (option_map (λ text. text.items)) store.past.items;
@@ -58,7 +58,7 @@ impl OneText {
 }
 
 impl StateStore for OneText {
-    ghost use Rattle.lms_example.specs.Kept.{view_of};
+    ghost use Rattle.lms_example.specs.HeldTexts.{view_of};
 
     ghost seen = { view_of };
 

@@ -1,10 +1,11 @@
 -- What contracts see of a `Forest`.
 use Rattle.std.specs.Prelude.{ℕ, ◌+◌, ◌<◌, ◌≤◌}
 use Rattle.lms_hss.specs.declared.key.HssKey.{HssKey}
+use Rattle.lms_tree.specs.Bands.{most_served}
 
 -- the most indices of a forest
 abbrev pub longest_lease : ℕ
-longest_lease = 1024
+longest_lease = most_served
 
 -- a key, and a range of its indices
 pub record Covered : Type 0 where

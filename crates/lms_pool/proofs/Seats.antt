@@ -15,7 +15,7 @@ use Rattle.lms_pool.specs.declared.history.Hand.{Hand}
 use Rattle.lms_pool.specs.declared.rule.Shape.{Shape}
 use Rattle.lms_pool.specs.declared.seat.DrawSeat.TheInside.{Inside}
 use Rattle.lms_pool.specs.History.{turn, state_after, entry, gone, IsLegal, IsLegalFrom, Extends, calls_of, stopped_by, stopped_in}
-use Rattle.lms_pool.specs.Rule.{Seated, counter, hand, the_hand, Makes, reply_at, called}
+use Rattle.lms_pool.specs.Rule.{Seated, counting_word, hand, the_hand, Makes, reply_at, took_effect}
 use Rattle.lms_pool.specs.States.{PoolState, SeatState, IsPool, IsSeat, Calls, seen}
 use Rattle.lms_pool.proofs.Histories.{claim_next, claim_end, gone_more, gone_within, state-append, stopped_after, stopped_within}
 use Rattle.lms_pool.proofs.Steps.{Rule, one}
@@ -102,18 +102,18 @@ own_hand me len = hand me.number len (the_hand me.seat.me.0).log
 -- what a step on the word asks of a seat's token
 abbrev pub Asks : PoolState → Shape → Inside → (ℕ → ℕ) → (Seated → ℕ → Seated → Type 0) → Type 0
 Asks pool shape me f then =
-    (me.seat.table_id ≡ pool.table) × (counter < pool.table.words) × Allows (Rule shape.len shape.seats) pool.table.slots me.seat.id me.seat.me counter f (then me.seat.me)
+    (me.seat.table_id ≡ pool.table) × (counting_word < pool.table.words) × Allows (Rule shape.len shape.seats) pool.table.slots me.seat.id me.seat.me counting_word f (then me.seat.me)
 
 -- a step that the hand of a seat allows is allowed at the seat
 pub asks : (me : Inside) (pool : PoolState) (shape : Shape) (f : ℕ → ℕ) (then : Seated → ℕ → Seated → Type 0)
     → me.pool.value ≡ pool → IsPool pool.table shape pool.key pool.start pool.len pool.seats → IsWell me
-    → Allows (Rule pool.len pool.seats) pool.table.slots me.seat.id (one (own_hand me pool.len)) counter f (then (one (own_hand me pool.len)))
+    → Allows (Rule pool.len pool.seats) pool.table.slots me.seat.id (one (own_hand me pool.len)) counting_word f (then (one (own_hand me pool.len)))
     → Asks pool shape me f then
 asks me pool shape f then same is seat allowed =
     let at = seat.alone ∙ (λ i. one (own_hand me (same i).len)) in (
       seat.table_is ∙ ap (λ (p : PoolState). p.table) same,
       omega (arith, is.words),
-      subst (λ (p : Shape × Seated). Allows (Rule p.0.len p.0.seats) pool.table.slots me.seat.id p.1 counter f (then p.1)) (λ i. (sym is.shape_is i, sym at i)) allowed,
+      subst (λ (p : Shape × Seated). Allows (Rule p.0.len p.0.seats) pool.table.slots me.seat.id p.1 counting_word f (then p.1)) (λ i. (sym is.shape_is i, sym at i)) allowed,
     )
 
 -- an addition that found the last place, or none, saw the end
@@ -158,7 +158,7 @@ module _ (me : Inside) (seat : IsWell me) where
   old_log = (the_hand me.seat.me.0).log
 
   -- a step that is a call's
-  pub after_call : (c : Call) (r : Reply) (n : ℕ) (w : Seated) → called c me.seat.me n w → reply_at me.pool.value.len n c ≡ r → Called me c r n w
+  pub after_call : (c : Call) (r : Reply) (n : ℕ) (w : Seated) → took_effect c me.seat.me n w → reply_at me.pool.value.len n c ≡ r → Called me c r n w
   after_call c r n w told is =
       let len = me.pool.value.len in
       let new = (the_hand w.0).log in
@@ -193,7 +193,7 @@ module _ (me : Inside) (seat : IsWell me) where
   not_ended l = let t : nat_eq (gone me.pool.value.len old_log) me.pool.value.len ≡ false = grind (arith, nat_tests) in seat.end ∙ t
 
   -- the load of a claim finds no place, and the seat has seen the end as before
-  pub after_load : (n : ℕ) (w : Seated) → called Claim me.seat.me n w → gone me.pool.value.len old_log ≡ me.pool.value.len
+  pub after_load : (n : ℕ) (w : Seated) → took_effect Claim me.seat.me n w → gone me.pool.value.len old_log ≡ me.pool.value.len
       → (reply_at me.pool.value.len n Claim ≡ Ended) × (me.has_seen_end ≡ nat_eq (turn me.pool.value.len (min n me.pool.value.len) Claim).1 me.pool.value.len)
   after_load n w told end =
       let len = me.pool.value.len in

@@ -9,7 +9,7 @@ use Rattle.clap.specs.Simple.{App, Shape, argument_words, built, built_leaf, ent
 use Rattle.clap.specs.Takes.{is_given}
 use Rattle.clap.specs.Faults.{check_fault, entered_fault, fault_of, is_simple_and_free, level_fault, walk_fault}
 use Rattle.clap.specs.declared.error.kind.ErrorKind.TheVariants.{MissingRequiredArgument}
-use Rattle.lms_program.specs.Application.{Subcommand, called, called_in, lms_app, required_option, shape_for, subcommands}
+use Rattle.lms_program.specs.Application.{Subcommand, subcommand_called, subcommand_called_in, lms_app, required_option, shape_for, subcommands}
 use Rattle.lms_program.proofs.FullRows.{AllFull, both_none, given_first, is_filling, level_checked, level_full}
 use Rattle.lms_program.proofs.Stops.{IsPastHelp, walk_past_help}
 
@@ -93,7 +93,7 @@ is_not_help name other = go (bytes_eq (codes "help") name) (bytes_eq-Decides (co
 -- the shape that was found for a name is that of a subcommand of this name, which finds no fault in the words after it
 abbrev Finds : List Subcommand → Option Shape → Text → List Text → Type 0
 Finds among found name rest =
-    (s : Subcommand) × (s.name ≡ name) × (called_in among name ≡ Some s)
+    (s : Subcommand) × (s.name ≡ name) × (subcommand_called_in among name ≡ Some s)
     × (option_map (λ x. rows_at x rest) found ≡ Some (rows_at (shape_built s) rest))
     × (level_fault (shape_built s) [] nothing_held rest false [] ≡ [])
 
@@ -117,7 +117,7 @@ finds (s ∷ among) name rest other some none = go (bytes_eq s.name name) (bytes
         → option_map_or (λ x. level_fault x [] nothing_held rest false []) (cond (t || false) (Some (shape_built s)) later) [] ≡ []
         → (is_some (option_map (λ x. rows_at x rest) later) ≡ true → option_map_or (λ x. level_fault x [] nothing_held rest false []) later [] ≡ []
         → Finds among later name rest)
-        → (r : Subcommand) × (r.name ≡ name) × (cond t (Some s) (called_in among name) ≡ Some r)
+        → (r : Subcommand) × (r.name ≡ name) × (cond t (Some s) (subcommand_called_in among name) ≡ Some r)
         × (option_map (λ x. rows_at x rest) (cond (t || false) (Some (shape_built s)) later) ≡ Some (rows_at (shape_built r) rest))
         × (level_fault (shape_built r) [] nothing_held rest false [] ≡ [])
     go true is found fault others = (s, is refl, refl, refl, fault)
@@ -126,21 +126,21 @@ finds (s ∷ among) name rest other some none = go (bytes_eq s.name name) (bytes
 -- a subcommand of the program was entered, and finds no fault in the words after it
 abbrev Enters : Option (Text × List Text) → Type 0
 Enters stop =
-    (s : Subcommand) × (rest : List Text) × (called s.name ≡ Some s) × (entered whole stop ≡ Some (rows_at (shape_built s) rest))
+    (s : Subcommand) × (rest : List Text) × (subcommand_called s.name ≡ Some s) × (entered whole stop ≡ Some (rows_at (shape_built s) rest))
     × (level_fault (shape_built s) [] nothing_held rest false [] ≡ [])
 
 enters : (stop : Option (Text × List Text)) → IsPastHelp stop → is_some (entered whole stop) ≡ true → entered_fault whole stop ≡ [] → Enters stop
 enters None past some none = cc
 enters (Some p) past some none =
     let found = finds subcommands p.0 p.1 past some none in
-    (found.0, p.1, ap called found.1 ∙ found.2, found.3, found.4)
+    (found.0, p.1, ap subcommand_called found.1 ∙ found.2, found.3, found.4)
 
 -- ---- the whole
 
 -- clap's definition reads the words as a subcommand of the program, and each of its options has a value
 abbrev pub IsWellRead : List Text → Type 0
 IsWellRead words =
-    (s : Subcommand) × (rows : List Row) × (called s.name ≡ Some s) × (subcommand_of lms_app words ≡ Some (s.name, rows)) × HasValues s.options rows
+    (s : Subcommand) × (rows : List Row) × (subcommand_called s.name ≡ Some s) × (subcommand_of lms_app words ≡ Some (s.name, rows)) × HasValues s.options rows
 
 -- so it is where that definition finds no fault in the words
 pub well_read : (words : List Text) → fault_of lms_app words ≡ [] → IsWellRead words

@@ -3,9 +3,9 @@ use Rattle.std.proofs.Common.{◌≡◌, ◌≢◌, ◌<◌, ◌≤◌, ℕ, Lis
 use Rattle.std.specs.Prelude.{IfErr, IfOk, MatchResult}
 use Rattle.clap.specs.Words.{Text}
 use Rattle.lms_program.specs.Commands.{AreTakenAs}
-use Rattle.lms_commands.specs.Faults.{IsBeforeFiles, code_of, status_of}
+use Rattle.lms_commands.specs.Faults.{IsBeforeFiles, status_number, status_of}
 use Rattle.lms_commands.specs.Batches.{IsSilent}
-use Rattle.lms_program.specs.Runs.{AsksToRead, Ends, Fails, FailsToObey, Moment, Obeys, ReadsInput}
+use Rattle.lms_program.specs.Runs.{AsksToRead, Ends, RunFails, FailsToObey, Moment, Obeys, ReadsInput}
 use Rattle.lms_program.specs.declared.command.types.Command.{Command}
 use Rattle.lms_program.specs.declared.command.types.Command.TheVariants.{Batch, Info, Keygen, Sign, Verify}
 use Rattle.lms_commands.specs.declared.fault.Fault.{Fault}
@@ -31,7 +31,7 @@ not_output fault before is = absurd (subst IsBeforeFiles is before)
 
 -- what is obeyed has a status below 2, so what is kept at errors that come before files is kept at each status from 2 on
 pub kept_before_files : (old new : Moment) (command : Command) (result : Result Status Fault) (Kept : Type 0) → IfOk result (Obeys old new command)
-    → IfErr result (λ fault. IsBeforeFiles fault → Kept) → MatchResult result (λ end. 2 ≤ code_of end → Kept) (λ fault. IsBeforeFiles fault → Kept)
+    → IfErr result (λ fault. IsBeforeFiles fault → Kept) → MatchResult result (λ end. 2 ≤ status_number end → Kept) (λ fault. IsBeforeFiles fault → Kept)
 kept_before_files old new command (Ok status.Done) Kept done failed = λ two. absurd (omega (arith, two))
 kept_before_files old new command (Ok status.Negative) Kept done failed = λ two. absurd (omega (arith, two))
 kept_before_files old new command (Ok status.Usage) Kept done failed = absurd done
@@ -43,7 +43,7 @@ kept_before_files old new command (Err fault) Kept done failed = failed
 
 -- a run fails as its command does, which prints nothing but where the output fails
 pub command_fails : (old new : Moment) (words : List Text) (command : Command) → AreTakenAs words command
-    → (fault : Fault) → FailsToObey old new command fault → (IsSilent fault → new.output ≡ old.output) → Fails old new words fault
+    → (fault : Fault) → FailsToObey old new command fault → (IsSilent fault → new.output ≡ old.output) → RunFails old new words fault
 command_fails old new words command reads BadLevels is silent = (silent tt, (command, reads, is))
 command_fails old new words command reads TooManyLevels is silent = (silent tt, (command, reads, is))
 command_fails old new words command reads TooTall is silent = (silent tt, (command, reads, is))
@@ -68,7 +68,7 @@ command_fails old new words command reads Output is silent = inr (command, reads
 
 -- a run that fails ends with the fault's status
 pub ends_at : (old new : Moment) (words : List Text) (fault : Fault)
-    → Fails old new words fault → Ends old new words (status_of fault)
+    → RunFails old new words fault → Ends old new words (status_of fault)
 ends_at old new words BadLevels is = inr (BadLevels, refl, is)
 ends_at old new words TooManyLevels is = inr (TooManyLevels, refl, is)
 ends_at old new words TooTall is = inr (TooTall, refl, is)
@@ -109,7 +109,7 @@ partly_done old new (Verify public message signature) signed asked (inr (inr (in
 partly_done old new (Verify public message signature) signed asked (inr (inr (inr is))) = let other = is.3 in cc
 
 -- so a fault with a line on the errors and a status below 2 is that of `batch`
-pub speaks : (old new : Moment) (words : List Text) (fault : Fault) → code_of (status_of fault) < 2 → Fails old new words fault
+pub speaks : (old new : Moment) (words : List Text) (fault : Fault) → status_number (status_of fault) < 2 → RunFails old new words fault
     → (status_of fault ≡ Negative) × AsksToRead words
 speaks old new words (Partial signed asked) low (command, reads, is) = (refl, (command, reads, partly_done old new command signed asked is))
 speaks old new words BadLevels low is = absurd (omega (arith, low))

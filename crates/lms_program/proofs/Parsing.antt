@@ -19,7 +19,7 @@ use Rattle.clap.specs.declared.parser.matches.Found.{Found}
 use Rattle.clap.specs.declared.parser.matches.SubCommand.{SubCommand}
 use Rattle.std.specs.Box.{box_value}
 use Rattle.clap.proofs.WalkLemmas.{first_value-rows}
-use Rattle.lms_program.specs.Application.{Subcommand, called, lms_app}
+use Rattle.lms_program.specs.Application.{Subcommand, subcommand_called, lms_app}
 use Rattle.lms_program.specs.Commands.{AreWordsOf, FaultAt, FaultOf, HasOptions, IsMadeOf}
 use Rattle.lms_program.specs.declared.command.types.Command.{Command}
 use Rattle.lms_program.specs.declared.command.types.CommandFault.{CommandFault}
@@ -100,9 +100,9 @@ module _ (words : List Text) (m : ArgMatches) (none : fault_of lms_app words ≡
     there (option ∷ options) has = (ap is_some (first_value-rows found option ∙ ap (first_of option) (sym same_rows)) ∙ has.0, there options has.1)
 
     -- and each has a value
-    pub options_are_there : HasOptions (called name) found
+    pub options_are_there : HasOptions (subcommand_called name) found
     options_are_there =
-        subst (λ (o : Option Subcommand). HasOptions o found) (sym read_as.2 ∙ ap called same_name) (there read_as.0.options read_as.4)
+        subst (λ (o : Option Subcommand). HasOptions o found) (sym read_as.2 ∙ ap subcommand_called same_name) (there read_as.0.options read_as.4)
 
     -- so a command made of them is the one that the words ask for
     pub reads_command : (command : Command) → IsMadeOf name (rows_of found) command → AreWordsOf words command

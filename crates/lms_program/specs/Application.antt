@@ -44,12 +44,12 @@ abbrev pub subcommands : List Subcommand
 subcommands = keygen ∷ info ∷ sign ∷ batch ∷ verify ∷ []
 
 -- the subcommand of this name, of some
-abbrev pub called_in : List Subcommand → Text → Option Subcommand
-called_in among name = find (λ s. bytes_eq s.name name) among
+abbrev pub subcommand_called_in : List Subcommand → Text → Option Subcommand
+subcommand_called_in among name = find (λ s. bytes_eq s.name name) among
 
 -- the program's subcommand of this name
-abbrev pub called : Text → Option Subcommand
-called = called_in subcommands
+abbrev pub subcommand_called : Text → Option Subcommand
+subcommand_called = subcommand_called_in subcommands
 
 -- the program with no subcommand yet, and the requirement that there be one
 abbrev pub bare_app : App

@@ -28,17 +28,17 @@ subcommand_for (Batch state workers) = batch
 subcommand_for (Verify public message signature) = verify
 
 -- the texts of its options, in turn
-abbrev pub texts_of : Command → List Text
-texts_of (Keygen levels seed id state public) =
+abbrev pub option_texts : Command → List Text
+option_texts (Keygen levels seed id state public) =
     string_bytes levels ∷ string_bytes seed ∷ string_bytes id ∷ string_bytes state ∷ string_bytes public ∷ []
-texts_of (Info state) = string_bytes state ∷ []
-texts_of (Sign state random message out) = string_bytes state ∷ string_bytes random ∷ string_bytes message ∷ string_bytes out ∷ []
-texts_of (Batch state workers) = string_bytes state ∷ string_bytes workers ∷ []
-texts_of (Verify public message signature) = string_bytes public ∷ string_bytes message ∷ string_bytes signature ∷ []
+option_texts (Info state) = string_bytes state ∷ []
+option_texts (Sign state random message out) = string_bytes state ∷ string_bytes random ∷ string_bytes message ∷ string_bytes out ∷ []
+option_texts (Batch state workers) = string_bytes state ∷ string_bytes workers ∷ []
+option_texts (Verify public message signature) = string_bytes public ∷ string_bytes message ∷ string_bytes signature ∷ []
 
 -- the words are those of this command, as clap's definition has it
 abbrev pub AreWordsOf : List Text → Command → Type 0
-AreWordsOf words command = AsksFor (subcommand_for command) (texts_of command) words
+AreWordsOf words command = AsksFor (subcommand_for command) (option_texts command) words
 
 -- clap's definition takes the words, as this command
 abbrev pub AreTakenAs : List Text → Command → Type 0
@@ -46,7 +46,7 @@ AreTakenAs words command = AreWordsOf words command × (fault_of lms_app words �
 
 -- the command is the subcommand of this name with these options
 abbrev pub IsMadeOf : Text → List Row → Command → Type 0
-IsMadeOf name rows command = ((subcommand_for command).name ≡ name) × HasTexts (subcommand_for command) rows (texts_of command)
+IsMadeOf name rows command = ((subcommand_for command).name ≡ name) × HasTexts (subcommand_for command) rows (option_texts command)
 
 -- each option of the subcommand has a value
 abbrev pub HasOptions : Option Subcommand → Found → Type 0

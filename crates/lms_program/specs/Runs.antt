@@ -34,16 +34,16 @@ abbrev pub streams_at : Moment → Streams
 streams_at at = streams at.input at.output
 
 -- the command is done
-abbrev pub IsDone : Moment → Moment → Command → Type 0
-IsDone old new (Keygen levels seed id state public) =
+abbrev pub IsCarriedOut : Moment → Moment → Command → Type 0
+IsCarriedOut old new (Keygen levels seed id state public) =
     (key : KeyOfCode) × IsKeyOf (string_bytes levels) (string_bytes seed) (string_bytes id) key
     × MakesKey old.known new.known key (string_bytes state) (string_bytes public) old.output new.output
-IsDone old new (Info state) = Describes old.known (string_bytes state) old.output new.output × Stays old.known new.known (string_bytes state)
-IsDone old new (Sign state random message out) =
+IsCarriedOut old new (Info state) = Describes old.known (string_bytes state) old.output new.output × Stays old.known new.known (string_bytes state)
+IsCarriedOut old new (Sign state random message out) =
     SignsFile old.known new.known (string_bytes state) (string_bytes random) (string_bytes message) (string_bytes out) old.output new.output
-IsDone old new (Batch state workers) =
+IsCarriedOut old new (Batch state workers) =
     AreWorkers (string_bytes workers) × SignsAllJobs old.known new.known (string_bytes state) (streams_at old) (streams_at new)
-IsDone old new (Verify public message signature) =
+IsCarriedOut old new (Verify public message signature) =
     Judges old.known (string_bytes public) (string_bytes message) (string_bytes signature) Valid × Appends old.output new.output (line_of Valid)
 
 -- the command is to verify a signature, which is not valid
@@ -54,7 +54,7 @@ FindsInvalid old new _ = ⊥
 
 -- what it takes for the program to end so with this command
 abbrev pub Obeys : Moment → Moment → Command → Status → Type 0
-Obeys old new command Done = IsDone old new command
+Obeys old new command Done = IsCarriedOut old new command
 Obeys old new command status.Negative = FindsInvalid old new command
 Obeys old new command _ = ⊥
 
@@ -78,16 +78,16 @@ CommandFails old new words fault = (command : Command) × AreTakenAs words comma
 
 -- what it takes for the program to end with this fault; memory may run out at any words,
 -- which leaves each state as it was, unless a command was under way
-abbrev pub Fails : Moment → Moment → List Text → Fault → Type 0
-Fails old new words OutOfMemory =
+abbrev pub RunFails : Moment → Moment → List Text → Fault → Type 0
+RunFails old new words OutOfMemory =
     (new.output ≡ old.output) × (((state : Text) → Stays old.known new.known state) ⊎ CommandFails old new words OutOfMemory)
-Fails old new words Output = AsksForHelp words ⊎ CommandFails old new words Output
-Fails old new words (Partial signed asked) = CommandFails old new words (Partial signed asked)
-Fails old new words fault = (new.output ≡ old.output) × CommandFails old new words fault
+RunFails old new words Output = AsksForHelp words ⊎ CommandFails old new words Output
+RunFails old new words (Partial signed asked) = CommandFails old new words (Partial signed asked)
+RunFails old new words fault = (new.output ≡ old.output) × CommandFails old new words fault
 
 -- the program ends so at a fault
 abbrev pub FailsWith : Moment → Moment → List Text → Status → Type 0
-FailsWith old new words end = (fault : Fault) × (status_of fault ≡ end) × Fails old new words fault
+FailsWith old new words end = (fault : Fault) × (status_of fault ≡ end) × RunFails old new words fault
 
 -- the words ask for a command, and the program ends so with it
 abbrev pub CommandEnds : Moment → Moment → List Text → Status → Type 0

@@ -14,20 +14,20 @@ abbrev pub words_for : Text → Subcommand → List Text → List Text
 words_for program s texts = program ∷ s.name ∷ option_words s.options texts
 
 -- clap's definition takes them, and reads the subcommand and the texts from them
-abbrev pub IsTaken : Subcommand → List Text → Type 0
-IsTaken s texts = (program : Text) → (takes lms_app (words_for program s texts) ≡ true) × AsksFor s texts (words_for program s texts)
+abbrev pub TakesTexts : Subcommand → List Text → Type 0
+TakesTexts s texts = (program : Text) → (takes lms_app (words_for program s texts) ≡ true) × AsksFor s texts (words_for program s texts)
 
 abbrev pub KeygenIsTaken : Type 0
-KeygenIsTaken = (levels seed id state public : Text) → IsTaken keygen (levels ∷ seed ∷ id ∷ state ∷ public ∷ [])
+KeygenIsTaken = (levels seed id state public : Text) → TakesTexts keygen (levels ∷ seed ∷ id ∷ state ∷ public ∷ [])
 
 abbrev pub InfoIsTaken : Type 0
-InfoIsTaken = (state : Text) → IsTaken info (state ∷ [])
+InfoIsTaken = (state : Text) → TakesTexts info (state ∷ [])
 
 abbrev pub SignIsTaken : Type 0
-SignIsTaken = (state random message out : Text) → IsTaken sign (state ∷ random ∷ message ∷ out ∷ [])
+SignIsTaken = (state random message out : Text) → TakesTexts sign (state ∷ random ∷ message ∷ out ∷ [])
 
 abbrev pub BatchIsTaken : Type 0
-BatchIsTaken = (state workers : Text) → IsTaken batch (state ∷ workers ∷ [])
+BatchIsTaken = (state workers : Text) → TakesTexts batch (state ∷ workers ∷ [])
 
 abbrev pub VerifyIsTaken : Type 0
-VerifyIsTaken = (public message signature : Text) → IsTaken verify (public ∷ message ∷ signature ∷ [])
+VerifyIsTaken = (public message signature : Text) → TakesTexts verify (public ∷ message ∷ signature ∷ [])

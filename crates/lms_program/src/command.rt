@@ -2,7 +2,7 @@
 ghost use Rattle.std.specs.Prelude.{◌≡◌, [], codes, IfOk, IfErr, IsSome, Some, MatchResult, map, true, false, string_bytes};
 ghost use Rattle.clap.specs.Words.{app_of, fault_of, first_value, found_of, kind_of, rows_of, rule_of, takes};
 ghost use Rattle.clap.specs.declared.builder.command.Command.TheViews.{out-Command as fields_of};
-ghost use Rattle.lms_program.specs.Application.{app_for, batch, called, info, keygen, lms_app, required_option, sign, verify};
+ghost use Rattle.lms_program.specs.Application.{app_for, batch, subcommand_called, info, keygen, lms_app, required_option, sign, verify};
 ghost use Rattle.lms_program.specs.Commands.{AreWordsOf, FaultAt, FaultOf, HasOptions, IsMadeOf};
 
 pub mod laws;
@@ -183,7 +183,7 @@ fn option<'a>(alloc: Global, name: &'a str, value: &'a str, help: &'a str) -> Ar
 
 /// The command of the subcommand `name` with these options.
 fn read(alloc: Global, name: &str, options: &ArgMatches<'_>) -> Result<Command, AllocError>
-    requires { HasOptions (called name.now) (found_of options.now) }
+    requires { HasOptions (subcommand_called name.now) (found_of options.now) }
     ensures { IfOk result (IsMadeOf name.now (rows_of (found_of options.now))) }
 {
     match name {

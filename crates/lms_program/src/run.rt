@@ -2,9 +2,9 @@
 ghost use Rattle.std.specs.Prelude.{◌≡◌, ◌⊎◌, ◌<◌, ◌≤◌, ℕ, List, IfErr, IfOk, MatchResult, OnOk, map};
 ghost use Rattle.std.specs.Io.KnownBytes.{Appends};
 ghost use Rattle.lms_commands.specs.Batches.{IsSilent};
-ghost use Rattle.lms_commands.specs.Faults.{IsBeforeFiles, code_of, status_of};
+ghost use Rattle.lms_commands.specs.Faults.{IsBeforeFiles, status_number, status_of};
 ghost use Rattle.lms_world.specs.Known.{SameFile, SameFiles};
-ghost use Rattle.lms_program.specs.Runs.{AsksToRead, AsksToTouch, Ends, Fails, FailsToObey, NoneWrites, Obeys, ReadsInput, Touches, Writes, moment};
+ghost use Rattle.lms_program.specs.Runs.{AsksToRead, AsksToTouch, Ends, RunFails, FailsToObey, NoneWrites, Obeys, ReadsInput, Touches, Writes, moment};
 ghost use Rattle.lms_commands.specs.declared.status.Status.{Status};
 
 use crate::command::{Command, CommandFault, command};
@@ -37,9 +37,9 @@ pub fn run<S: AsStr, W: World, I: Read, O: Write, E: Write>(
 ) -> Status
     ensures ends { Ends (moment (W.known world.old) (I.remaining input.old) (O.contents output.old))
         (moment (W.known world.new) (I.remaining input.new) (O.contents output.new)) (map S.text words.now) result }
-    ensures quiet { code_of result < 2 → (errors.new ≡ errors.old) ⊎ ((result ≡ Status.Negative) × AsksToRead (map S.text words.now)) }
-    ensures silent { 2 ≤ code_of result → code_of result < 6 → output.new ≡ output.old }
-    ensures unwritten { 2 ≤ code_of result → code_of result < 5 → SameFiles (W.known world.old) (W.known world.new) }
+    ensures quiet { status_number result < 2 → (errors.new ≡ errors.old) ⊎ ((result ≡ Status.Negative) × AsksToRead (map S.text words.now)) }
+    ensures silent { 2 ≤ status_number result → status_number result < 6 → output.new ≡ output.old }
+    ensures unwritten { 2 ≤ status_number result → status_number result < 5 → SameFiles (W.known world.old) (W.known world.new) }
     ensures files { (world.new ≡ world.old) ⊎ AsksToTouch (map S.text words.now) }
     ensures others { (name : List ℕ) → NoneWrites (map S.text words.now) name
         → SameFile (W.known world.old) (W.known world.new) name }
@@ -62,9 +62,9 @@ pub fn run_watched<S: AsStr, W: World, I: Read, O: Write, E: Write>(
 ) -> Status
     ensures ends { Ends (moment (W.known world.old) (I.remaining input.old) (O.contents output.old))
         (moment (W.known world.new) (I.remaining input.new) (O.contents output.new)) (map S.text words.now) result }
-    ensures quiet { code_of result < 2 → (errors.new ≡ errors.old) ⊎ ((result ≡ Status.Negative) × AsksToRead (map S.text words.now)) }
-    ensures silent { 2 ≤ code_of result → code_of result < 6 → output.new ≡ output.old }
-    ensures unwritten { 2 ≤ code_of result → code_of result < 5 → SameFiles (W.known world.old) (W.known world.new) }
+    ensures quiet { status_number result < 2 → (errors.new ≡ errors.old) ⊎ ((result ≡ Status.Negative) × AsksToRead (map S.text words.now)) }
+    ensures silent { 2 ≤ status_number result → status_number result < 6 → output.new ≡ output.old }
+    ensures unwritten { 2 ≤ status_number result → status_number result < 5 → SameFiles (W.known world.old) (W.known world.new) }
     ensures files { (world.new ≡ world.old) ⊎ AsksToTouch (map S.text words.now) }
     ensures others { (name : List ℕ) → NoneWrites (map S.text words.now) name
         → SameFile (W.known world.old) (W.known world.new) name }
@@ -100,12 +100,12 @@ fn answer<S: AsStr, W: World, I: Read, O: Write, E: Write>(
         (Ends (moment (W.known world.old) (I.remaining input.old) (O.contents output.old))
         (moment (W.known world.new) (I.remaining input.new) (O.contents output.new)) (map S.text words.now)) }
     ensures fails { IfErr result
-        (Fails (moment (W.known world.old) (I.remaining input.old) (O.contents output.old))
+        (RunFails (moment (W.known world.old) (I.remaining input.old) (O.contents output.old))
         (moment (W.known world.new) (I.remaining input.new) (O.contents output.new)) (map S.text words.now)) }
-    ensures quiet { IfOk result (λ status. code_of status < 2 → errors.new ≡ errors.old) }
-    ensures silent { MatchResult result (λ status. 2 ≤ code_of status → output.new ≡ output.old)
+    ensures quiet { IfOk result (λ status. status_number status < 2 → errors.new ≡ errors.old) }
+    ensures silent { MatchResult result (λ status. 2 ≤ status_number status → output.new ≡ output.old)
         (λ fault. IsSilent fault → output.new ≡ output.old) }
-    ensures unwritten { MatchResult result (λ status. 2 ≤ code_of status → SameFiles (W.known world.old) (W.known world.new))
+    ensures unwritten { MatchResult result (λ status. 2 ≤ status_number status → SameFiles (W.known world.old) (W.known world.new))
         (λ fault. IsBeforeFiles fault → SameFiles (W.known world.old) (W.known world.new)) }
     ensures files { (world.new ≡ world.old) ⊎ AsksToTouch (map S.text words.now) }
     ensures others { (name : List ℕ) → NoneWrites (map S.text words.now) name

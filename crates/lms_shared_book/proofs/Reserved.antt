@@ -20,8 +20,8 @@ after_push start [] e book new is step = (new, subst (λ (b : BookState). IsAfte
 after_push start (x ∷ es) e book new (next, first, rest) step = (next, first, after_push next es e book new rest step)
 
 entry_history : (old : BookState) (e : Entry) (new : BookState) → IsAfterEntry old e new → new.history ≡ old.history ++ e ∷ []
-entry_history old (Given n) new step = step.makes.2
-entry_history old (Burnt n) new step = step.makes.3
+entry_history old (Given n) new step = step.reservation.2
+entry_history old (Burnt n) new step = step.reservation.3
 
 -- the history goes on by the entries
 pub after_history : (start : BookState) (es : List Entry) (book : BookState) → IsAfter start es book → book.history ≡ start.history ++ es
@@ -52,13 +52,13 @@ after_sums start es book is = ap sums_of (after_history start es book is) ∙ su
 pub gives_entry : (n : ℕ) (old : BookState) (lease : LeaseState) (new : BookState) → new.key ≡ old.key → new.base ≡ old.base
     → new.openings ≡ old.openings → new.burnt ≡ old.burnt → ((held : Texts) → IsOpenedFrom held old → IsOpenedFrom held new)
     → Reserves n old (Ok lease) new → IsAfterEntry old (Given n) new
-gives_entry n old lease new k b o u kept (room, is, history, wrote) = record { key = k; base = b; openings = o; burnt = u; opened = kept; makes = (room, refl, history, wrote) }
+gives_entry n old lease new k b o u kept (room, is, history, wrote) = record { key = k; base = b; openings = o; burnt = u; opened = kept; reservation = (room, refl, history, wrote) }
 
 -- so is what it burnt
 pub burns_entry : (n start len : ℕ) (old new : BookState) → new.key ≡ old.key → new.base ≡ old.base
     → new.openings ≡ old.openings → new.burnt ≡ old.burnt → ((held : Texts) → IsOpenedFrom held old → IsOpenedFrom held new)
     → Reserves n old (Err (Store start len)) new → IsAfterEntry old (Burnt n) new
-burns_entry n start len old new k b o u kept (room, s, l, history, failed) = record { key = k; base = b; openings = o; burnt = u; opened = kept; makes = (room, refl, refl, history, failed) }
+burns_entry n start len old new k b o u kept (room, s, l, history, failed) = record { key = k; base = b; openings = o; burnt = u; opened = kept; reservation = (room, refl, refl, history, failed) }
 
 -- a book behind the lock; the part of the sums that is the book's own counts what was before
 pub behind : (shared : BookState) (desks : ℕ) (desk part totals : Sums) (found : BookState) (es : List Entry) → IsAfter shared es found

@@ -4,5 +4,5 @@ use Rattle.std.specs.Fmt.{decimal}
 use Rattle.lms_shared_book.specs.declared.missing.MissingDesks.{MissingDesks}
 
 -- the bytes of the text where desks are missing
-abbrev pub text_of : MissingDesks → List ℕ
-text_of missing = codes "desks are missing: " ++ (decimal missing.present ++ codes " came")
+abbrev pub missing_text : MissingDesks → List ℕ
+missing_text missing = codes "desks are missing: " ++ (decimal missing.present ++ codes " came")

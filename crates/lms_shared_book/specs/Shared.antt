@@ -13,9 +13,9 @@ abbrev pub next_lease : BookState → ℕ → LeaseState
 next_lease book n = record { key = book.key; start = counter book; len = n }
 
 -- the reservation that this entry of the history tells of
-abbrev pub Makes : BookState → Entry → BookState → Type 0
-Makes old (Given n) new = Reserves n old (Ok (next_lease old n)) new
-Makes old (Burnt n) new = Reserves n old (Err (Store (counter old) n)) new
+abbrev pub IsReservationOf : BookState → Entry → BookState → Type 0
+IsReservationOf old (Given n) new = Reserves n old (Ok (next_lease old n)) new
+IsReservationOf old (Burnt n) new = Reserves n old (Err (Store (counter old) n)) new
 
 -- the same, which keeps the key and what was read, and goes on being an opening of the same texts
 pub record IsAfterEntry (old : BookState) (entry : Entry) (new : BookState) : Type 0 where
@@ -24,7 +24,7 @@ pub record IsAfterEntry (old : BookState) (entry : Entry) (new : BookState) : Ty
   pub openings : new.openings ≡ old.openings
   pub burnt : new.burnt ≡ old.burnt
   pub opened : (held : Texts) → IsOpenedFrom held old → IsOpenedFrom held new
-  pub makes : Makes old entry new
+  pub reservation : IsReservationOf old entry new
 
 -- a book became this one by the reservations of these entries, one after another
 abbrev pub IsAfter : BookState → List Entry → BookState → Type 0

@@ -1,6 +1,6 @@
 //! Why a shared book was not settled.
 ghost use Rattle.std.specs.Prelude.{Some};
-ghost use Rattle.lms_shared_book.specs.Missing.{text_of};
+ghost use Rattle.lms_shared_book.specs.Missing.{missing_text};
 
 use std::{error, fmt};
 
@@ -12,7 +12,7 @@ pub struct MissingDesks {
 }
 
 impl fmt::Display for MissingDesks {
-    ghost output = { λ missing. Some (text_of missing) };
+    ghost output = { λ missing. Some (missing_text missing) };
 
     fn fmt<W: fmt::Write>(&self, f: &mut fmt::Formatter<W>) -> fmt::Result {
         let present = self.present;

@@ -1,5 +1,5 @@
 use Rattle.std.proofs.Common.{◌<◌, ◌∙◌, inr, map, subst, sym}
-use Rattle.lms_commands.specs.Faults.{code_of}
+use Rattle.lms_commands.specs.Faults.{status_number}
 use Rattle.lms_commands.specs.declared.status.Status.{Status}
 use Rattle.lms_program.specs.Runs.{Ends, moment}
 use Rattle.lms_program.proofs.Ending.{ends_at, speaks}
@@ -17,5 +17,5 @@ returns-in-Err-clause-quiet g c =
     let before = moment (g.W.World.known c.args.world.now) (g.I.Read.remaining c.args.input.now) (g.O.Write.contents c.args.output.now) in
     let after = moment (g.W.World.known c.answer.new.world) (g.I.Read.remaining c.answer.new.input) (g.O.Write.contents c.answer.new.output) in
     λ low.
-    let said = speaks before after (map g.S.AsStr.text c.args.words.now) c.in-Err.fault (subst (λ (s : Status). code_of s < 2) c.report.ensures low) c.in-Err.ensures.fails in
+    let said = speaks before after (map g.S.AsStr.text c.args.words.now) c.in-Err.fault (subst (λ (s : Status). status_number s < 2) c.report.ensures low) c.in-Err.ensures.fails in
     inr (c.report.ensures ∙ said.0, said.1)

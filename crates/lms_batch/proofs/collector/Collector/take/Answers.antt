@@ -7,18 +7,18 @@ use Rattle.lms_spec.specs.Profile.{hss_public_key}
 use Rattle.lms_hss.specs.Keys.{hss_key_of}
 use Rattle.lms_batch.specs.Jobs.{texts_of, signature_of}
 use Rattle.lms_batch.specs.Takes.{Belongs}
-use Rattle.lms_batch.specs.Batches.{Gathered}
+use Rattle.lms_batch.specs.Batches.{Collected}
 use Rattle.lms_batch.proofs.Slots.{AreAccepted-put, HoldsOnly-put, place-within, slice_get-contents, slice_get-contents-some}
 use Rattle.lms_batch.proofs.collector.Collector.take.Goals as goal
 
 pub index_mut-requires : goal.index_mut-requires
 index_mut-requires c =
-    let b = subst (λ (batch : Gathered). Belongs batch c.args.receipt) (sym c.self.view_is) (search rules) in
+    let b = subst (λ (batch : Collected). Belongs batch c.args.receipt) (sym c.self.view_is) (search rules) in
     omega (arith, place-within _ c.args.receipt _ b c.self.invariant.one_each)
 
 pub returns-then-is_some-clause-refused : goal.returns-then-is_some-clause-refused
 returns-then-is_some-clause-refused c =
-    let b = subst (λ (batch : Gathered). Belongs batch c.args.receipt) (sym c.self.view_is) (search rules) in
+    let b = subst (λ (batch : Collected). Belongs batch c.args.receipt) (sym c.self.view_is) (search rules) in
     let slots = c.self.inside.slots.items in
     let k = c.place-place.result in
     let within = place-within _ c.args.receipt _ b c.self.invariant.one_each in
@@ -28,7 +28,7 @@ returns-then-is_some-clause-refused c =
 
 pub invariant_of-self : goal.invariant_of-self
 invariant_of-self c =
-    let b = subst (λ (batch : Gathered). Belongs batch c.args.receipt) (sym c.self.view_is) (search rules) in
+    let b = subst (λ (batch : Collected). Belongs batch c.args.receipt) (sym c.self.view_is) (search rules) in
     let k = c.place-place.result in
     let job : slice_get (texts_of c.self.inside.jobs.now) k ≡ Some c.args.receipt.job = rw c.place-place.ensures b.job in
     let signed : c.into_signature.result.items ≡ signature_of c.self.inside.key (c.self.inside.start + k) c.args.receipt.job =
@@ -46,7 +46,7 @@ invariant_of-self c =
 
 pub returns-clause-taken : goal.returns-clause-taken
 returns-clause-taken c =
-    let b = subst (λ (batch : Gathered). Belongs batch c.args.receipt) (sym c.self.view_is) (search rules) in
+    let b = subst (λ (batch : Collected). Belongs batch c.args.receipt) (sym c.self.view_is) (search rules) in
     let slots = c.self.inside.slots.items in
     let k = c.place-place.result in
     let within = place-within _ c.args.receipt _ b c.self.invariant.one_each in

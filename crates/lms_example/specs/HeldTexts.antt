@@ -2,7 +2,7 @@
 use Rattle.std.specs.Prelude.{ℕ, List, [], ◌∷◌, ◌++◌, map, Option, Some, None}
 use Rattle.lms_book.specs.Stops.{Texts, StoreView, only}
 
-pub record Kept : Type 0 where
+pub record HeldTexts : Type 0 where
   -- what was held before each write
   pub past : List (Option (List ℕ))
   pub text : Option (List ℕ)
@@ -14,9 +14,9 @@ held None = Some []
 held (Some text) = only text
 
 -- what contracts see of it, as of any store
-abbrev pub view_of : Kept → StoreView
+abbrev pub view_of : HeldTexts → StoreView
 view_of store = record { now = held store.text; past = map held store.past; failures = store.failures }
 
 -- another text is held, and the one before recorded
-abbrev pub holding : Kept → List ℕ → Kept
+abbrev pub holding : HeldTexts → List ℕ → HeldTexts
 holding store text = record store { past = store.past ++ store.text ∷ []; text = Some text }
