@@ -1,27 +1,36 @@
 //! What all processors work out.
-ghost use Rattle.std.specs.Prelude.{◌^◌, ◌<◌, IfOk};
-
-use crate::case::key_of;
-use crate::hierarchy::{COVERED, forest, signature};
-use anyhow::Result;
+use crate::hss_case::{COVERED, count, forest, signature};
+use crate::tree_key::tree_key;
 use lms_params::{LmsType, OtsType};
 use lms_tree::{BandTree, WholeTree};
-use lms_yardstick::{
-    Hierarchy, MESSAGE, SEED, cover_compressions, signed_levels, tree_compressions,
-};
+use lms_yardstick::{Fault, Hierarchy, SEED, tree_compressions};
 use std::alloc::Global;
-use std::fmt;
 use std::thread::Threads;
 
-/// Each build, in the order in which they are printed.
-pub const BUILDS: [Build; 7] = [
-    Build::Whole(LmsType::H5, OtsType::W4),
-    Build::Band(LmsType::H5, OtsType::W4),
-    Build::Whole(LmsType::H10, OtsType::W8),
-    Build::Whole(LmsType::H10, OtsType::W4),
-    Build::Band(LmsType::H10, OtsType::W4),
-    Build::Band(LmsType::H15, OtsType::W4),
-    Build::Cover(COVERED),
+/// Each build and its name, in the order in which they are printed.
+pub const BUILDS: [(&str, Build); 7] = [
+    (
+        "WholeTree::build 5/4",
+        Build::Whole(LmsType::H5, OtsType::W4),
+    ),
+    ("BandTree::build 5/4", Build::Band(LmsType::H5, OtsType::W4)),
+    (
+        "WholeTree::build 10/8",
+        Build::Whole(LmsType::H10, OtsType::W8),
+    ),
+    (
+        "WholeTree::build 10/4",
+        Build::Whole(LmsType::H10, OtsType::W4),
+    ),
+    (
+        "BandTree::build 10/4",
+        Build::Band(LmsType::H10, OtsType::W4),
+    ),
+    (
+        "BandTree::build 15/4",
+        Build::Band(LmsType::H15, OtsType::W4),
+    ),
+    ("Forest::cover 10/8,10/8", Build::Cover(COVERED)),
 ];
 
 /// A tree of these sets that is held whole, one that serves its first leaf alone, or the trees that the first index of a key of
@@ -33,27 +42,14 @@ pub enum Build {
     Cover(Hierarchy),
 }
 
-impl fmt::Display for Build {
-    fn fmt<W: fmt::Write>(&self, f: &mut fmt::Formatter<W>) -> fmt::Result {
-        match self {
-            Build::Whole(lms, ots) => write!(f, "WholeTree::build {}/{}", lms.height(), ots.w()),
-            Build::Band(lms, ots) => write!(f, "BandTree::build {}/{}", lms.height(), ots.w()),
-            Build::Cover(hierarchy) => write!(f, "Forest::cover {hierarchy}"),
-        }
-    }
-}
-
 impl Build {
     /// The compressions of SHA-256 that the standard's definition needs. Those of a `Cover` are counted in a signature.
-    pub fn compressions(self, rt: &(impl Threads + Sync), alloc: Global) -> Result<u64>
-        ensures { IfOk result (λ n. n < 2 ^ 53) }
-    {
+    pub fn compressions(self, rt: &(impl Threads + Sync), alloc: Global) -> Result<u64, Fault> {
         match self {
             Build::Whole(lms, ots) | Build::Band(lms, ots) => Ok(tree_compressions(lms, ots)),
             Build::Cover(hierarchy) => {
                 let signature = signature(&forest(rt, alloc, hierarchy)?)?;
-                let levels = signed_levels(alloc, &hierarchy.key()?, &MESSAGE, &signature)?;
-                Ok(cover_compressions(&levels))
+                Ok(count(hierarchy, &signature)?.cover)
             }
         }
     }
@@ -68,13 +64,13 @@ impl Build {
     }
 
     /// Works it out once.
-    pub fn run(self, rt: &(impl Threads + Sync), alloc: Global) -> Result<()> {
+    pub fn run(self, rt: &(impl Threads + Sync), alloc: Global) -> Result<(), Fault> {
         match self {
             Build::Whole(lms, ots) => {
-                let _tree = WholeTree::build(rt, alloc, key_of(lms, ots, SEED))?;
+                let _tree = WholeTree::build(rt, alloc, tree_key(lms, ots, SEED))?;
             }
             Build::Band(lms, ots) => {
-                let _tree = BandTree::build(rt, alloc, key_of(lms, ots, SEED), 0, 0)?;
+                let _tree = BandTree::build(rt, alloc, tree_key(lms, ots, SEED), 0, 0)?;
             }
             Build::Cover(hierarchy) => {
                 let _forest = forest(rt, alloc, hierarchy)?;

@@ -1,13 +1,11 @@
 //! The bytes that the trees of a forest hold.
 ghost use Rattle.std.specs.Prelude.{◌<◌, IfOk};
 
-use crate::case::key_of;
-use anyhow::{Result, ensure};
+use crate::tree_key::tree_key;
 use lms_hss::Forest;
 use lms_params::{LmsType, OtsType, lms_sig_len};
 use lms_tree::BandTree;
-use lms_yardstick::{Hierarchy, SEED};
-use std::alloc::Global;
+use lms_yardstick::{Fault, Hierarchy, SEED};
 use std::thread::Threads;
 
 /// The key whose forest is weighed.
@@ -15,56 +13,59 @@ const WEIGHED: Hierarchy = Hierarchy(&[(LmsType::H15, OtsType::W8), (LmsType::H1
 
 /// Makes a forest of the indices from 0 to 1023, and prints a line before it and while it stands: `tests/held` counts at each
 /// what the program holds of its allocator.
-pub fn cover(rt: &(impl Print + AllocGlobal + Threads + Sync)) -> Result<()> {
+pub fn cover(rt: &(impl Print + AllocGlobal + Threads + Sync)) -> Result<(), Fault> {
     let key = WEIGHED.key()?;
-    ensure!(1024 <= key.capacity(), "the key has few indices");
+    if key.capacity() < 1024 {
+        return Err(Fault::Key);
+    }
     println!(rt; "no forest")?;
     let forest = Forest::cover(rt, rt.alloc(), key, 0, 1024)?;
-    println!(rt; "forest of 1024 indices of {WEIGHED}")?;
-    ensure!(forest.covers(1023), "the forest has few indices");
+    print_covered(rt, &forest)
+}
+
+/// Prints a line while the forest stands.
+fn print_covered(rt: &impl Print, forest: &Forest) -> Result<(), Fault> {
+    println!(rt; "forest of 1024 indices of 15/8,10/8")?;
+    if forest.covers(1023) {
+        Ok(())
+    } else {
+        Err(Fault::Result)
+    }
+}
+
+/// Prints the bytes of nodes and heads in a forest of the indices from 0 to 1023 of 15/8,10/8: with trees that are bands, as a forest
+/// has them, and if all nodes of both trees were held.
+pub fn print_held(rt: &(impl Print + AllocGlobal + Threads + Sync)) -> Result<(), Fault> {
+    let top = kept(rt, LmsType::H15)?;
+    let bottom = kept(rt, LmsType::H10)?;
+    print_bytes(rt, "in bands", top, bottom)?;
+    print_bytes(rt, "in whole trees", (1 << 16) - 1, (1 << 11) - 1)
+}
+
+/// Prints the bytes of so many nodes of 32 bytes in the two trees and of the head, which stands before the bottom tree's signatures:
+/// while the bottom tree is worked out, when the top tree stands beside it, and when the forest is made.
+fn print_bytes(
+    rt: &impl Print,
+    form: &str,
+    top_nodes: usize,
+    bottom_nodes: usize,
+) -> Result<(), Fault>
+    requires top { top_nodes < 100000 }
+    requires bottom { bottom_nodes < 100000 }
+{
+    let head = 4 + lms_sig_len(LmsType::H15, OtsType::W8) + 56;
+    let then = 32 * bottom_nodes + head;
+    let at_most = 32 * top_nodes + 4 + then;
+    println!(rt;
+        "forest of 1024 indices of 15/8,10/8 {form}: at most {at_most} bytes, then {then}"
+    )?;
     Ok(())
 }
 
-/// The bytes of nodes and heads in a forest of the indices from 0 to 1023 of 15/8,10/8.
-#[derive(Clone, Copy, Debug, PartialEq, Eq)]
-pub struct Held {
-    /// While the bottom tree is worked out, the top tree stands beside it.
-    pub at_most: usize,
-    /// When the forest is made.
-    pub then: usize,
-}
-
-impl Held {
-    /// With trees that are bands, as a forest has them.
-    pub fn with_bands(rt: &(impl Threads + Sync), alloc: Global) -> Result<Self> {
-        let top = kept(rt, alloc, LmsType::H15)?;
-        let bottom = kept(rt, alloc, LmsType::H10)?;
-        Ok(Held::new(top, bottom))
-    }
-
-    /// If all nodes of both trees were held.
-    pub fn with_whole_trees() -> Self {
-        Held::new((1 << 16) - 1, (1 << 11) - 1)
-    }
-
-    /// With so many nodes of 32 bytes in the two trees.
-    fn new(top_nodes: usize, bottom_nodes: usize) -> Self
-        requires top { top_nodes < 100000 }
-        requires bottom { bottom_nodes < 100000 }
-    {
-        let head = 4 + lms_sig_len(LmsType::H15, OtsType::W8) + 56;
-        let then = 32 * bottom_nodes + head;
-        Held {
-            at_most: 32 * top_nodes + 4 + then,
-            then,
-        }
-    }
-}
-
 /// How many nodes a band tree holds that serves the first leaf. For a height of 10 they are those for all leaves.
-fn kept(rt: &(impl Threads + Sync), alloc: Global, lms: LmsType) -> Result<usize>
+fn kept(rt: &(impl AllocGlobal + Threads + Sync), lms: LmsType) -> Result<usize, Fault>
     ensures { IfOk result (λ nodes. nodes < 100000) }
 {
-    let key = key_of(lms, OtsType::W2, SEED);
-    Ok(BandTree::build(rt, alloc, key, 0, 0)?.kept())
+    let key = tree_key(lms, OtsType::W2, SEED);
+    Ok(BandTree::build(rt, rt.alloc(), key, 0, 0)?.kept())
 }

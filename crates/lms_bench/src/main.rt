@@ -1,8 +1,8 @@
 //! Times one-time keys, trees and keys of HSS against bare SHA-256 digests.
 //!
-//! Without arguments it runs each case once and prints the cases' names, and then what the cases need. With the argument
-//! `measure` it prints for each case its time, the compressions of SHA-256 that the standard's definition needs, and the
-//! ratio of its time to that of as many bare digests of 55 bytes, each the least of several rounds. For trees that all
+//! Without arguments it runs each case once and prints its name and what it needs, and whether the public hash is the same chain by
+//! chain. With the argument `measure` it prints for each case its time, the compressions of SHA-256 that the standard's definition
+//! needs, and the ratio of its time to that of as many bare digests of 55 bytes, each the least of several rounds. For trees that all
 //! processors build it prints the compressions a second; how many times as many these are as one thread makes with bare
 //! digests, and with public hashes, which go by lanes; what share they are of what a thread with bare digests on each
 //! processor makes; and how long it takes to start and join threads that do nothing. Last come the bytes that a forest
@@ -10,57 +10,70 @@
 //! by it.
 #![tactic(auto)]
 
-mod bench;
 mod build;
 mod case;
-mod counts;
 mod held;
-mod hierarchy;
-mod hss_bench;
+mod hss_case;
 mod measure;
 mod tall;
+mod tree_key;
 
-use crate::bench::{Bench, Timed};
-use crate::build::BUILDS;
-use crate::case::{CASES, Case};
-use crate::counts::print_counts;
 use crate::held::cover;
-use crate::hierarchy::{COVERED, VERIFIED};
-use crate::hss_bench::{Signing, Verification};
-use crate::measure::measure;
+use crate::measure::{Mode, measure};
 use crate::tall::sign_tall;
-use anyhow::{Result, bail};
-use lms_yardstick::SEED;
+use lms_ots::public_hash;
+use lms_params::{LmsType, OtsType};
+use lms_yardstick::{Fault, ID, SEED, public_hash_chain_by_chain, tree_compressions};
 use std::env;
 use std::thread::Threads;
+use std::time::{Clock, CpuClock};
 
-fn main(rt: HostRuntime) -> Result<()> {
-    let words: Vec<String> = env::args(&rt)?.collect(rt.alloc())?;
+fn main(rt: HostRuntime) -> Result<(), Fault> {
+    let Ok(words) = env::args(&rt) else {
+        return Err(Fault::Usage);
+    };
+    let Ok(words) = words.collect::<Vec<String>>(rt.alloc()) else {
+        return Err(Fault::OutOfMemory);
+    };
     match words.as_slice() {
         [] | [_] => run_once(&rt),
-        [_, word] if word.as_str() == "measure" => measure(&rt),
-        [_, word] if word.as_str() == "cover" => cover(&rt),
-        [_, word] if word.as_str() == "tall" => sign_tall(&rt),
-        _ => bail!("usage: lms_bench [measure|cover|tall]"),
+        [_, word] => obey(&rt, word.as_str()),
+        _ => Err(Fault::Usage),
     }
 }
 
-/// Runs each case once and prints its name, and what the cases need.
-fn run_once(rt: &(impl Print + AllocGlobal + Threads + Sync)) -> Result<()> {
-    for (operation, ots) in CASES {
-        let case = Case { operation, ots };
-        let _value = Bench::new(case).run(SEED);
-        println!(rt; "{case}")?;
+/// Does what a word asks for.
+fn obey(
+    rt: &(impl Print + AllocGlobal + Clock + CpuClock + Threads + Sync),
+    word: &str,
+) -> Result<(), Fault> {
+    match word {
+        "measure" => measure(rt, Mode::Timed),
+        "cover" => cover(rt),
+        "tall" => sign_tall(rt),
+        _ => Err(Fault::Usage),
     }
-    for hierarchy in VERIFIED {
-        Verification::new(rt, rt.alloc(), hierarchy)?.repeat(1)?;
-        println!(rt; "verify {hierarchy}")?;
+}
+
+/// Runs each case once, and prints what is counted. `stdout`, beside `src/`, has the compressions as programs in Python count them, of
+/// which one makes the same keys, trees and signatures and verifies these, and the bytes by the numbers of nodes that the trees of a
+/// forest have to hold.
+fn run_once(
+    rt: &(impl Print + AllocGlobal + Clock + CpuClock + Threads + Sync),
+) -> Result<(), Fault> {
+    measure(rt, Mode::Once)?;
+    for ots in [OtsType::W1, OtsType::W2, OtsType::W4, OtsType::W8] {
+        print_width(rt, ots)?;
     }
-    Signing::new(rt, rt.alloc(), COVERED)?.repeat(1)?;
-    println!(rt; "Forest::sign {COVERED}")?;
-    for build in BUILDS {
-        build.run(rt, rt.alloc())?;
-        println!(rt; "{build}")?;
-    }
-    print_counts(rt)
+    Ok(())
+}
+
+/// Prints whether both ways to a public hash of this width agree, and what a tree needs.
+fn print_width(rt: &impl Print, ots: OtsType) -> Result<(), Fault> {
+    let w = ots.w();
+    let is_same = public_hash(ots, &SEED, ID) == public_hash_chain_by_chain(ots, &SEED, ID);
+    println!(rt; "w={w}: the public hash is the same chain by chain: {is_same}")?;
+    let compressions = tree_compressions(LmsType::H10, ots);
+    println!(rt; "a tree of 10/{w}: {compressions} compressions")?;
+    Ok(())
 }

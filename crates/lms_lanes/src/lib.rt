@@ -5,8 +5,6 @@ mod blocks;
 mod bytes;
 mod chains;
 mod rounds;
-#[cfg(test)]
-mod tests;
 mod words;
 
 pub use crate::chains::hash_chains;

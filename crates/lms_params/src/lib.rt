@@ -6,8 +6,6 @@ mod memory;
 mod message_digits;
 mod ots_type;
 mod reading;
-#[cfg(test)]
-mod tests;
 
 pub use crate::lms_type::{LmsType, lms_sig_len};
 pub use crate::memory::OutOfMemory;

@@ -5,31 +5,18 @@ ghost use Rattle.lms_shared_book.specs.Desks.{BlankFits};
 use crate::book::book;
 use crate::stopwatch::Stopwatch;
 use crate::workers::Workers;
-use anyhow::{Context, Result, bail, ensure};
 use lms_batch::{Batch, Job, SigningService};
 use lms_book::{Book, MemoryStore};
 use lms_hss::{Forest, HssKey};
-use lms_params::{LmsType, OtsType};
-use lms_shared_book::{Blanks, SharedBook, Tally};
-use lms_yardstick::{Hierarchy, RANDOMIZER, signature_compressions, signed_levels};
+use lms_params::OutOfMemory;
+use lms_shared_book::{Blanks, Desk, SharedBook, Tally};
+use lms_yardstick::{Fault, Hierarchy, Hss, RANDOMIZER, clock, process_clock};
 use std::alloc::Global;
 use std::marker::Brand;
 use std::sync::Wait;
 use std::sync::ledger::Blank;
 use std::thread::Threads;
-use std::time::{Clock, CpuClock, Duration, Instant};
-
-/// Each key whose batches are timed, in the order in which they are printed.
-pub const SIGNED: [Hierarchy; 2] = [
-    Hierarchy(&[(LmsType::H5, OtsType::W8), (LmsType::H10, OtsType::W8)]),
-    Hierarchy(&[(LmsType::H5, OtsType::W8), (LmsType::H10, OtsType::W4)]),
-];
-
-/// How many jobs a batch has that is timed.
-pub const JOBS: usize = 1024;
-
-/// The key whose batches are run once.
-pub const SMALL: Hierarchy = Hierarchy(&[(LmsType::H5, OtsType::W8); 2]);
+use std::time::{Clock, CpuClock, Duration};
 
 /// Jobs that are signed by the indices of a key from 0 on.
 #[derive(Drop)]
@@ -54,19 +41,27 @@ pub struct SignedBatch {
 
 impl Batches {
     /// So many jobs of one message.
-    pub fn new(alloc: Global, hierarchy: Hierarchy, count: usize, message: &[u8]) -> Result<Self> {
-        let mut jobs = Vec::with_capacity(alloc, count)?;
+    pub fn new(
+        alloc: Global,
+        hierarchy: Hierarchy,
+        count: usize,
+        message: &[u8],
+    ) -> Result<Self, Fault> {
+        let mut jobs = Vec::new(alloc);
         for _ in 0..count {
-            jobs.push(Job {
-                c: RANDOMIZER,
-                message: Vec::from_slice(alloc, message)?,
-            })?;
+            let Ok(message) = Vec::from_slice(alloc, message) else {
+                return Err(Fault::OutOfMemory);
+            };
+            let c = RANDOMIZER;
+            let Ok(()) = jobs.push(Job { c, message }) else {
+                return Err(Fault::OutOfMemory);
+            };
         }
         Ok(Batches { hierarchy, jobs })
     }
 
     /// The batch of these jobs by a new book.
-    pub fn sign<R>(&self, rt: &R, workers: Workers) -> Result<SignedBatch>
+    pub fn sign<R>(&self, rt: &R, workers: Workers) -> Result<SignedBatch, Fault>
     where
         R: AllocGlobal + Clock + CpuClock + Threads + Wait + Sync,
     {
@@ -80,35 +75,42 @@ impl Batches {
     }
 
     /// The time of covering the indices of the batch.
-    pub fn time_cover<R>(&self, rt: &R) -> Result<Duration>
+    pub fn time_cover<R>(&self, rt: &R) -> Result<Duration, Fault>
     where
         R: AllocGlobal + Clock + Threads + Sync,
     {
         let key = self.hierarchy.key()?;
         let len = self.jobs.len() as u64;
-        ensure!(
-            1 <= len && len <= 1024 && len <= key.capacity(),
-            "no lease has so many indices"
-        );
-        let start = Instant::now(rt)?;
-        let _forest = Forest::cover(rt, rt.alloc(), key, 0, len)?;
-        Ok(start.elapsed(rt)?)
+        if len < 1 || len > 1024 || len > key.capacity() {
+            return Err(Fault::Key);
+        }
+        let start = clock(rt);
+        match Forest::cover(rt, rt.alloc(), key, 0, len) {
+            Ok(_) => Ok(clock(rt).saturating_sub(start)),
+            Err(OutOfMemory) => Err(Fault::OutOfMemory),
+        }
     }
 
     /// The compressions of the batch's signatures with the trees at hand.
-    pub fn compressions(&self, alloc: Global, batch: &Batch) -> Result<u64> {
-        let Batch::Complete { signatures, .. } = batch else {
-            bail!("a batch without some of its signatures");
-        };
+    pub fn compressions(&self, batch: &Batch) -> Result<u64, Fault> {
         let key = self.hierarchy.key()?;
-        let mut sum: u64 = 0;
-        for (job, signature) in self.jobs.iter().zip(signatures) {
-            ensure!(job.message.len() < 1 << 16, "a message too long to count");
-            let levels = signed_levels(alloc, &key, &job.message, signature)?;
-            sum = sum.saturating_add(signature_compressions(&levels));
+        match batch {
+            Batch::Complete { signatures, .. } => count(&key, &self.jobs, signatures),
+            Batch::Partial { .. } => Err(Fault::OutOfMemory),
         }
-        Ok(sum)
     }
+}
+
+/// The compressions of the signatures of these jobs with the trees at hand.
+fn count(key: &HssKey, jobs: &[Job], signatures: &[Vec<u8>]) -> Result<u64, Fault> {
+    let mut sum: u64 = 0;
+    for (job, signature) in jobs.iter().zip(signatures) {
+        match Hss::new(key, &job.message, signature) {
+            Some(counts) => sum = sum.saturating_add(counts.signature),
+            None => return Err(Fault::ShortSignature),
+        }
+    }
+    Ok(sum)
 }
 
 /// Signs the jobs by a book that is shared meanwhile, with one desk.
@@ -118,7 +120,7 @@ fn sign_shared<E: Tally, G: Tally, B: Tally, R>(
     blanks: Blanks,
     jobs: &[Job],
     workers: Workers,
-) -> Result<SignedBatch>
+) -> Result<SignedBatch, Fault>
 where
     R: AllocGlobal + Clock + CpuClock + Threads + Wait + Sync,
     requires same { book ≡ E.book }
@@ -126,19 +128,37 @@ where
     requires given { BlankFits blanks.given G.name G.parts 2 }
     requires burnt { BlankFits blanks.burnt B.name B.parts 2 }
 {
-    let shared = SharedBook::<MemoryStore, E, G, B>::share(rt.alloc(), book, blanks, 1);
-    let (shared, mut desks) = shared.ok().context("memory for a desk")?;
-    let desk = desks.first_mut().context("a desk")?;
-    let service = SigningService::over(shared);
+    match SharedBook::<MemoryStore, E, G, B>::share(rt.alloc(), book, blanks, 1) {
+        Ok((shared, mut desks)) => match desks.first_mut() {
+            Some(desk) => sign_at(rt, &SigningService::over(shared), desk, jobs, workers),
+            None => Err(Fault::Service),
+        },
+        Err(_) => Err(Fault::OutOfMemory),
+    }
+}
+
+/// Signs the jobs at a desk.
+fn sign_at<E: Tally, G: Tally, B: Tally, R>(
+    rt: &R,
+    service: &SigningService<MemoryStore, E, G, B>,
+    desk: &mut Desk<E, G, B>,
+    jobs: &[Job],
+    workers: Workers,
+) -> Result<SignedBatch, Fault>
+where
+    R: AllocGlobal + Clock + CpuClock + Threads + Wait + Sync,
+{
     let gate = Stopwatch::new(rt);
-    let used = rt.process_cpu_time()?;
-    let start = Instant::now(rt)?;
-    let batch = service.sign_batch(rt, rt.alloc(), desk, jobs, workers.count(), &gate)?;
-    Ok(SignedBatch {
-        batch,
-        whole: start.elapsed(rt)?,
-        signing: gate.time(),
-        processor: gate.processor_time(),
-        whole_processor: rt.process_cpu_time()?.saturating_sub(used),
-    })
+    let used = process_clock(rt);
+    let start = clock(rt);
+    match service.sign_batch(rt, rt.alloc(), desk, jobs, workers.count(), &gate) {
+        Ok(batch) => Ok(SignedBatch {
+            batch,
+            whole: clock(rt).saturating_sub(start),
+            signing: gate.time(),
+            processor: gate.processor_time(),
+            whole_processor: process_clock(rt).saturating_sub(used),
+        }),
+        Err(_) => Err(Fault::Service),
+    }
 }

@@ -5,17 +5,16 @@ ghost use Rattle.lms_pool.specs.Rule.{most_seats};
 
 use crate::book::book;
 use crate::workers::Workers;
-use anyhow::{Result, ensure};
-use lms_book::Lease;
+use lms_book::{Book, Lease, MemoryStore};
 use lms_params::{LmsType, OtsType};
 use lms_pool::{DrawSeat, IndexPool};
-use lms_yardstick::Hierarchy;
+use lms_yardstick::{Fault, Hierarchy, clock};
 use std::alloc::Global;
 use std::array;
 use std::sync::Arc;
 use std::sync::atomic::{AtomicU64, AtomicUsize, Ordering};
 use std::thread::{self, Threads};
-use std::time::{Clock, Duration, Instant};
+use std::time::{Clock, Duration};
 
 /// The key whose indices are leased.
 const LEASED: Hierarchy = Hierarchy(&[(LmsType::H10, OtsType::W8); 2]);
@@ -42,25 +41,15 @@ struct Caller {
 }
 
 impl Caller {
-    /// Claims a place, and answers whether it got one.
-    fn claim(&mut self) -> bool {
-        let Ok(pass) = self.pool.claim(&mut self.seat) else {
-            return false;
-        };
-        pass.burn();
-        true
-    }
-
     /// Claims until no place is left, and answers how many it got.
     fn claim_all(&mut self) -> u64 {
-        let mut claimed: u64 = 0;
-        for _ in 0..PLACES {
-            if !self.claim() {
-                break;
+        for claimed in 0..PLACES {
+            match self.pool.claim(&mut self.seat) {
+                Ok(pass) => pass.burn(),
+                Err(_) => return claimed,
             }
-            claimed = claimed.saturating_add(1);
         }
-        claimed
+        PLACES
     }
 }
 
@@ -68,11 +57,11 @@ impl Caller {
 pub fn time_claims(
     rt: &(impl AllocGlobal + Clock + Threads + Sync),
     workers: Workers,
-) -> Result<Duration> {
+) -> Result<Duration, Fault> {
     let threads = workers.count();
     let begun = AtomicUsize::new(0);
     let callers = new_callers(rt.alloc(), threads)?;
-    let start = Instant::now(rt)?;
+    let start = clock(rt);
     let claimed = thread::map_vec(
         rt,
         callers,
@@ -80,76 +69,105 @@ pub fn time_claims(
             begin_together(&begun, threads);
             claim_by(own)
         },
-    )?;
-    let time = start.elapsed(rt)?;
-    ensure!(
-        sum_of(&claimed) == COUNT,
-        "the places claimed are not as many as there are"
     );
-    Ok(time)
+    let time = clock(rt).saturating_sub(start);
+    match claimed {
+        Ok(counts) if sum_of(&counts) == COUNT => Ok(time),
+        Ok(_) => Err(Fault::Lost),
+        Err(_) => Err(Fault::OutOfMemory),
+    }
 }
 
 /// The time of as many bare additions to one word, by as many threads.
 pub fn time_additions(
     rt: &(impl AllocGlobal + Clock + Threads + Sync),
     workers: Workers,
-) -> Result<Duration> {
+) -> Result<Duration, Fault> {
     let threads = workers.count();
     let begun = AtomicUsize::new(0);
     let each = COUNT / threads as u64;
     let words: [AtomicU64; WORDS] = array::from_fn(|_| AtomicU64::new(0));
     let word = &words[WORDS / 2];
-    let shares = vec![in rt.alloc(); each; threads]?;
-    let start = Instant::now(rt)?;
-    let _added = thread::map_vec(
+    let start = clock(rt);
+    let added = thread::map_indices(
         rt,
-        shares,
-        &|share: u64| -> u64 {
+        rt.alloc(),
+        threads,
+        &|_thread: usize| {
             begin_together(&begun, threads);
-            add(word, share)
+            add(word, each);
         },
-    )?;
-    let time = start.elapsed(rt)?;
-    ensure!(
-        word.load(Ordering::SeqCst) == each * threads as u64,
-        "additions were lost"
     );
-    Ok(time)
+    let time = clock(rt).saturating_sub(start);
+    match added {
+        Ok(_) if word.load(Ordering::SeqCst) == each * threads as u64 => Ok(time),
+        Ok(_) => Err(Fault::Lost),
+        Err(_) => Err(Fault::OutOfMemory),
+    }
 }
 
 /// For each thread, a seat of each pool.
-fn new_callers(alloc: Global, threads: usize) -> Result<Vec<Vec<Caller>>>
+fn new_callers(alloc: Global, threads: usize) -> Result<Vec<Vec<Caller>>, Fault>
     requires some { 1 ≤ threads }
     requires at_most { threads ≤ most_seats }
 {
     let mut book = book(alloc, LEASED, POOLS as usize)?;
     let mut callers = Vec::new(alloc);
     for _ in 0..threads {
-        callers.push(Vec::new(alloc))?;
+        if callers.push(Vec::new(alloc)).is_err() {
+            return Err(Fault::OutOfMemory);
+        }
     }
     for _ in 0..POOLS {
-        let lease = book.reserve(PLACES)?;
-        add_pool(alloc, lease, threads, &mut callers)?;
+        add_pool(alloc, &mut book, threads, &mut callers)?;
     }
     Ok(callers)
 }
 
 /// Makes a pool over a lease, with a seat for each thread.
-fn add_pool(alloc: Global, lease: Lease, threads: usize, callers: &mut [Vec<Caller>]) -> Result<()>
+fn add_pool(
+    alloc: Global,
+    book: &mut Book<MemoryStore>,
+    threads: usize,
+    callers: &mut [Vec<Caller>],
+) -> Result<(), Fault>
+    requires some { 1 ≤ threads }
+    requires at_most { threads ≤ most_seats }
+{
+    match book.reserve(PLACES) {
+        Ok(lease) => seat(alloc, lease, threads, callers),
+        Err(_) => Err(Fault::Service),
+    }
+}
+
+/// Makes a pool over a lease, with a seat for each thread.
+fn seat(
+    alloc: Global,
+    lease: Lease,
+    threads: usize,
+    callers: &mut [Vec<Caller>],
+) -> Result<(), Fault>
     requires some { 1 ≤ threads }
     requires at_most { threads ≤ most_seats }
 {
     match IndexPool::over(alloc, lease, threads) {
-        Ok((pool, seats)) => share_out(&Arc::new(alloc, pool)?, seats, callers),
-        Err((refused, lease)) => {
+        Ok((pool, seats)) => match Arc::new(alloc, pool) {
+            Ok(pool) => share_out(&pool, seats, callers),
+            Err(_) => Err(Fault::OutOfMemory),
+        },
+        Err((_, lease)) => {
             lease.end();
-            Err(refused.into())
+            Err(Fault::OutOfMemory)
         }
     }
 }
 
 /// Gives each thread a seat of the pool.
-fn share_out(pool: &Arc<IndexPool>, seats: Vec<DrawSeat>, callers: &mut [Vec<Caller>]) -> Result<()>
+fn share_out(
+    pool: &Arc<IndexPool>,
+    seats: Vec<DrawSeat>,
+    callers: &mut [Vec<Caller>],
+) -> Result<(), Fault>
     requires { All (λ seat. seat.pool ≡ arc_value pool.now) seats.items }
 {
     let mut seats = seats;
@@ -157,8 +175,12 @@ fn share_out(pool: &Arc<IndexPool>, seats: Vec<DrawSeat>, callers: &mut [Vec<Cal
         let Some(seat) = seats.pop() else {
             break;
         };
-        let pool = pool.clone()?;
-        own.push(Caller { pool, seat })?;
+        let Ok(pool) = pool.clone() else {
+            return Err(Fault::OutOfMemory);
+        };
+        let Ok(()) = own.push(Caller { pool, seat }) else {
+            return Err(Fault::OutOfMemory);
+        };
     }
     Ok(())
 }
@@ -191,10 +213,9 @@ fn sum_of(numbers: &[u64]) -> u64 {
     sum
 }
 
-/// Adds 1 so many times, and answers how often.
-fn add(word: &AtomicU64, times: u64) -> u64 {
+/// Adds 1 so many times.
+fn add(word: &AtomicU64, times: u64) {
     for _ in 0..times {
         word.fetch_add(1, Ordering::SeqCst);
     }
-    times
 }

@@ -1,10 +1,11 @@
 //! The time in which workers sign.
 use lms_batch::Gate;
+use lms_yardstick::{clock, thread_clock};
 use std::sync::atomic::{AtomicU64, Ordering};
 use std::time::{Clock, CpuClock, Duration};
 
 /// A gate that reads the clock, and the processor time of the worker's thread, before and after each signature. It keeps what
-/// it read before the first one and after the last. Where a clock can't be read, that is 0.
+/// it read before the first one and after the last.
 #[derive(Drop)]
 pub struct Stopwatch<'r, R> {
     rt: &'r R,
@@ -34,27 +35,21 @@ impl<'r, R: Clock + CpuClock> Stopwatch<'r, R> {
     pub fn processor_time(&self) -> Duration {
         between(&self.began_in_thread, &self.ended_in_thread)
     }
-
-    fn clock(&self) -> u64 {
-        nanoseconds(self.rt.monotonic().unwrap_or(Duration::ZERO))
-    }
-
-    fn thread_clock(&self) -> u64 {
-        nanoseconds(self.rt.thread_cpu_time().unwrap_or(Duration::ZERO))
-    }
 }
 
 impl<'r, R: Clock + CpuClock + Sync> Gate for Stopwatch<'r, R> {
     fn before_sign(&self, _place: u64) {
-        self.began.fetch_min(self.clock(), Ordering::SeqCst);
+        self.began
+            .fetch_min(nanoseconds(clock(self.rt)), Ordering::SeqCst);
         self.began_in_thread
-            .fetch_min(self.thread_clock(), Ordering::SeqCst);
+            .fetch_min(nanoseconds(thread_clock(self.rt)), Ordering::SeqCst);
     }
 
     fn after_sign(&self, _place: u64) {
-        self.ended.fetch_max(self.clock(), Ordering::SeqCst);
+        self.ended
+            .fetch_max(nanoseconds(clock(self.rt)), Ordering::SeqCst);
         self.ended_in_thread
-            .fetch_max(self.thread_clock(), Ordering::SeqCst);
+            .fetch_max(nanoseconds(thread_clock(self.rt)), Ordering::SeqCst);
     }
 }
 

@@ -8,8 +8,6 @@ ghost use Rattle.std.specs.Prelude.{◌≤◌, length};
 mod digits;
 mod hierarchy;
 mod one_time;
-#[cfg(test)]
-mod tests;
 mod tree;
 pub mod vectors;
 

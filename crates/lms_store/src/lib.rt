@@ -12,8 +12,6 @@ mod file_store;
 mod locking;
 mod paths;
 mod record;
-#[cfg(test)]
-mod tests;
 mod writes;
 
 pub use crate::file_store::FileStore;

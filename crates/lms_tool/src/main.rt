@@ -1,14 +1,11 @@
 //! A signer and an exact verifier of HSS/LMS signatures (RFC 8554).
 #![tactic(auto)]
 
-mod meter;
 mod streams;
-#[cfg(test)]
-mod tests;
 
-use crate::meter::{Meter, Wiping};
 use crate::streams::hold_closed_streams;
 use lms_commands::Fault;
+use lms_meter::{Meter, Wiping};
 use lms_program::run::{report, run_watched};
 use lms_world::DiskWorld;
 use std::env;

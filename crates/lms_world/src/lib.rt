@@ -6,8 +6,6 @@
 mod contents;
 mod disk;
 mod memory;
-#[cfg(test)]
-mod tests;
 mod world;
 
 pub use crate::contents::{Contents, Taker};

@@ -1,37 +1,40 @@
 //! How many compressions of SHA-256 the standard's definitions need.
-ghost use Rattle.std.specs.Prelude.{◌+◌, ◌*◌, ◌^◌, ◌<◌, ◌≤◌, length};
+ghost use Rattle.std.specs.Prelude.{◌+◌, ◌-◌, ◌/◌, ◌^◌, ◌<◌, ◌≤◌};
 
+use lms_hss::{HssKey, LMS_KEY_LEN};
 use lms_ots::{OtsId, hasher_at};
-use lms_params::{LmsType, OtsType, digits};
+use lms_params::{LmsType, OtsType, digits, lms_sig_len, split_u32};
 use sha2::Digest;
+
+/// How many compressions derive the key of a tree and the randomizer of its public key's signature: one for each of the
+/// randomizer, the seed and the identifier.
+const DERIVATIONS: u64 = 3;
+
+/// A count as a number for ratios, up to 2^52.
+pub fn real(count: u64) -> f64 {
+    count.min(1 << 52) as f64
+}
 
 /// The compressions of a text of so many bytes, with its padding.
 fn compressions_of(bytes: u64) -> u64
-    requires { bytes < 100000 }
-    ensures { result < 2000 }
+    requires { bytes < 2 ^ 63 + 100 }
+    ensures { result ≤ bytes / 64 + 2 }
 {
     (bytes + 9).div_ceil(64)
 }
 
-/// The compressions of all steps of a one-time key's chains, from the secrets to the ends.
-fn chain_steps(ots: OtsType) -> u64
-    ensures { result ≤ 265 * 255 }
+/// The compressions of the steps of a one-time key's chains, from the secrets to the ends, and of the hash of the ends (RFC 8554, 4.3).
+fn chain_compressions(ots: OtsType) -> u64
+    ensures { result < 2 ^ 17 - 265 }
 {
-    ots.p() as u64 * ((1 << ots.w()) - 1)
-}
-
-/// The compressions of the hash of the ends of all chains (RFC 8554, 4.3).
-fn ends_compressions(ots: OtsType) -> u64
-    ensures { result < 2000 }
-{
-    compressions_of(22 + 32 * ots.p() as u64)
+    ots.p() as u64 * ((1 << ots.w()) - 1) + compressions_of(22 + 32 * ots.p() as u64)
 }
 
 /// The compressions of a one-time key's public hash: its secrets, all steps and the hash of the ends.
 pub fn public_hash_compressions(ots: OtsType) -> u64
     ensures { result < 2 ^ 17 }
 {
-    ots.p() as u64 + chain_steps(ots) + ends_compressions(ots)
+    ots.p() as u64 + chain_compressions(ots)
 }
 
 /// The compressions of all nodes of a tree: a public hash and one compression a leaf, two an inner node.
@@ -39,72 +42,103 @@ pub fn tree_compressions(lms: LmsType, ots: OtsType) -> u64
     ensures { result < 2 ^ 46 }
 {
     let leaves = 1 << lms.height();
-    leaves * (public_hash_compressions(ots) + compressions_of(54))
-        + (leaves - 1) * compressions_of(86)
+    leaves * (public_hash_compressions(ots) + 1) + (leaves - 1) * 2
 }
 
-/// The compressions from a one-time key's public hash to its tree's root: its leaf, and the path's inner nodes.
-pub fn climb_compressions(lms: LmsType) -> u64
-    ensures { result < 60000 }
-{
-    compressions_of(54) + u64::from(lms.height()) * compressions_of(86)
-}
-
-/// What a one-time signature signs: the hash of the message, and the bytes of the message.
+/// The compressions of a one-time signature, and of its candidate.
 #[derive(Clone, Copy)]
-pub struct Signed {
-    pub ots: OtsType,
-    hash: [u8; 32],
-    bytes: u16,
+pub struct OneTime {
+    /// Those of the message's hash, of the secrets and of the steps from them to the signature's values.
+    pub signature: u64,
+    /// Those of the message's hash, of the steps from the values to the ends and of the hash of the ends.
+    pub candidate: u64,
 }
 
-impl Signed {
-    /// What a one-time key signs for a message under the randomizer `c` (RFC 8554, 4.5).
-    pub fn new(ots: OtsType, id: OtsId, c: &[u8; 32], msg: &[u8]) -> Self
-        requires { length msg.now < 2 ^ 16 }
-    {
+impl OneTime {
+    /// Those of a message that is signed under the randomizer `c` (RFC 8554, 4.5).
+    pub fn new(ots: OtsType, id: OtsId, c: &[u8; 32], msg: &[u8]) -> Self {
         let mut hasher = hasher_at(&id.i, id.q);
         hasher.update([0x81, 0x81]);
         hasher.update(c);
         hasher.update(msg);
-        Signed {
-            ots,
-            hash: hasher.finalize(),
-            bytes: msg.len() as u16,
+        let mut steps: u64 = 0;
+        for digit in digits(&hasher.finalize(), ots) {
+            steps = steps.saturating_add(u64::from(digit));
+        }
+        let hash = compressions_of(54 + msg.len() as u64);
+        OneTime {
+            signature: (hash + ots.p() as u64).saturating_add(steps),
+            candidate: (hash + chain_compressions(ots)).saturating_sub(steps),
         }
     }
+}
 
-    /// The compressions of the signature: the message's hash, the secrets and the steps from them to its values.
-    pub fn signature_compressions(&self) -> u64
-        ensures { result < 2 ^ 17 }
-    {
-        self.message_compressions() + self.ots.p() as u64 + self.steps()
-    }
+/// The compressions of a signature of HSS.
+#[derive(Clone, Copy)]
+pub struct Hss {
+    /// Those of its verification.
+    pub verification: u64,
+    /// Those of the last level's one-time signature, which is made with the trees at hand.
+    pub signature: u64,
+    /// Those of the trees that it goes through, and of the derivation and signature of each but the first.
+    pub cover: u64,
+}
 
-    /// The compressions of the signature's candidate: the message's hash, the steps from the values to the ends and the
-    /// hash of the ends.
-    pub fn candidate_compressions(&self) -> u64
-        ensures { result < 2 ^ 17 }
-    {
-        let left = chain_steps(self.ots).saturating_sub(self.steps());
-        self.message_compressions() + left + ends_compressions(self.ots)
-    }
-
-    /// The compressions of the message's hash.
-    fn message_compressions(&self) -> u64
-        ensures { result < 2000 }
-    {
-        compressions_of(54 + u64::from(self.bytes))
-    }
-
-    /// The steps from the secrets to the signature's values: its digits, added up.
-    fn steps(&self) -> u64
-        ensures { result ≤ 265 * 255 }
-    {
-        let mut steps = 0;
-        for digit in digits(&self.hash, self.ots) {
-            steps += u64::from(digit);
+impl Hss {
+    /// Those of a message's signature by a key. None where it is shorter than the key says.
+    pub fn new(key: &HssKey, msg: &[u8], sig: &[u8]) -> Option<Self> {
+        let mut sum = Hss {
+            verification: 0,
+            signature: 0,
+            cover: 0,
+        };
+        let (_signed_keys, mut text) = split_u32(sig)?;
+        let mut i = key.i;
+        for (lms, ots) in key.levels.as_slice() {
+            let (own, rest) = text.split_at_checked(lms_sig_len(*lms, *ots))?;
+            let (signed, rest) = rest.split_at_checked(LMS_KEY_LEN).unwrap_or((msg, rest));
+            let counts = level(*ots, i, own, signed)?;
+            sum = sum.then(*lms, *ots, counts);
+            i = identifier(signed);
+            text = rest;
         }
-        steps
+        Some(sum)
     }
+
+    /// With a further level, which signs what `counts` tells.
+    fn then(self, lms: LmsType, ots: OtsType, counts: OneTime) -> Self {
+        let climb = 1 + 2 * u64::from(lms.height());
+        let derived = match self.signature {
+            0 => 0,
+            signature => signature.saturating_add(DERIVATIONS),
+        };
+        Hss {
+            verification: self
+                .verification
+                .saturating_add(counts.candidate)
+                .saturating_add(climb),
+            signature: counts.signature,
+            cover: self
+                .cover
+                .saturating_add(tree_compressions(lms, ots))
+                .saturating_add(derived),
+        }
+    }
+}
+
+/// The compressions of the one-time signature that an LMS signature begins with, of what it signs.
+fn level(ots: OtsType, i: [u8; 16], own: &[u8], signed: &[u8]) -> Option<OneTime> {
+    let (q, rest) = split_u32(own)?;
+    let (_typecode, rest) = split_u32(rest)?;
+    let (c, _values) = rest.split_first_chunk::<32>()?;
+    Some(OneTime::new(ots, OtsId { i, q }, c, signed))
+}
+
+/// The identifier I in an LMS public key (RFC 8554, 5.3). Of a shorter text, as a message, zeros.
+fn identifier(key: &[u8]) -> [u8; 16] {
+    let mut i = [0; 16];
+    if key.len() >= 24 {
+        i.copy_from_slice(&key[8..24]);
+    }
+    i
 }

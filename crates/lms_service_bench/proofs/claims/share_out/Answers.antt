@@ -13,4 +13,4 @@ loop-own-preserved c =
 pub invariant_of-push : goal.invariant_of-push
 invariant_of-push c =
     let Ours : SeatState → Type 0 = λ seat. seat.pool ≡ arc_value c.args.pool.now in
-    record { own = (All-pop Ours _ _ (Some c.in-Some.seat) c.in-Some.ensures.items c.loop-own.invariant).1 ∙ sym c.in_ok-pool.ensures.cases }
+    record { own = (All-pop Ours _ _ (Some c.in-Some.seat) c.in-Some.ensures.items c.loop-own.invariant).1 ∙ sym c.in-Ok.ensures.cases }

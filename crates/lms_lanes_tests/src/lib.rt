@@ -1,0 +1,5 @@
+//! Tests of `lms_lanes`.
+#![tactic(auto)]
+
+#[cfg(test)]
+mod tests;

@@ -1,0 +1,128 @@
+//! How far a run is that works out trees, told on standard error.
+#![tactic(auto)]
+
+use lms_tree::Progress;
+use std::io;
+use std::io::{Print, Write};
+use std::sync::atomic::{AtomicBool, AtomicU64, Ordering};
+use std::time::{Clock, Duration};
+
+/// How often the line on a terminal is written again, in nanoseconds.
+const ON_A_TERMINAL: u64 = 500_000_000;
+
+/// How often a line is printed where there is no terminal, in nanoseconds.
+const ELSEWHERE: u64 = 10_000_000_000;
+
+/// What takes a terminal's line away, from its beginning on.
+const WIPED: &str = "\r\x1b[K";
+
+/// Prints to `errors` how many leaves are done of how many. On a terminal that is one line, written again twice a second, which
+/// goes before anything else is printed; elsewhere it is a line every ten seconds. What can't be printed is left out.
+#[derive(Drop)]
+pub struct Meter<'r, C, P> {
+    clock: &'r C,
+    errors: &'r P,
+    is_on_terminal: bool,
+    to_do: AtomicU64,
+    done: AtomicU64,
+    /// The nanoseconds on the clock when it was last printed, or at first when the work began.
+    told_at: AtomicU64,
+    /// Whether its line stands on the terminal.
+    is_shown: AtomicBool,
+}
+
+impl<'r, C: Clock, P: Print> Meter<'r, C, P> {
+    pub fn new(clock: &'r C, errors: &'r P, is_on_terminal: bool) -> Self {
+        Meter {
+            clock,
+            errors,
+            is_on_terminal,
+            to_do: AtomicU64::new(0),
+            done: AtomicU64::new(0),
+            told_at: AtomicU64::new(0),
+            is_shown: AtomicBool::new(false),
+        }
+    }
+
+    /// Takes its line off the terminal, where it stands there.
+    pub fn wipe(&self) {
+        if self.is_shown.swap(false, Ordering::SeqCst) {
+            let _ = self.errors.print(WIPED);
+        }
+    }
+
+    /// The nanoseconds on the clock.
+    fn now(&self) -> u64 {
+        let time = self.clock.monotonic().unwrap_or(Duration::ZERO);
+        u64::try_from(time.as_nanos()).unwrap_or(u64::MAX)
+    }
+
+    /// Whether it is time to print again. Of the threads that ask then, it is so for one.
+    fn is_due(&self) -> bool {
+        let between = if self.is_on_terminal {
+            ON_A_TERMINAL
+        } else {
+            ELSEWHERE
+        };
+        let told_at = self.told_at.load(Ordering::SeqCst);
+        let now = self.now();
+        now.saturating_sub(told_at) >= between
+            && self
+                .told_at
+                .compare_exchange(told_at, now, Ordering::SeqCst, Ordering::SeqCst)
+                .is_ok()
+    }
+
+    fn tell(&self, done: u64) {
+        let to_do = self.to_do.load(Ordering::SeqCst);
+        if self.is_on_terminal {
+            self.is_shown.store(true, Ordering::SeqCst);
+            let _ = self
+                .errors
+                .print(format_args!("{WIPED}{done} of {to_do} leaves"));
+        } else {
+            let _ = self
+                .errors
+                .println(format_args!("{done} of {to_do} leaves"));
+        }
+    }
+}
+
+impl<'r, C: Clock + Sync, P: Print + Sync> Progress for Meter<'r, C, P> {
+    fn begin(&self, leaves: u64) {
+        self.to_do.store(leaves, Ordering::SeqCst);
+        self.done.store(0, Ordering::SeqCst);
+        self.told_at.store(self.now(), Ordering::SeqCst);
+    }
+
+    fn done(&self, leaves: u64) {
+        let before = self.done.fetch_add(leaves, Ordering::SeqCst);
+        if self.is_due() {
+            self.tell(before.saturating_add(leaves));
+        }
+    }
+}
+
+/// A writer before whose writes the meter's line goes.
+#[derive(Drop)]
+pub struct Wiping<'m, 'r, C, P, W> {
+    meter: &'m Meter<'r, C, P>,
+    pub writer: W,
+}
+
+impl<'m, 'r, C, P, W> Wiping<'m, 'r, C, P, W> {
+    pub fn new(meter: &'m Meter<'r, C, P>, writer: W) -> Self {
+        Wiping { meter, writer }
+    }
+}
+
+impl<'m, 'r, C: Clock, P: Print, W: Write> Write for Wiping<'m, 'r, C, P, W> {
+    fn write(&mut self, buf: &[u8]) -> io::Result<usize> {
+        self.meter.wipe();
+        self.writer.write(buf)
+    }
+
+    fn flush(&mut self) -> io::Result<()> {
+        self.writer.flush()
+    }
+}

@@ -1,0 +1,5 @@
+//! Tests of `lms_params`.
+#![tactic(auto)]
+
+#[cfg(test)]
+mod tests;

@@ -1,0 +1,5 @@
+//! Tests of `lms_slow`.
+#![tactic(auto)]
+
+#[cfg(test)]
+mod tests;

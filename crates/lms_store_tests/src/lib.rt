@@ -1,0 +1,5 @@
+//! Tests of `lms_store`.
+#![tactic(auto)]
+
+#[cfg(test)]
+mod tests;

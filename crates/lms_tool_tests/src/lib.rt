@@ -1,0 +1,5 @@
+//! Tests of `lms_tool`.
+#![tactic(auto)]
+
+#[cfg(test)]
+mod tests;

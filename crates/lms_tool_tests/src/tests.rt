@@ -1,0 +1,280 @@
+mod batch;
+mod batch_faults;
+mod faults;
+mod lines;
+mod memory;
+mod meter;
+mod states;
+mod words;
+
+use lms_program::run::run;
+use lms_slow::vectors::ONE_5_8;
+use lms_world::{MemoryWorld, World, WorldFault};
+use std::alloc::Global;
+use std::io::Write;
+use std::sync::Wait;
+use std::test::Fail;
+use std::thread::Threads;
+use std::{io, str};
+
+const NAMES: [&str; 3] = ["key.pub", "text", "text.sig"];
+
+const VERIFY: [&str; 8] = [
+    "lms_tool",
+    "verify",
+    "--public",
+    "key.pub",
+    "--message",
+    "text",
+    "--signature",
+    "text.sig",
+];
+
+/// What a run left behind.
+#[derive(Drop)]
+struct Ended {
+    status: u8,
+    output: Vec<u8>,
+    errors: Vec<u8>,
+}
+
+impl Ended {
+    fn output(&self) -> &str {
+        text_of(&self.output)
+    }
+
+    fn errors(&self) -> &str {
+        text_of(&self.errors)
+    }
+
+    /// Whether the run ended with this status, and printed this output and these errors.
+    fn is(&self, status: u8, output: &str, errors: &str) -> bool {
+        self.status == status
+            && self.output.as_slice() == output.as_bytes()
+            && self.errors.as_slice() == errors.as_bytes()
+    }
+}
+
+/// The text of these bytes, or one that no run prints.
+fn text_of(bytes: &[u8]) -> &str {
+    str::from_utf8(bytes).unwrap_or("no text")
+}
+
+/// Runs the program with no input. What `run` promises of the status and of what it is lent is left to its proof.
+fn status_of<W: World, O: Write, E: Write>(
+    rt: &(impl Threads + Wait + AllocGlobal + Sync),
+    words: &[&str],
+    world: &mut W,
+    output: &mut O,
+    errors: &mut E,
+) -> u8 {
+    let mut input: &[u8] = &[];
+    run(rt, rt.alloc(), words, world, &mut input, output, errors).code()
+}
+
+fn end_of<W: World>(
+    rt: &(impl Threads + Wait + AllocGlobal + Sync),
+    words: &[&str],
+    world: &mut W,
+) -> Ended {
+    let mut output = Vec::new(rt.alloc());
+    let mut errors = Vec::new(rt.alloc());
+    let status = status_of(rt, words, world, &mut output, &mut errors);
+    Ended {
+        status,
+        output,
+        errors,
+    }
+}
+
+/// Whether a run ends with this status, and prints this output and these errors.
+fn ends<W: World>(
+    rt: &(impl Threads + Wait + AllocGlobal + Sync),
+    words: &[&str],
+    world: &mut W,
+    status: u8,
+    output: &str,
+    errors: &str,
+) -> bool {
+    end_of(rt, words, world).is(status, output, errors)
+}
+
+/// The same of files in memory, where no errors are printed.
+fn says(
+    rt: &(impl Threads + Wait + AllocGlobal + Sync),
+    words: &[&str],
+    world: &mut MemoryWorld,
+    status: u8,
+    output: &str,
+) -> bool {
+    ends(rt, words, world, status, output, "")
+}
+
+/// The same of files in memory, where nothing but errors is printed.
+fn fails_with(
+    rt: &(impl Threads + Wait + AllocGlobal + Sync),
+    words: &[&str],
+    world: &mut MemoryWorld,
+    status: u8,
+    line: &str,
+) -> bool {
+    ends(rt, words, world, status, "", line)
+}
+
+/// Writes the bytes of a text of hexadecimal digits.
+fn write_hex(alloc: Global, world: &mut MemoryWorld, name: &str, digits: &str) -> Result<(), Fail> {
+    let bytes = hex::decode(alloc, digits)?;
+    world.write(name, &bytes)?;
+    Ok(())
+}
+
+/// The three files, with a signature that is valid.
+fn signed(alloc: Global) -> Result<MemoryWorld, Fail> {
+    let mut world = MemoryWorld::new(alloc);
+    write_hex(alloc, &mut world, "key.pub", ONE_5_8.public)?;
+    world.write("text", ONE_5_8.message.as_bytes())?;
+    write_hex(alloc, &mut world, "text.sig", ONE_5_8.signature)?;
+    Ok(world)
+}
+
+/// Whether the three files, of which one holds other bytes, are verified with this status and this line.
+fn is_judged(
+    rt: &(impl Threads + Wait + AllocGlobal + Sync),
+    name: &str,
+    bytes: &[u8],
+    status: u8,
+    line: &str,
+) -> Result<bool, Fail> {
+    let mut world = signed(rt.alloc())?;
+    world.write(name, bytes)?;
+    Ok(says(rt, &VERIFY, &mut world, status, line))
+}
+
+#[test]
+fn prints_a_verdict(rt: HostRuntime) -> Result<(), Fail> {
+    assert!(rt; is_judged(&rt, "another.sig", b"another", 0, "valid\n")?);
+    assert!(rt; is_judged(&rt, "text.sig", b"another", 1, "invalid\n")?);
+    assert!(rt; is_judged(&rt, "text.sig", b"", 1, "invalid\n")?);
+    assert!(rt; is_judged(&rt, "text", b"", 1, "invalid\n")?);
+    assert!(rt; is_judged(&rt, "key.pub", b"", 1, "invalid\n")?);
+    Ok(())
+}
+
+/// The three files, of which the one at a place fails, and those behind it fail in another way.
+fn failing(
+    alloc: Global,
+    place: usize,
+    fault: WorldFault,
+    later_fault: WorldFault,
+) -> Result<MemoryWorld, Fail> {
+    let mut world = signed(alloc)?;
+    for (at, name) in NAMES.iter().enumerate() {
+        if at == place {
+            world.fail(name, fault)?;
+        }
+        if at > place {
+            world.fail(name, later_fault)?;
+        }
+    }
+    Ok(world)
+}
+
+/// Of two files that fail, the one that is read first is the one that counts.
+#[test]
+fn reads_the_files_in_order(rt: HostRuntime) -> Result<(), Fail> {
+    let rows: [(WorldFault, WorldFault, u8, &str); 2] = [
+        (
+            WorldFault::Device,
+            WorldFault::OutOfMemory,
+            6,
+            "error: cannot read input\n",
+        ),
+        (
+            WorldFault::OutOfMemory,
+            WorldFault::Device,
+            5,
+            "error: out of memory\n",
+        ),
+    ];
+    for (fault, later_fault, status, line) in rows {
+        for place in 0..NAMES.len() {
+            let mut world = failing(rt.alloc(), place, fault, later_fault)?;
+            assert!(rt;
+                fails_with(&rt, &VERIFY, &mut world, status, line),
+                "{place} fails"
+            );
+        }
+    }
+    Ok(())
+}
+
+/// A file that isn't there can't be read.
+#[test]
+fn misses_a_file(rt: HostRuntime) {
+    let mut world = MemoryWorld::new(rt.alloc());
+    assert!(rt; fails_with(&rt, &VERIFY, &mut world, 6, "error: cannot read input\n"));
+}
+
+/// A stream that takes no bytes.
+#[derive(Drop)]
+struct Closed;
+
+impl Write for Closed {
+    fn write(&mut self, _buf: &[u8]) -> io::Result<usize> {
+        Err(io::Error::from(io::ErrorKind::BrokenPipe))
+    }
+
+    fn flush(&mut self) -> io::Result<()> {
+        Ok(())
+    }
+}
+
+/// A stream that takes bytes and fails when they are to be passed on.
+#[derive(Drop)]
+struct Stuck;
+
+impl Write for Stuck {
+    fn write(&mut self, buf: &[u8]) -> io::Result<usize> {
+        Ok(buf.len())
+    }
+
+    fn flush(&mut self) -> io::Result<()> {
+        Err(io::Error::from(io::ErrorKind::StorageFull))
+    }
+}
+
+/// Whether a command whose output can't be printed, by this stream, says so.
+fn is_unprinted<O: Write>(
+    rt: &(impl Threads + Wait + AllocGlobal + Sync),
+    words: &[&str],
+    world: &mut MemoryWorld,
+    output: &mut O,
+) -> bool {
+    let mut errors = Vec::new(rt.alloc());
+    let status = status_of(rt, words, world, output, &mut errors);
+    status == 6 && errors.as_slice() == b"error: cannot write output\n".as_slice()
+}
+
+#[test]
+fn cannot_pass_on(rt: HostRuntime) -> Result<(), Fail> {
+    let mut world = signed(rt.alloc())?;
+    assert!(rt; is_unprinted(&rt, &VERIFY, &mut world, &mut Stuck));
+    Ok(())
+}
+
+/// A fault keeps its status where its line can't be printed.
+#[test]
+fn cannot_complain(rt: HostRuntime) {
+    let mut output = Vec::new(rt.alloc());
+    let mut world = MemoryWorld::new(rt.alloc());
+    assert!(rt; status_of(&rt, &VERIFY, &mut world, &mut output, &mut Closed) == 6);
+    assert!(rt; output.is_empty());
+}
+
+#[test]
+fn cannot_write(rt: HostRuntime) -> Result<(), Fail> {
+    let mut world = signed(rt.alloc())?;
+    assert!(rt; is_unprinted(&rt, &VERIFY, &mut world, &mut Closed));
+    assert!(rt; is_unprinted(&rt, &["lms_tool", "--help"], &mut world, &mut Closed));
+    Ok(())
+}

@@ -1,0 +1,287 @@
+//! `batch` over streams, states and memory that fail.
+use super::batch::{FOUR_LINES, TWO_LINES, batch, end_of_batch, end_of_batch_to};
+use super::states::{image_of, is_with, keyed, store_at, store_of};
+use super::words::{CHEAP, ONE, TWO};
+use super::{Closed, Ended, Stuck};
+use lms_book::{Left, MemoryStore};
+use lms_commands::Status;
+use lms_program::run::run;
+use lms_world::{MemoryWorld, World};
+use std::alloc::Global;
+use std::io;
+use std::io::{ErrorKind, Read, Write};
+use std::sync::Wait;
+use std::test::Fail;
+use std::thread::Threads;
+
+/// A reader that gives a byte at each of so many reads, and then fails.
+#[derive(Drop)]
+struct Cut {
+    reads: usize,
+}
+
+impl Read for Cut {
+    fn read(&mut self, buf: &mut [u8]) -> io::Result<usize> {
+        if self.reads == 0 || buf.is_empty() {
+            return Err(io::Error::from(ErrorKind::BrokenPipe));
+        }
+        self.reads -= 1;
+        buf[0] = b'0';
+        Ok(1)
+    }
+}
+
+/// A writer that has room for so many bytes, and then fails, or takes nothing.
+#[derive(Drop)]
+struct Full {
+    taken: Vec<u8>,
+    room: usize,
+    fails: bool,
+}
+
+impl Write for Full {
+    fn write(&mut self, buf: &[u8]) -> io::Result<usize> {
+        let count = buf.len().min(self.room);
+        if count == 0 && self.fails {
+            return Err(io::Error::from(ErrorKind::BrokenPipe));
+        }
+        self.taken.extend_from_slice(&buf[..count])?;
+        self.room -= count;
+        Ok(count)
+    }
+
+    fn flush(&mut self) -> io::Result<()> {
+        Ok(())
+    }
+}
+
+/// Whether a batch by these streams says that one of them failed, by this line.
+fn fails_by<I: Read, O: Write>(
+    rt: &(impl Threads + Wait + AllocGlobal + Sync),
+    world: &mut MemoryWorld,
+    input: &mut I,
+    output: &mut O,
+    line: &str,
+) -> bool {
+    let mut said = Vec::new(rt.alloc());
+    let words = batch("2");
+    let status = run(rt, rt.alloc(), &words, world, input, output, &mut said);
+    status == Status::Stream && said.as_slice() == line.as_bytes()
+}
+
+/// No index is used where the lines can't be read.
+#[test]
+fn cannot_read_job_lines(rt: HostRuntime) -> Result<(), Fail> {
+    let line = "error: cannot read input\n";
+    for reads in 0..3 {
+        let mut world = keyed(rt.alloc(), &ONE, 5)?;
+        let mut cut = Cut { reads };
+        assert!(rt; fails_by(&rt, &mut world, &mut cut, &mut Closed, line));
+        assert!(rt; is_with(&world, &ONE, 5, 0, 0));
+    }
+    Ok(())
+}
+
+/// Whether a batch says that its answers could not be written, where a writer gets a beginning of them and no more.
+fn leaves_a_beginning(
+    rt: &(impl Threads + Wait + AllocGlobal + Sync),
+    world: &mut MemoryWorld,
+    full: &mut Full,
+    answers: &[u8],
+) -> bool {
+    let room = full.room;
+    let mut rest = TWO_LINES.as_bytes();
+    let line = "error: cannot write output\n";
+    fails_by(rt, world, &mut rest, full, line)
+        && full.taken.len() == room
+        && answers.starts_with(&full.taken)
+}
+
+/// Whether a batch that failed used the indices 5 and 6, so that the next one begins with index 7.
+fn goes_on(rt: &(impl Threads + Wait + AllocGlobal + Sync), world: &mut MemoryWorld) -> bool {
+    is_with(world, &ONE, 7, 1, 0)
+        && end_of_batch(rt, world, "1", TWO_LINES)
+            .output
+            .starts_with(b"7 ")
+}
+
+/// Whether a writer with room for so many bytes gets a beginning of these answers, and the batch after it the next indices.
+fn gets_a_beginning(
+    rt: &(impl Threads + Wait + AllocGlobal + Sync),
+    answers: &[u8],
+    room: usize,
+    fails: bool,
+) -> Result<bool, Fail> {
+    let mut world = keyed(rt.alloc(), &ONE, 5)?;
+    let mut full = Full {
+        taken: Vec::new(rt.alloc()),
+        room,
+        fails,
+    };
+    Ok(leaves_a_beginning(rt, &mut world, &mut full, answers) && goes_on(rt, &mut world))
+}
+
+/// All indices are used where the answers can't be written, or not passed on.
+#[test]
+fn cannot_write_answers(rt: HostRuntime) -> Result<(), Fail> {
+    let mut world = keyed(rt.alloc(), &ONE, 5)?;
+    let end = end_of_batch(&rt, &mut world, "2", TWO_LINES);
+    for room in [0, 1, 2, 2594, 2595, 2596, 5189] {
+        assert!(rt; gets_a_beginning(&rt, &end.output, room, true)?, "{room}");
+        assert!(rt; gets_a_beginning(&rt, &end.output, room, false)?, "{room}");
+    }
+    let mut rest = TWO_LINES.as_bytes();
+    let line = "error: cannot write output\n";
+    assert!(rt; fails_by(&rt, &mut world, &mut rest, &mut Stuck, line));
+    assert!(rt; is_with(&world, &ONE, 9, 2, 0));
+    Ok(())
+}
+
+/// The state of an unused key of 5/8,5/8, whose next write fails, and leaves the old text or the new one.
+fn unwritable(alloc: Global, left: Left) -> Result<MemoryWorld, Fail> {
+    let mut store = store_at(alloc, &TWO, 0)?;
+    store.fail_replace(1, left);
+    let mut world = MemoryWorld::new(alloc);
+    world.set_state(store);
+    Ok(world)
+}
+
+/// Whether a batch of four jobs whose write of the state fails burns their indices, and leaves a state with these numbers.
+fn burns_indices(
+    rt: &(impl Threads + Wait + AllocGlobal + Sync),
+    left: Left,
+    counter: u64,
+    openings: u64,
+) -> Result<bool, Fail> {
+    let mut world = unwritable(rt.alloc(), left)?;
+    let end = end_of_batch(rt, &mut world, "2", FOUR_LINES);
+    Ok(
+        end.is(3, "", "error: cannot write state: 0 to 3 burnt\n")
+            && is_with(&world, &TWO, counter, openings, 0),
+    )
+}
+
+#[test]
+fn burns_the_indices_of_a_batch(rt: HostRuntime) -> Result<(), Fail> {
+    assert!(rt; burns_indices(&rt, Left::Old, 0, 0)?);
+    assert!(rt; burns_indices(&rt, Left::New, 4, 1)?);
+    Ok(())
+}
+
+/// Whether a batch of a bad line ends with this status and these errors.
+fn fails_before_the_line(
+    rt: &(impl Threads + Wait + AllocGlobal + Sync),
+    world: &mut MemoryWorld,
+    workers: &str,
+    status: u8,
+    errors: &str,
+) -> bool {
+    end_of_batch(rt, world, workers, "\n").is(status, "", errors)
+}
+
+/// The state is asked for before the input is read, and the workers before both.
+#[test]
+fn fails_in_order(rt: HostRuntime) -> Result<(), Fail> {
+    let mut world = keyed(rt.alloc(), &ONE, 5)?;
+    world.use_elsewhere();
+    let line = "error: bad workers\n";
+    assert!(rt; fails_before_the_line(&rt, &mut world, "0", 2, line));
+    let line = "error: state in use\n";
+    assert!(rt; fails_before_the_line(&rt, &mut world, "1", 3, line));
+    let line = "error: cannot read state\n";
+    world = MemoryWorld::new(rt.alloc());
+    assert!(rt; fails_before_the_line(&rt, &mut world, "1", 3, line));
+    world.set_state(store_of(rt.alloc(), Some(b"HSSK"))?);
+    let line = "error: bad state: Truncated\n";
+    assert!(rt; fails_before_the_line(&rt, &mut world, "1", 3, line));
+    Ok(())
+}
+
+/// How many indices a batch of four jobs that ended so has used, and how many lines it printed.
+fn uses(end: &Ended) -> Option<(u64, usize)> {
+    match (end.status, end.errors()) {
+        (0, "") => Some((4, 4)),
+        (1, "error: partial: 0 of 4 signed\n") => Some((4, 0)),
+        (1, "error: partial: 1 of 4 signed\n") => Some((4, 1)),
+        (1, "error: partial: 2 of 4 signed\n") => Some((4, 2)),
+        (1, "error: partial: 3 of 4 signed\n") => Some((4, 3)),
+        (5, "error: out of memory\n") => Some((0, 0)),
+        (5, "error: out of memory: 4 burnt\n") => Some((4, 0)),
+        _ => None,
+    }
+}
+
+/// How many answer lines of 5/2 a text has, or `None` where one is not whole. An index has one digit or two.
+fn answers_in(text: &str) -> Option<usize> {
+    let mut is_whole = text.is_empty() || text.ends_with("\n");
+    for line in text.lines() {
+        is_whole = is_whole && (line.len() == 8930 || line.len() == 8931);
+    }
+    if is_whole {
+        Some(text.lines().count())
+    } else {
+        None
+    }
+}
+
+/// How many indices after index 5 the state counts, four by each opening.
+fn used(world: &MemoryWorld) -> Result<u64, Fail> {
+    for openings in 0..3 {
+        let count = 4 * openings;
+        if is_with(world, &CHEAP, 5 + count, openings, 0) {
+            return Ok(count);
+        }
+    }
+    Err(Fail::from("the state is the key's"))
+}
+
+/// Whether a batch that ended so used as many indices as it says, from so many used to so many, and printed its lines.
+fn is_true(end: &Ended, before: u64, after: u64) -> bool {
+    match uses(end) {
+        Some((indices, printed)) => {
+            after.checked_sub(before) == Some(indices) && answers_in(end.output()) == Some(printed)
+        }
+        None => false,
+    }
+}
+
+/// An empty list with room for four answer lines, made at the first or at the second try. So writing them takes no memory.
+fn roomy(alloc: Global) -> Result<Vec<u8>, Fail> {
+    match Vec::with_capacity(alloc, 36_000) {
+        Ok(room) => Ok(room),
+        Err(_) => Ok(Vec::with_capacity(alloc, 36_000)?),
+    }
+}
+
+/// The state of index 5 of 5/2, made at the first or at the second try.
+fn world_at_last(alloc: Global) -> Result<MemoryWorld, Fail> {
+    let image = image_of(&CHEAP, 5)?;
+    let text = image.as_slice();
+    if text.len() > 256 {
+        return Err(Fail::from("a text of over 256 bytes"));
+    }
+    let store = match MemoryStore::new(alloc, Some(text), 8) {
+        Ok(store) => store,
+        Err(_) => MemoryStore::new(alloc, Some(text), 8)?,
+    };
+    let mut world = MemoryWorld::new(alloc);
+    world.set_state(store);
+    Ok(world)
+}
+
+/// `rt test` refuses no memory. At the top of the workspace,
+/// `tests/refused lms_tool_tests tests::batch_faults::a_batch_says_what_it_used` refuses each request in turn.
+#[test]
+fn a_batch_says_what_it_used(rt: HostRuntime) -> Result<(), Fail> {
+    let mut world = world_at_last(rt.alloc())?;
+    let output = roomy(rt.alloc())?;
+    let first = end_of_batch_to(&rt, &mut world, "4", FOUR_LINES, output);
+    let between = used(&world)?;
+    let output = roomy(rt.alloc())?;
+    let second = end_of_batch_to(&rt, &mut world, "4", FOUR_LINES, output);
+    let after = used(&world)?;
+    assert!(rt; is_true(&first, 0, between));
+    assert!(rt; is_true(&second, between, after));
+    assert!(rt; first.status == 0 || second.status == 0);
+    Ok(())
+}

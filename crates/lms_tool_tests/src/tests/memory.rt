@@ -1,0 +1,117 @@
+//! Commands to which memory is refused once, where it is.
+use super::states::is_with;
+use super::words::{CHEAP, INFO, SIGN, keygen};
+use super::{Ended, VERIFY, end_of};
+use lms_world::{MemoryWorld, World};
+use std::alloc::Global;
+use std::sync::Wait;
+use std::test::Fail;
+use std::thread::Threads;
+
+/// How many indices of the key are used, each by an opening of its own.
+fn used(world: &MemoryWorld) -> Result<u64, Fail> {
+    for counter in 0..4 {
+        if is_with(world, &CHEAP, counter, counter, 0) {
+            return Ok(counter);
+        }
+    }
+    Err(Fail::from("the state is the key's"))
+}
+
+/// How many indices a `sign` that ended so may have used.
+fn uses(end: &Ended) -> Option<u64> {
+    match (end.status, end.errors()) {
+        (0, "") => Some(1),
+        (5, "error: out of memory\n") => Some(0),
+        (5, "error: out of memory: 1 burnt\n") => Some(1),
+        (6, "error: cannot write output\n") => Some(1),
+        _ => None,
+    }
+}
+
+/// Signs twice, and says whether each used what it said, and one of them was done.
+fn signs(
+    rt: &(impl Threads + Wait + AllocGlobal + Sync),
+    world: &mut MemoryWorld,
+) -> Result<bool, Fail> {
+    let before = used(world)?;
+    let first = end_of(rt, &SIGN, world);
+    let between = used(world)?;
+    let second = end_of(rt, &SIGN, world);
+    let after = used(world)?;
+    Ok(
+        uses(&first) == between.checked_sub(before)
+            && uses(&second) == after.checked_sub(between)
+            && (first.status == 0 || second.status == 0),
+    )
+}
+
+/// Makes a key, at the second try where memory was refused at the first, unless the first try made its state.
+fn makes_a_key(rt: &(impl Threads + Wait + AllocGlobal + Sync), world: &mut MemoryWorld) -> bool {
+    let words = keygen("5/2");
+    let first = end_of(rt, &words, world);
+    match (first.status, first.errors()) {
+        (0, "") | (6, "error: cannot write output\n") => true,
+        (5, "error: out of memory\n") => {
+            let made = is_with(world, &CHEAP, 0, 0, 0);
+            end_of(rt, &words, world).status == if made { 3 } else { 0 }
+        }
+        _ => false,
+    }
+}
+
+/// Whether a command that changes nothing ended with this status, or as one that was refused memory.
+fn ends_or_is_refused(end: &Ended, status: u8) -> bool {
+    match (end.status, end.errors()) {
+        (5, "error: out of memory\n") | (6, "error: cannot write output\n") => true,
+        (ended, _) => ended == status,
+    }
+}
+
+/// Asks twice for what changes nothing, and says whether it ended so at least once, and else as one that was refused memory.
+fn ends_once(
+    rt: &(impl Threads + Wait + AllocGlobal + Sync),
+    words: &[&str],
+    world: &mut MemoryWorld,
+    status: u8,
+) -> bool {
+    let first = end_of(rt, words, world);
+    let second = end_of(rt, words, world);
+    ends_or_is_refused(&first, status)
+        && ends_or_is_refused(&second, status)
+        && (first.status == status || second.status == status)
+}
+
+/// Whether the public key was written.
+fn is_published(alloc: Global, world: &MemoryWorld) -> bool {
+    world.read(alloc, "key.pub").is_ok() || world.read(alloc, "key.pub").is_ok()
+}
+
+/// Files with a message, written at the first or at the second try.
+fn with_text(alloc: Global) -> Result<MemoryWorld, Fail> {
+    let mut world = MemoryWorld::new(alloc);
+    if world.write("text", b"abc").is_err() {
+        world.write("text", b"abc")?;
+    }
+    Ok(world)
+}
+
+/// The status of a `verify`, by whether there is a public key.
+fn verified(alloc: Global, world: &MemoryWorld) -> u8 {
+    if is_published(alloc, world) { 0 } else { 6 }
+}
+
+/// `rt test` refuses no memory. At the top of the workspace,
+/// `tests/refused lms_tool_tests tests::memory::refused_memory_is_said` refuses each request in turn.
+#[test]
+fn refused_memory_is_said(rt: HostRuntime) -> Result<(), Fail> {
+    let mut world = with_text(rt.alloc())?;
+    assert!(rt; makes_a_key(&rt, &mut world));
+    assert!(rt; signs(&rt, &mut world)?);
+    let before = used(&world)?;
+    assert!(rt; ends_once(&rt, &INFO, &mut world, 0));
+    let status = verified(rt.alloc(), &world);
+    assert!(rt; ends_once(&rt, &VERIFY, &mut world, status));
+    assert!(rt; used(&world)? == before);
+    Ok(())
+}

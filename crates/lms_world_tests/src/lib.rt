@@ -1,0 +1,5 @@
+//! Tests of `lms_world`.
+#![tactic(auto)]
+
+#[cfg(test)]
+mod tests;

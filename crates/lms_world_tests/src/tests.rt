@@ -1,0 +1,297 @@
+use lms_store::TryLock;
+use lms_world::{Contents, DiskWorld, Taker, World, WorldFault};
+use std::alloc::{Allocator, Global};
+use std::fs::{Metadata, OpenFile, OpenOptions};
+use std::io::{ErrorKind, Read, Seek, SeekFrom, Write};
+use std::path::PathBuf;
+use std::rt::Files;
+use std::test::Fail;
+use std::{fs, io};
+
+/// The most bytes that a poor file gives or takes at once.
+const MOST: usize = 1000;
+
+/// Files that give and take few bytes at once, whose reads are interrupted every second time, and that tell nothing of a name.
+#[derive(Drop)]
+struct PoorFiles<'a, R: Files> {
+    files: &'a R,
+}
+
+/// An open one of these files.
+#[derive(Drop)]
+struct PoorFile<F> {
+    file: F,
+    was_interrupted: bool,
+}
+
+impl<F: Read> Read for PoorFile<F> {
+    fn read(&mut self, buf: &mut [u8]) -> io::Result<usize> {
+        self.was_interrupted = !self.was_interrupted;
+        if self.was_interrupted {
+            return Err(io::Error::from(ErrorKind::Interrupted));
+        }
+        let count = buf.len().min(MOST);
+        self.file.read(&mut buf[..count])
+    }
+}
+
+impl<F: Write> Write for PoorFile<F> {
+    fn write(&mut self, buf: &[u8]) -> io::Result<usize> {
+        let count = buf.len().min(MOST);
+        self.file.write(&buf[..count])
+    }
+
+    fn flush(&mut self) -> io::Result<()> {
+        self.file.flush()
+    }
+}
+
+impl<F: Seek> Seek for PoorFile<F> {
+    fn seek(&mut self, to: SeekFrom) -> io::Result<u64> {
+        self.file.seek(to)
+    }
+}
+
+impl<F: OpenFile> OpenFile for PoorFile<F> {
+    fn metadata(&self) -> io::Result<Metadata> {
+        self.file.metadata()
+    }
+
+    fn set_len(&self, size: u64) -> io::Result<()> {
+        self.file.set_len(size)
+    }
+
+    fn sync_all(&self) -> io::Result<()> {
+        self.file.sync_all()
+    }
+
+    fn sync_data(&self) -> io::Result<()> {
+        self.file.sync_data()
+    }
+}
+
+impl<F: TryLock> TryLock for PoorFile<F> {
+    ghost is_locked = { λ file. F.is_locked file.file };
+
+    fn try_lock(&self) -> bool {
+        self.file.try_lock()
+    }
+}
+
+impl<'a, R: Files> Files for PoorFiles<'a, R> {
+    type File = PoorFile<R::File>;
+
+    type Dir = R::Dir;
+
+    fn open_file(&self, how: &OpenOptions, path: &str) -> io::Result<PoorFile<R::File>> {
+        let file = self.files.open_file(how, path)?;
+        Ok(PoorFile {
+            file,
+            was_interrupted: false,
+        })
+    }
+
+    fn open_dir(&self, path: &str) -> io::Result<R::Dir> {
+        self.files.open_dir(path)
+    }
+
+    fn metadata(&self, _path: &str) -> io::Result<Metadata> {
+        Err(io::Error::from(ErrorKind::PermissionDenied))
+    }
+
+    fn symlink_metadata(&self, _path: &str) -> io::Result<Metadata> {
+        Err(io::Error::from(ErrorKind::PermissionDenied))
+    }
+
+    fn copy(&self, from: &str, to: &str) -> io::Result<u64> {
+        self.files.copy(from, to)
+    }
+
+    fn rename(&self, from: &str, to: &str) -> io::Result<()> {
+        self.files.rename(from, to)
+    }
+
+    fn remove_file(&self, path: &str) -> io::Result<()> {
+        self.files.remove_file(path)
+    }
+
+    fn create_dir(&self, path: &str) -> io::Result<()> {
+        self.files.create_dir(path)
+    }
+
+    fn remove_dir(&self, path: &str) -> io::Result<()> {
+        self.files.remove_dir(path)
+    }
+
+    fn remove_dir_all<B: Allocator>(&self, alloc: B, path: &str) -> io::Result<()> {
+        self.files.remove_dir_all(alloc, path)
+    }
+
+    fn canonicalize<B: Allocator>(&self, alloc: B, path: &str) -> io::Result<PathBuf<B>> {
+        self.files.canonicalize(alloc, path)
+    }
+}
+
+/// Makes an empty folder, in place of one that an earlier run left.
+fn empty_folder(rt: &HostRuntime, folder: &str) -> Result<(), Fail> {
+    let _ = fs::remove_dir_all(rt, folder);
+    fs::create_dir(rt, folder)?;
+    Ok(())
+}
+
+/// Whether a world reads these bytes from the file of a name.
+fn reads<W: World>(alloc: Global, world: &W, name: &str, bytes: &[u8]) -> bool {
+    match world.read(alloc, name) {
+        Ok(found) => found.as_slice() == bytes,
+        Err(_) => false,
+    }
+}
+
+/// Compares what it takes with a text.
+#[derive(Drop)]
+struct Comparing<'a> {
+    left: &'a [u8],
+    is_same: bool,
+    longest: usize,
+}
+
+impl Taker for Comparing<'_> {
+    ghost after = { λ _ _ _. Unit {0} };
+
+    fn take(&mut self, piece: &[u8]) {
+        self.longest = self.longest.max(piece.len());
+        match self.left.strip_prefix(piece) {
+            Some(left) => self.left = left,
+            None => self.is_same = false,
+        }
+    }
+
+    ghost none = { λ _. tt };
+
+    ghost more = { λ _ _ _ _ _ _ _. tt };
+}
+
+/// Whether a world hands these bytes over from the file of a name, none of the pieces over 4 KiB.
+fn hands_over<W: World>(alloc: Global, world: &W, name: &str, bytes: &[u8]) -> bool {
+    let mut comparing = Comparing {
+        left: bytes,
+        is_same: true,
+        longest: 0,
+    };
+    match world.open(alloc, name) {
+        Ok(contents) => {
+            contents.hand_over(&mut comparing).is_ok()
+                && comparing.is_same
+                && comparing.left.is_empty()
+                && comparing.longest <= 4096
+        }
+        Err(_) => false,
+    }
+}
+
+/// Whether a file is opened, and then can't be read.
+fn breaks_off<W: World>(alloc: Global, world: &W, name: &str) -> bool {
+    let mut comparing = Comparing {
+        left: b"",
+        is_same: true,
+        longest: 0,
+    };
+    match world.open(alloc, name) {
+        Ok(contents) => contents.hand_over(&mut comparing) == Err(WorldFault::Device),
+        Err(_) => false,
+    }
+}
+
+/// Whether a world writes these bytes to the file of a name.
+fn writes<W: World>(world: &mut W, name: &str, bytes: &[u8]) -> bool {
+    world.write(name, bytes).is_ok()
+}
+
+/// Whether the file of a name holds these bytes.
+fn holds(rt: &HostRuntime, name: &str, bytes: &[u8]) -> bool {
+    match fs::read(rt, name) {
+        Ok(found) => found.as_slice() == bytes,
+        Err(_) => false,
+    }
+}
+
+/// Three times 1 MiB and some bytes more.
+fn large_text(alloc: Global) -> Result<String, Fail> {
+    Ok("pattern".repeat(alloc, 449_391)?)
+}
+
+const LARGE: &str = "disk_world_large/text";
+
+/// A large text is read and written whole.
+#[test]
+fn a_large_file_is_whole(rt: HostRuntime) -> Result<(), Fail> {
+    empty_folder(&rt, "disk_world_large")?;
+    let text = large_text(rt.alloc())?;
+    assert!(rt; writes(&mut DiskWorld::new(&rt), LARGE, text.as_bytes()));
+    assert!(rt; holds(&rt, LARGE, text.as_bytes()));
+    assert!(rt; reads(rt.alloc(), &DiskWorld::new(&rt), LARGE, text.as_bytes()));
+    assert!(rt; hands_over(rt.alloc(), &DiskWorld::new(&rt), LARGE, text.as_bytes()));
+    let poor = PoorFiles { files: &rt };
+    assert!(rt; reads(rt.alloc(), &DiskWorld::new(&poor), LARGE, text.as_bytes()));
+    assert!(rt; hands_over(rt.alloc(), &DiskWorld::new(&poor), LARGE, text.as_bytes()));
+    fs::remove_file(&rt, LARGE)?;
+    assert!(rt; writes(&mut DiskWorld::new(&poor), LARGE, text.as_bytes()));
+    assert!(rt; holds(&rt, LARGE, text.as_bytes()));
+    fs::remove_dir_all(&rt, "disk_world_large")?;
+    Ok(())
+}
+
+/// A file that tells a size of 0 and holds more is read whole.
+#[test]
+fn a_file_that_tells_no_size_is_whole(rt: HostRuntime) -> Result<(), Fail> {
+    let name = "/proc/self/stat";
+    assert!(rt; fs::metadata(&rt, name)?.len() == 0);
+    assert!(rt; !DiskWorld::new(&rt).read(rt.alloc(), name)?.is_empty());
+    Ok(())
+}
+
+/// A folder can be opened, and not be read.
+#[test]
+fn a_folder_breaks_off(rt: HostRuntime) -> Result<(), Fail> {
+    empty_folder(&rt, "disk_world_folder")?;
+    assert!(rt; breaks_off(rt.alloc(), &DiskWorld::new(&rt), "disk_world_folder"));
+    assert!(rt;
+        !hands_over(
+            rt.alloc(),
+            &DiskWorld::new(&rt),
+            "disk_world_folder/none",
+            b""
+        )
+    );
+    fs::remove_dir_all(&rt, "disk_world_folder")?;
+    Ok(())
+}
+
+/// Whether the state of a name exists, once it is locked. `None` where it is not.
+fn is_there(rt: &HostRuntime, name: &str) -> Option<bool> {
+    let world = DiskWorld::new(rt);
+    match world.lock(rt.alloc(), name) {
+        Ok(Some(lock)) => Some(world.exists(&lock)),
+        _ => None,
+    }
+}
+
+#[test]
+fn what_can_not_be_told_exists(rt: HostRuntime) -> Result<(), Fail> {
+    empty_folder(&rt, "disk_world_names")?;
+    fs::write(&rt, "disk_world_names/file", b"".as_slice())?;
+    let long = "n".repeat(rt.alloc(), 5000)?;
+    assert!(rt; is_there(&rt, "disk_world_names/state") == Some(false));
+    assert!(rt; is_there(&rt, "disk_world_names/file") == Some(true));
+    assert!(rt; is_there(&rt, "disk_world_names/file/state").is_none());
+    assert!(rt; is_there(&rt, long.as_str()).is_none());
+    let poor = PoorFiles { files: &rt };
+    let world = DiskWorld::new(&poor);
+    let Some(lock) = world.lock(rt.alloc(), "disk_world_names/file")? else {
+        return Err(Fail::from("the state can be locked"));
+    };
+    fs::remove_file(&rt, "disk_world_names/file")?;
+    assert!(rt; world.exists(&lock));
+    fs::remove_dir_all(&rt, "disk_world_names")?;
+    Ok(())
+}
