@@ -1,0 +1,5 @@
+use Rattle.std.proofs.Common.{rules}
+use Rattle.lms_book.proofs.reservations.Reservations.next_image.Goals as goal
+
+pub returns : goal.returns
+returns c = search rules
