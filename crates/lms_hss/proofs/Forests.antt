@@ -80,7 +80,7 @@ top-is key start last level tree held order within found =
     (subst (IsSignedTree key start 0) (sym here) is).tree
 
 -- the tree that stands below a leaf
-tree-below : (key : HssKey) (g k : ℕ) → tree_at key g (k + 1) ≡ child (tree_at key g k) (leaf_at key g k) (level_at key (k + 1))
+pub tree-below : (key : HssKey) (g k : ℕ) → tree_at key g (k + 1) ≡ child (tree_at key g k) (leaf_at key g k) (level_at key (k + 1))
 tree-below key g k =
     let next : suc k ≡ k + 1 = omega arith in
     subst (λ n. tree_at key g n ≡ child (tree_at key g k) (leaf_at key g k) (level_at key n)) next refl

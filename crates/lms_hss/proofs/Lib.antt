@@ -1,5 +1,6 @@
 pub mod Bottoms
 pub mod Forests
+pub mod KeptTexts
 pub mod Keys
 pub mod SameKeys
 pub mod Ranges
@@ -7,3 +8,4 @@ pub mod Sets
 pub mod SignedKeys
 pub mod Sent
 pub mod TopKeys
+pub mod Ways

@@ -6,3 +6,4 @@ pub mod Levels
 pub mod SignedKeys
 pub mod Texts
 pub mod Verifying
+pub mod Ways

@@ -4,12 +4,15 @@ ghost use Rattle.std.specs.Prelude.{◌≡◌};
 ghost use Rattle.lms_spec.specs.Profile.{child as child_of, derived as derived_of, for_randomizer};
 ghost use Rattle.lms_tree.specs.TreeKey.{tree_of};
 ghost use Rattle.lms_hss.specs.Levels.{level_of};
+ghost use Rattle.lms_hss.specs.Ways.{for_nodes};
 
 use lms_ots::{OtsId, secret};
 use lms_params::{LmsType, OtsType};
 use lms_tree::TreeKey;
 
 // The numbers of what is derived. No chain of a one-time key has so high a number, so no chain's secret is derived here.
+const FOR_NODES: u16 = 0xfffc;
+
 const FOR_RANDOMIZER: u16 = 0xfffd;
 
 const FOR_CHILD_SEED: u16 = 0xfffe;
@@ -36,6 +39,13 @@ pub(crate) fn randomizer(parent: &TreeKey, q: u32) -> [u8; 32]
     ensures { result ≡ derived_of (tree_of parent.now) q for_randomizer }
 {
     derived(parent, q, FOR_RANDOMIZER)
+}
+
+/// What the check value of a file of nodes goes by, derived at leaf 0 of the top tree.
+pub(crate) fn nodes_secret(top: &TreeKey) -> [u8; 32]
+    ensures { result ≡ derived_of (tree_of top.now) 0 for_nodes }
+{
+    derived(top, 0, FOR_NODES)
 }
 
 /// The value that is derived at leaf q under a number. It is hashed as the secret of a chain of that number would be.

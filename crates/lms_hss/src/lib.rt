@@ -6,6 +6,9 @@
 
 mod child_key;
 mod forest;
+mod kept_level;
+mod kept_text;
+mod kept_trees;
 mod key;
 mod level_trees;
 mod levels;
@@ -14,6 +17,7 @@ mod text;
 mod verification;
 
 pub use crate::forest::Forest;
+pub use crate::kept_trees::KeptTrees;
 pub use crate::key::{HssKey, same_key};
 pub use crate::levels::{KeyFault, Levels, MOST_LEVELS};
 pub use crate::text::LevelsText;

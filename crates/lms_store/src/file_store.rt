@@ -2,16 +2,16 @@
 ghost use Rattle.std.specs.Prelude.{◌≡◌, IfOk};
 ghost use Rattle.lms_store.specs.FileStores.{fresh, failed};
 
+use crate::drafts::{make_draft, place_draft};
 use crate::locking::StateLock;
-use crate::paths::{OWNER_ONLY, folder_of, sibling};
+use crate::paths::{folder_of, sibling};
 use crate::record::Record;
 use lms_book::{ReadFault, StateStore, StoreFault, Text};
 use lms_params::OutOfMemory;
 use std::alloc::Global;
-use std::fs::{OpenFile, OpenOptions};
-use std::io::{ErrorKind, Read, Write};
+use std::fs::OpenFile;
+use std::io::{ErrorKind, Read};
 use std::marker::Model;
-use std::os::unix::fs::OpenOptionsExt;
 use std::rt::Files;
 use std::{fs, io};
 
@@ -75,25 +75,10 @@ impl<'a, R: Files> FileStore<'a, R> {
     /// one that can't be opened changes nothing.
     fn put(&self, text: &[u8]) -> io::Result<()> {
         let folder = fs::open(self.files, self.folder.as_str())?;
-        self.write_draft(text)?;
-        fs::rename(self.files, self.draft.as_str(), self.state.as_str())?;
+        let (draft, state) = (self.draft.as_str(), self.state.as_str());
+        let file = make_draft(self.files, draft)?;
+        place_draft(self.files, file, text, draft, state)?;
         folder.sync_all()
-    }
-
-    /// Writes the bytes beside the state and flushes them. The file is a new one, which nobody else may read, even where an
-    /// earlier crash left one there.
-    fn write_draft(&self, text: &[u8]) -> io::Result<()> {
-        match fs::remove_file(self.files, self.draft.as_str()) {
-            Err(error) if error.kind() != ErrorKind::NotFound => return Err(error),
-            _ => {}
-        }
-        let mut draft = OpenOptions::new()
-            .write(true)
-            .create_new(true)
-            .mode(OWNER_ONLY)
-            .open(self.files, self.draft.as_str())?;
-        draft.write_all(text)?;
-        draft.sync_all()
     }
 
     /// Counts a failure.

@@ -1,4 +1,4 @@
-//! A key's state in a file of the disk, and the lock on it.
+//! A key's state in a file of the disk, the lock on it, and what is kept of the nodes of its trees beside it.
 //!
 //! A store is made of the lock on its file. Hold the lock as long as the store is used: two stores in one file give one index
 //! twice, and so does an older copy of the file that is put back, or a second name of it by a hard link. Nothing here can see any of these.
@@ -8,8 +8,10 @@
 //! answered `Ok`, a crash loses neither the bytes of that file nor the names in that folder.
 #![tactic(auto)]
 
+mod drafts;
 mod file_store;
 mod locking;
+mod nodes;
 mod paths;
 mod record;
 mod writes;

@@ -2,8 +2,7 @@
 ghost use Rattle.std.specs.Prelude.{◌≡◌, ◌++◌, IfOk, string_bytes};
 ghost use Rattle.lms_store.specs.FileStores.{folder_of};
 
-use lms_params::OutOfMemory;
-use std::alloc::Global;
+use std::alloc::{AllocError, Global};
 use std::io::ErrorKind;
 use std::path::Path;
 use std::rt::Files;
@@ -25,7 +24,7 @@ pub(crate) fn resolve<R: Files>(files: &R, alloc: Global, name: &str) -> io::Res
 }
 
 /// The path with this ending behind it, so that its file lies in the same folder.
-pub(crate) fn sibling(alloc: Global, path: &str, ending: &str) -> Result<String, OutOfMemory>
+pub(crate) fn sibling(alloc: Global, path: &str, ending: &str) -> Result<String, AllocError>
     ensures { IfOk result (λ sibling. string_bytes sibling ≡ path.now ++ ending.now) }
 {
     let mut sibling = String::from_str(alloc, path)?;

@@ -1,3 +1,5 @@
+mod node_steps;
+mod nodes;
 mod recording;
 mod replacing;
 

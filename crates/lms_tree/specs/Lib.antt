@@ -1,6 +1,7 @@
 pub mod Bands
 pub mod Heads
 pub mod Held
+pub mod Kept
 pub mod Parts
 pub mod Served
 pub mod TreeKey

@@ -2,8 +2,10 @@
 ghost use Rattle.std.specs.Prelude.{ℕ, ◌≡◌, ◌+◌, ◌*◌, ◌^◌, ◌<◌, ◌≤◌, ◌↔◌, [], length, slice_index_or, IsTrue, IfOk, IfSome};
 ghost use Rattle.lms_spec.specs.Parameters.{greatest_height};
 ghost use Rattle.lms_spec.specs.Tree.{node as node_of};
+ghost use Rattle.lms_tree.specs.declared.tree_key.TreeKey.{TreeKey as KeyOfTree};
 ghost use Rattle.lms_tree.specs.TreeKey.{tree_of};
 ghost use Rattle.lms_tree.specs.Bands.{root_rows};
+ghost use Rattle.lms_tree.specs.Kept.{AreHashes, FillsRows};
 ghost use Rattle.lms_tree.specs.Held.{row_of, row_below, nodes_in, AreInTree, HoldsRow, HoldsRows};
 
 use crate::nodes::{inner_hash, leaf_count};
@@ -49,8 +51,16 @@ impl Rows {
         requires { AreInTree greatest_height self }
         ensures { IfOk result (λ nodes. length nodes.items ≡ nodes_in self) }
     {
+        Ok(vec![in alloc; [0; 32]; self.len()]?)
+    }
+
+    /// The number of nodes of all rows.
+    pub(crate) fn len(self) -> usize
+        requires { AreInTree greatest_height self }
+        ensures { result ≡ nodes_in self }
+    {
         let lowest = self.row(self.depth);
-        Ok(vec![in alloc; [0; 32]; lowest.place + lowest.count]?)
+        lowest.place + lowest.count
     }
 
     /// Row `level`, counted from the top, in a list of the rows from the top down. Each row has twice as many nodes as the one
@@ -140,8 +150,29 @@ impl Band {
         requires to { r < (self.now.rows.first + self.now.rows.width) * 2 ^ level }
         ensures { result ≡ node_of (tree_of self.now.key) r }
     {
-        let row = self.rows.row(level);
-        self.nodes[row.place + (r - row.first) as usize]
+        node_in(&self.nodes, self.rows, level, r)
+    }
+
+    /// The rows.
+    pub(crate) fn rows(&self) -> Rows
+        ensures rows { result ≡ self.now.rows }
+        ensures in_tree { AreInTree (tree_of self.now.key).lms.h result }
+    {
+        self.rows
+    }
+
+    /// The nodes, row after row from the top.
+    pub(crate) fn into_nodes(self) -> Vec<[u8; 32]>
+        ensures held { HoldsRows self.key self.rows result.items }
+        ensures filled { FillsRows self.rows result.items }
+    {
+        let Band {
+            key: _,
+            rows: _,
+            nodes,
+        } = self;
+        are_hashes(&nodes);
+        nodes
     }
 
     /// Whether node r stands in the top row.
@@ -150,6 +181,24 @@ impl Band {
     {
         r >= self.rows.first && r - self.rows.first < self.rows.width
     }
+}
+
+/// Each node is 32 bytes long, as its type says.
+pub(crate) fn are_hashes(nodes: &[[u8; 32]])
+    ensures { AreHashes nodes.now }
+{}
+
+/// What stands in the place of node r, in row `level` of these rows, counted from the top.
+pub(crate) fn node_in(nodes: &[[u8; 32]], rows: Rows, level: u32, r: u32) -> [u8; 32]
+    requires in_tree { AreInTree greatest_height rows }
+    requires count { length nodes.now ≡ nodes_in rows }
+    requires level { level ≤ rows.depth }
+    requires from { rows.first * 2 ^ level ≤ r }
+    requires to { r < (rows.first + rows.width) * 2 ^ level }
+    ensures { (key : KeyOfTree) → HoldsRows key rows nodes.now → result ≡ node_of (tree_of key) r }
+{
+    let row = rows.row(level);
+    nodes[row.place + (r - row.first) as usize]
 }
 
 /// Works out the lowest row, then the rows above it.

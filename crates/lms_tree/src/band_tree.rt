@@ -1,10 +1,12 @@
 //! A tree of which the upper nodes are held, and of the lower ones those that a range of leaves needs.
-ghost use Rattle.std.specs.Prelude.{◌≡◌, ◌+◌, ◌-◌, ◌^◌, ◌<◌, ◌≤◌, IfOk};
+ghost use Rattle.std.specs.Prelude.{◌≡◌, ◌+◌, ◌-◌, ◌/◌, ◌^◌, ◌<◌, ◌≤◌, IfOk};
 ghost use Rattle.lms_tree.specs.TreeKey.{tree_of};
 ghost use Rattle.lms_params.specs.LmsType.{lms_set_of};
 ghost use Rattle.lms_tree.specs.Bands.{bottom_height as bottom_height_of, kept_nodes, lower_rows as lower_rows_of, most_kept, most_kept_of_20, most_served};
+ghost use Rattle.lms_tree.specs.Kept.{AreNodes, HasShape, ServesLeaf, upper_rows as upper_rows_of};
 
 use crate::band::{Band, Rows};
+use crate::kept_tree::KeptTree;
 use crate::node_source::NodeSource;
 use crate::progress::{Progress, Unwatched};
 use crate::tree_key::TreeKey;
@@ -73,7 +75,7 @@ impl BandTree {
         ensures { IfOk result (λ tree. tree ≡ record { key = key; first = first; last = last }) }
     {
         let lower_rows = lower_rows(key.lms, first, last);
-        let upper_rows = Rows::from_root(key.lms.height() - bottom_height(key.lms));
+        let upper_rows = upper_rows(key.lms);
         let lower_room = lower_rows.room(alloc)?;
         let upper_room = upper_rows.room(alloc)?;
         let lower = Band::build(rt, key, lower_rows, lower_room, None, progress);
@@ -95,6 +97,29 @@ impl BandTree {
         ensures shorter { (tree_of self.now.key).lms.h ≤ 20 → result ≤ most_kept_of_20 }
     {
         self.upper.len() + self.lower.len()
+    }
+
+    /// The nodes that are held, where the leaves served are of one bottom subtree. They are the tree's.
+    pub fn into_kept(self) -> KeptTree
+        requires { self.first / 2 ^ bottom_height_of (tree_of self.key).lms.h ≡ self.last / 2 ^ bottom_height_of (tree_of self.key).lms.h }
+        ensures key { result.key ≡ self.key }
+        ensures subtree { ServesLeaf result self.first }
+        ensures shape { HasShape result }
+        ensures nodes { AreNodes result }
+    {
+        let BandTree {
+            first,
+            last: _,
+            upper,
+            lower,
+        } = self;
+        let key = upper.key();
+        KeptTree {
+            key,
+            subtree: first >> bottom_height(key.lms),
+            upper: upper.into_nodes(),
+            lower: lower.into_nodes(),
+        }
     }
 }
 
@@ -128,11 +153,18 @@ impl NodeSource for BandTree {
     }
 }
 
-/// The height of the bottom subtrees.
-fn bottom_height(lms: LmsType) -> u32
+/// The height of a tree's bottom subtrees: 10, or the tree's where that is less.
+pub fn bottom_height(lms: LmsType) -> u32
     ensures { result ≡ bottom_height_of (lms_set_of lms).h }
 {
     lms.height().min(TALLEST_SUBTREE)
+}
+
+/// The rows from the root down to the roots of the bottom subtrees.
+pub(crate) fn upper_rows(lms: LmsType) -> Rows
+    ensures { result ≡ upper_rows_of (lms_set_of lms).h }
+{
+    Rows::from_root(lms.height() - bottom_height(lms))
 }
 
 /// The rows of the bottom subtrees that hold a range of leaves.

@@ -6,6 +6,7 @@
 
 mod band;
 mod band_tree;
+mod kept_tree;
 mod node_source;
 mod nodes;
 mod progress;
@@ -14,7 +15,8 @@ mod tree_key;
 mod verification;
 mod whole_tree;
 
-pub use crate::band_tree::BandTree;
+pub use crate::band_tree::{BandTree, bottom_height};
+pub use crate::kept_tree::KeptTree;
 pub use crate::node_source::NodeSource;
 pub use crate::progress::{Progress, Unwatched};
 pub use crate::signing::{public_bytes, sign_into};

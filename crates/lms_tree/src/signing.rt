@@ -39,7 +39,7 @@ pub fn sign_into<N: NodeSource>(source: &N, q: u32, c: &[u8; 32], msg: &[u8], ou
 }
 
 /// Writes what stands before a signature's path: the leaf's number, the one-time signature and the typecode (5.4).
-fn write_head(key: &TreeKey, q: u32, c: &[u8; 32], msg: &[u8], out: &mut [u8])
+pub(crate) fn write_head(key: &TreeKey, q: u32, c: &[u8; 32], msg: &[u8], out: &mut [u8])
     requires { length out.old ≡ 8 + ots_signature_length (ots_set_of key.now.ots) }
     ensures { out.new
         ≡ u32str q ++ ots_signature (ots_set_of key.now.ots) key.now.i key.now.seed q c.now msg.now
@@ -68,7 +68,7 @@ fn write_path<N: NodeSource>(source: &N, q: u32, out: &mut [u8])
 }
 
 /// The other child of a node's parent.
-fn sibling(r: u32) -> u32
+pub(crate) fn sibling(r: u32) -> u32
     requires { r < 2 ^ (greatest_height + 1) }
     ensures { result ≡ sibling_of r }
 {
@@ -76,7 +76,12 @@ fn sibling(r: u32) -> u32
 }
 
 /// The public key over this root (5.3).
-fn public_key_bytes(lms: LmsType, ots: OtsType, id: &[u8; 16], root: &[u8; 32]) -> [u8; 56]
+pub(crate) fn public_key_bytes(
+    lms: LmsType,
+    ots: OtsType,
+    id: &[u8; 16],
+    root: &[u8; 32],
+) -> [u8; 56]
     ensures { result ≡ lms_public_key (lms_set_of lms) (ots_set_of ots) id.now root.now }
 {
     let mut text = [0; 56];

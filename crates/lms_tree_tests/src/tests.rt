@@ -1,3 +1,4 @@
+mod kept;
 mod progress;
 mod vectors;
 mod verification;

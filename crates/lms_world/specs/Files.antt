@@ -1,5 +1,5 @@
 -- Files and a state in memory.
-use Rattle.std.specs.Prelude.{ℕ, ◌≡◌, ◌⊎◌, List, Bool, true, Option, Some, None, Result, Ok, Err, String, find, string_bytes}
+use Rattle.std.specs.Prelude.{ℕ, ◌≡◌, ◌⊎◌, List, Bool, true, Option, Some, None, Result, Ok, Err, String, find, option_map, string_bytes}
 use Rattle.std.specs.Global.{Global, Vec}
 use Rattle.std.specs.Str.{bytes_eq}
 use Rattle.lms_book.specs.Memory.{MayFail, MemoryState}
@@ -50,6 +50,10 @@ store_in world = world.state
 abbrev pub is_used_elsewhere : MemoryWorld → Bool
 is_used_elsewhere world = world.in_use
 
+-- what is kept of nodes beside the state, where anything is
+abbrev pub nodes_in : MemoryWorld → Option (List ℕ)
+nodes_in world = option_map (λ nodes. nodes.items) world.nodes
+
 -- the world with this store for its state
 abbrev pub with_store : MemoryState → MemoryWorld → MemoryWorld
 with_store store world = record world { state = Some store }
@@ -57,6 +61,14 @@ with_store store world = record world { state = Some store }
 -- the world with its lock held by another program
 abbrev pub used_elsewhere : MemoryWorld → MemoryWorld
 used_elsewhere world = record world { in_use = true }
+
+-- the world with this kept of nodes
+abbrev pub with_nodes : Vec ℕ → MemoryWorld → MemoryWorld
+with_nodes nodes world = record world { nodes = Some nodes }
+
+-- the world in which each write of nodes fails so
+abbrev pub with_failing_nodes : WorldFault → MemoryWorld → MemoryWorld
+with_failing_nodes fault world = record world { nodes_fault = Some fault }
 
 -- what is known in such a world: there is one state, whatever its name
 abbrev pub known_in_memory : MemoryWorld → Known
@@ -68,5 +80,6 @@ known_in_memory world = record {
   holds = λ _ text. state_text (store_in world) ≡ Some text;
   may_fail = λ _. MayFailToRead (store_in world);
   may_be_in_use = λ _. is_used_elsewhere world ≡ true;
+  may_keep = λ _ text. nodes_in world ≡ Some text;
   held_is_possible = λ name text is. is;
 }

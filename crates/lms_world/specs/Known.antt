@@ -2,7 +2,7 @@
 use Rattle.std.specs.Prelude.{ℕ, ◌≡◌, ◌≢◌, ◌⊎◌, ◌↔◌, List, Option}
 use Rattle.lms_world.specs.declared.world.WorldFault.{WorldFault}
 
--- the bytes of a name or of an option's text
+-- the bytes of a name, of an option's text or of what is kept of nodes
 abbrev pub Text : Type 0
 Text = List ℕ
 
@@ -18,6 +18,8 @@ pub record Known : Type 1 where
   -- whether a read of the state may fail, and whether another program may have its lock
   pub may_fail : Text → Type 0
   pub may_be_in_use : Text → Type 0
+  -- what may be kept of nodes beside the state of a name
+  pub may_keep : Text → Text → Type 0
   -- what it is known to hold, it may hold
   pub held_is_possible : (name : Text) (text : List ℕ) → holds name text → may_hold name text
 
@@ -31,6 +33,7 @@ nothing_known = record {
   holds = λ _ _. ⊥;
   may_fail = λ _. Unit {0};
   may_be_in_use = λ _. Unit {0};
+  may_keep = λ _ _. Unit {0};
   held_is_possible = λ name text no. absurd no;
 }
 
@@ -66,3 +69,7 @@ SameFiles old new = (name : Text) → SameFile old new name
 -- all files but that of this name are what they were
 abbrev pub SameFilesBut : Text → Known → Known → Type 0
 SameFilesBut written old new = (name : Text) → name ≢ written → SameFile old new name
+
+-- beside each state the same may be kept of nodes as before
+abbrev pub SameNodes : Known → Known → Type 0
+SameNodes old new = (state text : Text) → old.may_keep state text ↔ new.may_keep state text

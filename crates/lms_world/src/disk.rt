@@ -80,6 +80,20 @@ where
 
     /// The state is in its file already.
     fn put_back(&mut self, _lock: &StateLock<R::File>, _store: FileStore<'a, R>) {}
+
+    fn read_nodes(&self, alloc: Global, lock: &StateLock<R::File>, most: usize) -> Option<Vec<u8>> {
+        lock.read_nodes(self.files, alloc, most)
+    }
+
+    fn write_nodes(
+        &mut self,
+        alloc: Global,
+        lock: &StateLock<R::File>,
+        text: &[u8],
+    ) -> Result<(), WorldFault> {
+        lock.write_nodes(self.files, alloc, text)
+            .map_err(|error| fault_of(&error))
+    }
 }
 
 /// A file of the disk that was opened to be read.

@@ -1,4 +1,4 @@
-//! The files and the keys' states that a program reaches by their names.
+//! The files and the keys' states that a program reaches by their names, and what is kept of the nodes of keys' trees beside states.
 //!
 //! A [`World`] has them: [`DiskWorld`] is the disk, [`MemoryWorld`] stands in for it in tests.
 #![tactic(auto)]

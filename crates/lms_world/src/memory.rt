@@ -1,6 +1,6 @@
 //! Files and a state in memory.
 ghost use Rattle.std.specs.Prelude.{ℕ, ◌≡◌, ◌≢◌, List, OnOk, Ok, Err, None, false, option_map};
-ghost use Rattle.lms_world.specs.Files.{answer_of, bytes_or_fault, entry_of, is_used_elsewhere, known_in_memory, state_text, store_in, used_elsewhere, with_store};
+ghost use Rattle.lms_world.specs.Files.{answer_of, bytes_or_fault, entry_of, is_used_elsewhere, known_in_memory, nodes_in, state_text, store_in, used_elsewhere, with_failing_nodes, with_nodes, with_store};
 
 use crate::contents::{Contents, Taker};
 use crate::world::{World, WorldFault};
@@ -11,7 +11,8 @@ use std::alloc::{AllocError, Global};
 /// How many writes the record of a state has room for.
 const ROOM: usize = 8;
 
-/// Files and one state in memory, for tests: what a read of each name answers, and the state, whatever its name.
+/// Files and one state in memory, for tests: what a read of each name answers, the state, whatever its name, and what is kept of nodes
+/// beside it.
 #[derive(Drop)]
 pub struct MemoryWorld {
     alloc: Global,
@@ -19,6 +20,9 @@ pub struct MemoryWorld {
     entries: Vec<(String, Result<Vec<u8>, WorldFault>)>,
     state: Option<MemoryStore>,
     in_use: bool,
+    // What is kept of nodes, and by which fault a write of them fails.
+    nodes: Option<Vec<u8>>,
+    nodes_fault: Option<WorldFault>,
 }
 
 /// The lock of the state in memory, whatever its name. Only a world gives one.
@@ -44,17 +48,20 @@ impl Contents for MemoryContents {
 }
 
 impl MemoryWorld {
-    /// No files, where a read of any name answers `Device`, and no state.
+    /// No files, where a read of any name answers `Device`, no state, and no nodes.
     pub fn new(alloc: Global) -> Self
         ensures files { (name : List ℕ) → answer_of result name ≡ Err WorldFault.Device }
         ensures state { state_text (store_in result) ≡ None }
         ensures free { is_used_elsewhere result ≡ false }
+        ensures nodes { nodes_in result ≡ None }
     {
         MemoryWorld {
             alloc,
             entries: Vec::new(alloc),
             state: None,
             in_use: false,
+            nodes: None,
+            nodes_fault: None,
         }
     }
 
@@ -79,10 +86,35 @@ impl MemoryWorld {
         self.in_use = true;
     }
 
+    /// Makes this what is kept of nodes beside the state.
+    pub fn set_nodes(&mut self, nodes: Vec<u8>)
+        ensures { self.new ≡ with_nodes nodes self.old }
+    {
+        self.nodes = Some(nodes);
+    }
+
+    /// What is kept of nodes beside the state, where any was set or written.
+    pub fn nodes(&self) -> Option<&[u8]>
+        ensures { option_map (λ nodes. nodes.now) result ≡ nodes_in self.now }
+    {
+        match &self.nodes {
+            Some(nodes) => Some(nodes),
+            None => None,
+        }
+    }
+
+    /// Makes each write of nodes fail.
+    pub fn fail_nodes(&mut self, fault: WorldFault)
+        ensures { self.new ≡ with_failing_nodes fault self.old }
+    {
+        self.nodes_fault = Some(fault);
+    }
+
     /// Makes each read and each write of a name fail. An error is want of memory.
     pub fn fail(&mut self, name: &str, fault: WorldFault) -> Result<(), AllocError>
         ensures fails { OnOk result (answer_of self.new name.now ≡ Err fault) }
         ensures state { store_in self.new ≡ store_in self.old }
+        ensures nodes { nodes_in self.new ≡ nodes_in self.old }
     {
         self.put(name, Err(fault))
     }
@@ -91,6 +123,7 @@ impl MemoryWorld {
         ensures answer { OnOk result (answer_of self.new name.now ≡ bytes_or_fault answer) }
         ensures others { (other : List ℕ) → other ≢ name.now → answer_of self.new other ≡ answer_of self.old other }
         ensures state { store_in self.new ≡ store_in self.old }
+        ensures nodes { nodes_in self.new ≡ nodes_in self.old }
     {
         let name = String::from_str(self.alloc, name)?;
         self.entries.insert(0, (name, answer))?;
@@ -168,5 +201,28 @@ impl World for MemoryWorld {
 
     fn put_back(&mut self, _lock: &MemoryLock, store: MemoryStore) {
         self.set_state(store);
+    }
+
+    fn read_nodes(&self, alloc: Global, _lock: &MemoryLock, most: usize) -> Option<Vec<u8>> {
+        let nodes = self.nodes()?;
+        if nodes.len() > most {
+            return None;
+        }
+        Vec::from_slice(alloc, nodes).ok()
+    }
+
+    /// After an error what was kept is kept still.
+    fn write_nodes(
+        &mut self,
+        alloc: Global,
+        _lock: &MemoryLock,
+        text: &[u8],
+    ) -> Result<(), WorldFault> {
+        if let Some(fault) = self.nodes_fault {
+            return Err(fault);
+        }
+        let nodes = Vec::from_slice(alloc, text).map_err(|_| WorldFault::OutOfMemory)?;
+        self.set_nodes(nodes);
+        Ok(())
     }
 }

@@ -1,7 +1,7 @@
 //! What a world of files and states owes.
-ghost use Rattle.std.specs.Prelude.{◌≡◌, ◌↔◌, ℕ, List, None, true, false, IfErr, IfOk, IfSome, OnOk};
+ghost use Rattle.std.specs.Prelude.{◌≡◌, ◌≤◌, ◌⊎◌, ◌↔◌, ℕ, List, None, true, false, length, IfErr, IfOk, IfSome, OnOk};
 ghost use Rattle.lms_book.specs.Stops.{MayLeave};
-ghost use Rattle.lms_world.specs.Known.{Known, MayBeRead, MayExist, SameFiles, SameFilesBut, Stays};
+ghost use Rattle.lms_world.specs.Known.{Known, MayBeRead, MayExist, SameFiles, SameFilesBut, SameNodes, Stays, Text};
 
 use crate::contents::Contents;
 use lms_book::StateStore;
@@ -20,7 +20,7 @@ pub enum WorldFault {
     OutOfMemory,
 }
 
-/// Files and keys' states, by their names.
+/// Files and keys' states, by their names, and what is kept of nodes beside the states.
 pub trait World {
     /// Keeps other programs from a state for as long as it is held.
     type Lock: Drop;
@@ -56,14 +56,16 @@ pub trait World {
             → Self.Contents.may_refuse contents fault → (known self.now).may_refuse name.now fault) }
         ensures refused { IfErr result ((known self.now).may_refuse name.now) };
 
-    /// Makes these the bytes of a file, which need not be there yet. No other file is changed, and no state.
+    /// Makes these the bytes of a file, which need not be there yet. No other file is changed, no state, and nothing that is kept of
+    /// nodes.
     ///
     /// `Device` where it can't be written, `OutOfMemory` where memory for that was refused. After an error the file may be
     /// missing or cut short.
     fn write(&mut self, name: &str, bytes: &[u8]) -> Result<(), WorldFault>
         ensures given { OnOk result ((known self.new).may_give name.now bytes.now) }
         ensures others { SameFilesBut name.now (known self.old) (known self.new) }
-        ensures states { (state : List ℕ) → Stays (known self.old) (known self.new) state };
+        ensures states { (state : List ℕ) → Stays (known self.old) (known self.new) state }
+        ensures nodes { SameNodes (known self.old) (known self.new) };
 
     /// Locks the state of this name, without waiting. `None` where the lock is not available, `OutOfMemory` where memory for
     /// it was refused.
@@ -76,7 +78,8 @@ pub trait World {
         ensures missing { result ≡ false → (state : List ℕ) → is_lock_of lock.now state → (known self.now).may_lack state }
         ensures there { result ≡ true → (state : List ℕ) → is_lock_of lock.now state → MayExist (known self.now) state };
 
-    /// Takes out what keeps the state of the lock. Where there is no such state, its reads fail. No file is changed.
+    /// Takes out what keeps the state of the lock. Where there is no such state, its reads fail. No file is changed, and
+    /// nothing that is kept of nodes.
     ///
     /// `OutOfMemory` where memory for it was refused.
     fn take_store(&mut self, alloc: Global, lock: &Self::Lock) -> Result<Self::Store, OutOfMemory>
@@ -86,13 +89,40 @@ pub trait World {
             → Self.Store.may_fail store → (known self.old).may_fail state) }
         ensures stays { IfErr result (λ _. (state : List ℕ) → is_lock_of lock.now state
             → Stays (known self.old) (known self.new) state) }
-        ensures files { SameFiles (known self.old) (known self.new) };
+        ensures files { SameFiles (known self.old) (known self.new) }
+        ensures nodes { SameNodes (known self.old) (known self.new) };
 
-    /// Puts it back: the state of the lock is what it keeps. No file is changed.
+    /// Puts it back: the state of the lock is what it keeps. No file is changed, and nothing that is kept of nodes.
     fn put_back(&mut self, lock: &Self::Lock, store: Self::Store)
         ensures kept { (state : List ℕ) → is_lock_of lock.now state → (text : List ℕ)
             → MayLeave (Self.Store.seen store) text → (known self.new).may_hold state text }
         ensures only { (state : List ℕ) → is_lock_of lock.now state → (text : List ℕ)
             → (known self.new).holds state text → MayLeave (Self.Store.seen store) text }
+        ensures files { SameFiles (known self.old) (known self.new) }
+        ensures nodes { SameNodes (known self.old) (known self.new) };
+
+    /// What is kept of the nodes of a key's trees beside the state of the lock.
+    ///
+    /// `None` where nothing is kept, where it is longer than `most` bytes, where it can't be read, and where memory for it is
+    /// refused: whoever reads it goes on without it in each case.
+    fn read_nodes(&self, alloc: Global, lock: &Self::Lock, most: usize) -> Option<Vec<u8>>
+        ensures given { IfSome result (λ text. (state : Text) → is_lock_of lock.now state → (known self.now).may_keep state text.items) }
+        ensures at_most { IfSome result (λ text. length text.items ≤ most) };
+
+    /// Keeps this text of nodes beside the state of the lock, in place of what was kept there. No file of a name is changed, and no
+    /// state.
+    ///
+    /// `Device` where it can't be written, `OutOfMemory` where memory for that was refused. After an error this may be kept, or what
+    /// was before.
+    fn write_nodes(
+        &mut self,
+        alloc: Global,
+        lock: &Self::Lock,
+        text: &[u8],
+    ) -> Result<(), WorldFault>
+        ensures given { OnOk result ((state : Text) → is_lock_of lock.now state → (known self.new).may_keep state text.now) }
+        ensures kept { (state kept : Text) → (known self.new).may_keep state kept
+            → (is_lock_of lock.now state × (kept ≡ text.now)) ⊎ (known self.old).may_keep state kept }
+        ensures states { (state : Text) → Stays (known self.old) (known self.new) state }
         ensures files { SameFiles (known self.old) (known self.new) };
 }

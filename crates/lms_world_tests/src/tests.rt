@@ -1,3 +1,5 @@
+mod nodes;
+
 use lms_store::TryLock;
 use lms_world::{Contents, DiskWorld, Taker, World, WorldFault};
 use std::alloc::{Allocator, Global};

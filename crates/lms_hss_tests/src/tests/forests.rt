@@ -1,16 +1,15 @@
-use crate::tests::{LEVEL, RANDOMIZER, THREE_LEVELS, cover, key_of, sign, slow_key, vectors};
+use crate::tests::{
+    LEVEL, QUICK, RANDOMIZER, THREE_LEVELS, check_sums, cover, key_of, no_sums, sign, slow_key,
+    vectors,
+};
 use hex::FromHex;
-use lms_hss::{Forest, HssKey, Levels, Progress, verify};
+use lms_hss::{Forest, HssKey, Levels, verify};
 use lms_params::{LmsType, OtsType, OutOfMemory};
 use lms_slow::slow_sign;
 use lms_slow::vectors::Vector;
 use std::process::Abort;
-use std::sync::atomic::{AtomicU64, Ordering};
 use std::test::Fail;
 use std::thread::Threads;
-
-/// A level whose trees are worked out quickly.
-const QUICK: (LmsType, OtsType) = (LmsType::H5, OtsType::W2);
 
 /// An index that a forest covers signs as the slow signer does.
 fn check_index(
@@ -229,38 +228,16 @@ fn covers_and_signs_after_refused_memory(rt: HostRuntime) -> Result<(), Fail> {
     Ok(())
 }
 
-/// Adds up what it is told.
-#[derive(Drop)]
-struct Sums {
-    to_do: AtomicU64,
-    done: AtomicU64,
-}
-
-impl Progress for Sums {
-    fn begin(&self, leaves: u64) {
-        self.to_do.fetch_add(leaves, Ordering::SeqCst);
-    }
-
-    fn done(&self, leaves: u64) {
-        self.done.fetch_add(leaves, Ordering::SeqCst);
-    }
-}
-
 /// The top tree alone; then three levels, of which the lower two have two trees that the indices go through.
 #[test]
 fn tells_of_all_leaves(rt: HostRuntime) -> Result<(), Fail> {
     let key = key_of(&[QUICK; 3])?;
-    let sums = Sums {
-        to_do: AtomicU64::new(0),
-        done: AtomicU64::new(0),
-    };
+    let sums = no_sums();
     let _public = key.public_key_watched(&rt, rt.alloc(), &sums)?;
-    assert_eq!(rt; sums.to_do.load(Ordering::SeqCst), 32);
-    assert_eq!(rt; sums.done.load(Ordering::SeqCst), 32);
+    check_sums(&rt, &sums, 1, 32);
     assert!(rt; key.capacity() >= 1025);
     let forest = Forest::cover_watched(&rt, rt.alloc(), key, 1023, 2, &sums)?;
     drop(forest);
-    assert_eq!(rt; sums.to_do.load(Ordering::SeqCst), 32 + 5 * 32);
-    assert_eq!(rt; sums.done.load(Ordering::SeqCst), 32 + 5 * 32);
+    check_sums(&rt, &sums, 2, 32 + 5 * 32);
     Ok(())
 }

@@ -8,10 +8,22 @@ use std::path::PathBuf;
 use std::rt::Files;
 use std::sync::{Arc, Mutex};
 
-/// What was asked for, a line each, and what is to fail.
+/// What is told of what stands at a path where it is looked up.
+#[derive(Clone, Copy)]
+pub(super) enum Told {
+    /// What is there.
+    Truth,
+    /// A plain file of so many bytes.
+    File(u64),
+    /// A device.
+    Device,
+}
+
+/// What was asked for, a line each, what is to fail, and what is told.
 #[derive(Drop)]
 struct Record {
     lines: String,
+    told: Told,
     /// After how many operations one fails, and how. The ones behind it go well again.
     failure: Option<(usize, ErrorKind)>,
 }
@@ -51,6 +63,7 @@ impl Journal {
     pub(super) fn new(alloc: Global) -> io::Result<Self> {
         let record = Record {
             lines: String::new(alloc),
+            told: Told::Truth,
             failure: None,
         };
         Ok(Journal {
@@ -71,6 +84,18 @@ impl Journal {
         record.lines.clear();
         record.failure = Some((before, kind));
         Ok(())
+    }
+
+    /// From now on this is told of what stands at a path.
+    pub(super) fn tell(&self, told: Told) -> io::Result<()> {
+        let mut record = self.record.try_lock().ok_or(ErrorKind::ResourceBusy)?;
+        record.told = told;
+        Ok(())
+    }
+
+    fn told(&self) -> io::Result<Told> {
+        let record = self.record.try_lock().ok_or(ErrorKind::ResourceBusy)?;
+        Ok(record.told)
     }
 
     /// The operations since.
@@ -222,7 +247,11 @@ impl<'a, R: Files> Files for RecordingFiles<'a, R> {
 
     fn symlink_metadata(&self, path: &str) -> io::Result<Metadata> {
         self.journal.step("look up", path)?;
-        self.files.symlink_metadata(path)
+        match self.journal.told()? {
+            Told::Truth => self.files.symlink_metadata(path),
+            Told::File(size) => Ok(Metadata::of_file(size)),
+            Told::Device => self.files.symlink_metadata("/dev/null"),
+        }
     }
 
     fn copy(&self, from: &str, to: &str) -> io::Result<u64> {

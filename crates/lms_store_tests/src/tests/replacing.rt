@@ -1,4 +1,5 @@
 //! What a store asks of its files, in which order, and what a failure of one operation leaves.
+use super::node_steps::{NodesScenario, try_nodes};
 use super::recording::{Journal, RecordingFiles};
 use super::{empty_folder, holds, reads, reads_none, refuses, store_over, takes};
 use lms_book::{ReadFault, StateStore};
@@ -285,7 +286,7 @@ fn a_lock_tells_want_of_memory(rt: HostRuntime) -> Result<(), Fail> {
 
 /// What is tried of a store over files that record what they are asked for.
 #[derive(Clone, Copy)]
-enum Scenario {
+pub(super) enum Scenario {
     /// A write fails after so many operations.
     Stops(usize),
     /// Some writes fail, and reads tell what is known.
@@ -296,6 +297,8 @@ enum Scenario {
     Reads,
     /// The lock can't be taken at first.
     Lock,
+    /// Nodes are kept beside the state.
+    Nodes(NodesScenario),
 }
 
 /// Carries a scenario out.
@@ -318,11 +321,12 @@ fn carry_out(
             assert!(end; reads(rt, store, b"old"));
             Ok(())
         }
+        Scenario::Nodes(_) => Ok(()),
     }
 }
 
 /// Carries a scenario out with a store of this name. That these files are files is shown in it alone.
-fn over_recorded_files(
+pub(super) fn over_recorded_files(
     end: &impl Abort,
     rt: &HostRuntime,
     name: &str,
@@ -330,6 +334,9 @@ fn over_recorded_files(
 ) -> Result<(), Fail> {
     let journal = Journal::new(rt.alloc())?;
     let files = RecordingFiles::new(rt.alloc(), rt, &journal)?;
+    if let Scenario::Nodes(nodes) = scenario {
+        return try_nodes(end, rt, &files, &journal, name, nodes);
+    }
     if let Scenario::Lock = scenario {
         for k in 0..BEFORE_A_LOCK {
             assert!(end; tells_of_a_lock(rt.alloc(), &files, &journal, k)?, "{k}");

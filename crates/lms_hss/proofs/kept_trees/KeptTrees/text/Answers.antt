@@ -1,0 +1,16 @@
+use Rattle.std.proofs.Common.{◌≡◌, ◌++◌, ◌∙◌, ap, ap₂, arith}
+use Rattle.std.specs.List.{flat_map}
+use Rattle.std.proofs.lemmas.List.{take_all}
+use Rattle.lms_hss.specs.Keys.{hss_key_of}
+use Rattle.lms_hss.specs.Ways.{Way, body_text, check_of, level_text, nodes_head}
+use Rattle.lms_hss.proofs.kept_trees.KeptTrees.text.Goals as goal
+
+pub returns : goal.returns
+returns c =
+    let now = c.args.self.now in
+    let key = ap (λ (v : Way). hss_key_of v.key) c.self.view_is in
+    let levels = ap (λ (v : Way). v.levels) c.self.view_is in
+    let whole : c.loop-level.text.items ≡ body_text now
+    = c.loop-level.invariant ∙ ap (λ xs. nodes_head now.at ++ flat_map level_text xs)
+    (take_all c.loop-level.level-index c.deref-level-items.result.now (omega (arith, c.loop-level-test.false)) ∙ (c.deref-level-items.ensures.value ∙ levels)) in
+    c.in_ok-extend_from_slice.ensures.items ∙ ap₂ (λ x y. x ++ y) whole (c.check_value-check.ensures ∙ ap₂ check_of key (c.deref.ensures.value ∙ whole))

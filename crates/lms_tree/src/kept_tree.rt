@@ -1,0 +1,224 @@
+//! A tree whose nodes were given, as from a file.
+ghost use Rattle.std.specs.Prelude.{ℕ, ◌≡◌, ◌≢◌, ◌+◌, ◌-◌, ◌*◌, ◌/◌, ◌^◌, ◌<◌, ◌↔◌, [], length, slice_index_or, IfOk, IfSome, IfNone, IsTrue};
+ghost use Rattle.lms_spec.specs.Parameters.{greatest_height};
+ghost use Rattle.lms_spec.specs.Tree.{node as node_of};
+ghost use Rattle.lms_params.specs.LmsType.{lms_set_of};
+ghost use Rattle.lms_tree.specs.TreeKey.{tree_of, path_length_under, path_text, public_text, signature_length_under, signature_text};
+ghost use Rattle.lms_tree.specs.Bands.{bottom_height as bottom_height_of};
+ghost use Rattle.lms_tree.specs.Held.{AreInTree, nodes_in};
+ghost use Rattle.lms_tree.specs.Kept.{AreNodes, FillsRows, given_public, HasShape, IsSignatureAlong, MovesTo, ServesLeaf, subtree_root, subtree_rows as subtree_rows_of, upper_height, upper_rows as upper_rows_of};
+ghost use Rattle.lms_tree.specs.Served.{IsNeeded};
+
+use crate::band::{Band, Rows, node_in};
+use crate::band_tree::{bottom_height, upper_rows};
+use crate::nodes::leaf_count;
+use crate::progress::Progress;
+use crate::signing::{public_key_bytes, sibling, write_head};
+use crate::tree_key::TreeKey;
+use lms_params::{LmsType, OutOfMemory};
+use std::alloc::Global;
+use std::marker::Model;
+use std::thread::Threads;
+
+/// What signs by the leaves of one bottom subtree: the nodes of that subtree, and those from the root down to the roots of all bottom
+/// subtrees, as they were given. Nothing here tells whether they are the tree's. Contracts see the key, the number of the subtree and
+/// the nodes.
+#[derive(Drop)]
+pub struct KeptTree {
+    pub(crate) key: TreeKey,
+    pub(crate) subtree: u32,
+    pub(crate) upper: Vec<[u8; 32]>,
+    pub(crate) lower: Vec<[u8; 32]>,
+}
+
+impl Model for KeptTree {
+    ghost use Rattle.lms_tree.specs.Kept.{KeptNodes, HasShape};
+
+    ghost Value = { KeptNodes };
+
+    ghost view = { λ a. record { key = a.key; subtree = a.subtree; upper = a.upper.items; lower = a.lower.items } };
+
+    ghost invariant = { λ a. HasShape (record { key = a.key; subtree = a.subtree; upper = a.upper.items; lower = a.lower.items }) };
+}
+
+impl KeptTree {
+    /// These nodes of a tree: those from the root down to the roots of the bottom subtrees, row by row, and those of one of these, which
+    /// is counted from 0, row by row. `None` where they are not as many as `counts` says.
+    pub fn given(
+        key: TreeKey,
+        subtree: u32,
+        upper: Vec<[u8; 32]>,
+        lower: Vec<[u8; 32]>,
+    ) -> Option<Self>
+        requires { subtree < 2 ^ upper_height (tree_of key).lms.h }
+        ensures some { IfSome result (λ tree. tree ≡ record { key = key; subtree = subtree; upper = upper.items; lower = lower.items }) }
+        ensures shape { IfSome result HasShape }
+        ensures none { IfNone result ((length upper.items ≡ nodes_in (upper_rows_of (tree_of key).lms.h))
+            → ¬ (length lower.items ≡ nodes_in (subtree_rows_of (tree_of key).lms.h subtree))) }
+    {
+        if !fills(&upper, upper_rows(key.lms)) || !fills(&lower, subtree_rows(key.lms, subtree)) {
+            return None;
+        }
+        Some(KeptTree {
+            key,
+            subtree,
+            upper,
+            lower,
+        })
+    }
+
+    /// How many nodes there are in each of the two lists: from the root down to the roots of the bottom subtrees, and in one of these.
+    pub fn counts(lms: LmsType) -> (usize, usize)
+        ensures upper { result.0 ≡ nodes_in (upper_rows_of (lms_set_of lms).h) }
+        ensures lower { (n : ℕ) → result.1 ≡ nodes_in (subtree_rows_of (lms_set_of lms).h n) }
+    {
+        (upper_rows(lms).len(), subtree_rows(lms, 0).len())
+    }
+
+    /// The key of the tree.
+    pub fn key(&self) -> TreeKey
+        ensures { result ≡ self.now.key }
+    {
+        self.key
+    }
+
+    /// The number of the bottom subtree whose leaves are served.
+    pub fn subtree(&self) -> u32
+        ensures { result ≡ self.now.subtree }
+    {
+        self.subtree
+    }
+
+    /// The nodes from the root down to the roots of the bottom subtrees, row by row.
+    pub fn upper(&self) -> &[[u8; 32]]
+        ensures { result.now ≡ self.now.upper }
+    {
+        self.upper.as_slice()
+    }
+
+    /// The nodes of the bottom subtree whose leaves are served, row by row.
+    pub fn lower(&self) -> &[[u8; 32]]
+        ensures { result.now ≡ self.now.lower }
+    {
+        self.lower.as_slice()
+    }
+
+    /// The public key over the node that was given for the root, 56 bytes (RFC 8554, 5.3).
+    pub fn public_bytes(&self) -> [u8; 56]
+        ensures given { result ≡ given_public self.now }
+        ensures right { AreNodes self.now → result ≡ public_text self.now.key }
+    {
+        let root = self.upper.as_slice()[0];
+        public_key_bytes(self.key.lms, self.key.ots, &self.key.i, &root)
+    }
+
+    /// Signs a message with leaf q, which must be served, under the randomizer `c`, and writes the signature to `out`. Its path is of
+    /// the nodes given: where they are the tree's, it is RFC 8554's signature (5.4.1), and else one that a verifier may refuse, whose
+    /// one-time signature is the same.
+    pub fn sign_into(&self, q: u32, c: &[u8; 32], msg: &[u8], out: &mut [u8])
+        requires served { ServesLeaf self.now q }
+        requires room { length out.old ≡ signature_length_under self.now.key }
+        ensures along { IsSignatureAlong (tree_of self.now.key) q c.now msg.now out.new }
+        ensures signature { AreNodes self.now → out.new ≡ signature_text self.now.key q c.now msg.now }
+    {
+        let path_start = 8 + self.key.ots.sig_len();
+        write_head(&self.key, q, c, msg, &mut out[..path_start]);
+        self.write_path(q, &mut out[path_start..]);
+    }
+
+    /// Goes on to the leaves of another bottom subtree, which is worked out, and tells `progress` of its leaves, 2^10 in a tree of height
+    /// 10 or more. Who calls it says how many are to be worked out. `None` where its root isn't the node that was given for it.
+    pub fn moved_to(
+        self,
+        rt: &(impl Threads + Sync),
+        alloc: Global,
+        subtree: u32,
+        progress: &impl Progress,
+    ) -> Result<Option<Self>, OutOfMemory>
+        requires { subtree < 2 ^ upper_height (tree_of self.key).lms.h }
+        ensures moved { IfOk result (λ moved. IfSome moved (MovesTo self subtree)) }
+        ensures shape { IfOk result (λ moved. IfSome moved HasShape) }
+        ensures refused { IfOk result (λ moved. IfNone moved (¬ AreNodes self)) }
+    {
+        let KeptTree {
+            key,
+            subtree: _,
+            upper,
+            lower: _,
+        } = self;
+        let rows = subtree_rows(key.lms, subtree);
+        let room = rows.room(alloc)?;
+        let band = Band::build(rt, key, rows, room, None, progress);
+        if !has_root(&upper, subtree, &band) {
+            return Ok(None);
+        }
+        Ok(Some(KeptTree {
+            key,
+            subtree,
+            upper,
+            lower: band.into_nodes(),
+        }))
+    }
+
+    /// The node that was given for node r, which must stand in the path of a leaf that is served, or be the root, 1.
+    fn node(&self, r: u32) -> [u8; 32]
+        requires { (q : ℕ) × ServesLeaf self.now q × (q < 2 ^ (tree_of self.now.key).lms.h) × IsNeeded (tree_of self.now.key).lms.h q q r }
+        ensures { AreNodes self.now → result ≡ node_of (tree_of self.now.key) r }
+    {
+        let upper = upper_rows(self.key.lms);
+        let level = r.ilog2();
+        if level <= upper.depth {
+            node_in(&self.upper, upper, level, r)
+        } else {
+            let lower = subtree_rows(self.key.lms, self.subtree);
+            node_in(&self.lower, lower, level - upper.depth, r)
+        }
+    }
+
+    /// Writes the path of leaf q, of the nodes given (5.4).
+    fn write_path(&self, q: u32, out: &mut [u8])
+        requires served { ServesLeaf self.now q }
+        requires room { length out.old ≡ path_length_under self.now.key }
+        ensures room { length out.new ≡ path_length_under self.now.key }
+        ensures path { AreNodes self.now → out.new ≡ path_text self.now.key q }
+    {
+        let leaf = leaf_count(self.key.lms) + q;
+        for level in 0..self.key.lms.height() as usize {
+            let value = self.node(sibling(leaf >> level));
+            out[32 * level..32 * level + 32].copy_from_slice(&value);
+        }
+    }
+}
+
+/// Whether there are as many nodes as these rows have.
+fn fills(nodes: &[[u8; 32]], rows: Rows) -> bool
+    requires { AreInTree greatest_height rows }
+    ensures filled { IsTrue result → FillsRows rows nodes.now }
+    ensures not { ¬ IsTrue result → length nodes.now ≢ nodes_in rows }
+{
+    nodes.len() == rows.len()
+}
+
+/// The rows of a bottom subtree.
+fn subtree_rows(lms: LmsType, subtree: u32) -> Rows
+    requires { subtree < 2 ^ upper_height (lms_set_of lms).h }
+    ensures { result ≡ subtree_rows_of (lms_set_of lms).h subtree }
+{
+    let height = bottom_height(lms);
+    Rows {
+        first: (1 << (lms.height() - height)) + subtree,
+        width: 1,
+        depth: height,
+    }
+}
+
+/// Whether the node that was given for the root of a bottom subtree is the one that was worked out.
+fn has_root(upper: &[[u8; 32]], subtree: u32, band: &Band) -> bool
+    requires count { length upper.now ≡ nodes_in (upper_rows_of (tree_of band.now.key).lms.h) }
+    requires in_tree { subtree < 2 ^ upper_height (tree_of band.now.key).lms.h }
+    requires rows { band.now.rows ≡ subtree_rows_of (tree_of band.now.key).lms.h subtree }
+    ensures { IsTrue result ↔ (slice_index_or upper.now (2 ^ upper_height (tree_of band.now.key).lms.h - 1 + subtree) []
+        ≡ node_of (tree_of band.now.key) (subtree_root (tree_of band.now.key).lms.h subtree)) }
+{
+    upper[upper.len() / 2 + subtree as usize] == band.node(0, band.rows().first)
+}

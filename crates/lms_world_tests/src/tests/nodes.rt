@@ -1,0 +1,173 @@
+//! What is kept of nodes beside a state, on a disk and in memory.
+use super::{PoorFiles, empty_folder, holds};
+use lms_world::{DiskWorld, MemoryWorld, World, WorldFault};
+use std::alloc::Global;
+use std::fs;
+use std::test::Fail;
+
+/// Whether the nodes of a lock are these bytes, where at most so many are asked for.
+fn gives<W: World>(alloc: Global, world: &W, lock: &W::Lock, most: usize, text: &[u8]) -> bool {
+    match world.read_nodes(alloc, lock, most) {
+        Some(found) => found.as_slice() == text,
+        None => false,
+    }
+}
+
+/// Whether there are none, where at most so many bytes are asked for.
+fn gives_none<W: World>(alloc: Global, world: &W, lock: &W::Lock, most: usize) -> bool {
+    world.read_nodes(alloc, lock, most).is_none()
+}
+
+/// Whether these bytes are written, and read where no more are asked for, and nothing where one less is.
+fn keeps<W: World>(alloc: Global, world: &mut W, lock: &W::Lock, text: &[u8]) -> bool {
+    let written = world.write_nodes(alloc, lock, text).is_ok();
+    let read = gives(alloc, world, lock, text.len(), text);
+    written && read && (text.is_empty() || gives_none(alloc, world, lock, text.len() - 1))
+}
+
+/// Whether the nodes of the state of a name are kept, one text after another, and nothing is read before; the last one is `left`.
+fn keeps_each<W: World>(
+    alloc: Global,
+    world: &mut W,
+    name: &str,
+    left: &[u8],
+) -> Result<bool, Fail> {
+    let Some(lock) = world.lock(alloc, name)? else {
+        return Ok(false);
+    };
+    let none = gives_none(alloc, world, &lock, usize::MAX);
+    let texts = keeps(alloc, world, &lock, b"a")
+        && keeps(alloc, world, &lock, b"")
+        && keeps(alloc, world, &lock, left);
+    Ok(none && texts && gives(alloc, world, &lock, usize::MAX, left))
+}
+
+/// Whether a write of nodes beside the state of a name fails so, and these are kept then.
+fn fails<W: World>(
+    alloc: Global,
+    world: &mut W,
+    name: &str,
+    fault: WorldFault,
+    left: &[u8],
+) -> Result<bool, Fail> {
+    let Some(lock) = world.lock(alloc, name)? else {
+        return Ok(false);
+    };
+    let failed = world.write_nodes(alloc, &lock, b"new") == Err(fault);
+    Ok(failed && gives(alloc, world, &lock, left.len(), left))
+}
+
+const STATE: &str = "disk_world_nodes/state";
+
+const NODES: &str = "disk_world_nodes/state.nodes";
+
+/// About 4.5 MB, as long as the longest text of nodes.
+fn large_text(alloc: Global) -> Result<String, Fail> {
+    Ok("pattern".repeat(alloc, 642_857)?)
+}
+
+#[test]
+fn nodes_are_kept_on_a_disk(rt: HostRuntime) -> Result<(), Fail> {
+    empty_folder(&rt, "disk_world_nodes")?;
+    let text = large_text(rt.alloc())?;
+    let mut world = DiskWorld::new(&rt);
+    assert!(rt; keeps_each(rt.alloc(), &mut world, STATE, text.as_bytes())?);
+    assert!(rt; holds(&rt, NODES, text.as_bytes()));
+    fs::remove_dir_all(&rt, "disk_world_nodes")?;
+    Ok(())
+}
+
+/// A folder stands in the way of the draft, so that what was kept is kept on.
+#[test]
+fn a_write_of_nodes_fails_on_a_disk(rt: HostRuntime) -> Result<(), Fail> {
+    empty_folder(&rt, "disk_world_draft")?;
+    fs::write(&rt, "disk_world_draft/state.nodes", b"old".as_slice())?;
+    fs::create_dir(&rt, "disk_world_draft/state.nodes.new")?;
+    let name = "disk_world_draft/state";
+    assert!(rt;
+        fails(
+            rt.alloc(),
+            &mut DiskWorld::new(&rt),
+            name,
+            WorldFault::Device,
+            b"old"
+        )?
+    );
+    fs::remove_dir_all(&rt, "disk_world_draft")?;
+    Ok(())
+}
+
+/// Whether nodes are written beside the state of a name, and none are read.
+fn reads_none_of_what_is_written<W: World>(
+    alloc: Global,
+    world: &mut W,
+    name: &str,
+) -> Result<bool, Fail> {
+    let Some(lock) = world.lock(alloc, name)? else {
+        return Ok(false);
+    };
+    let written = world.write_nodes(alloc, &lock, b"nodes").is_ok();
+    Ok(written && gives_none(alloc, world, &lock, usize::MAX))
+}
+
+/// Where it can't be told what stands in their place, none are read.
+#[test]
+fn what_can_not_be_told_is_not_read(rt: HostRuntime) -> Result<(), Fail> {
+    empty_folder(&rt, "disk_world_told")?;
+    fs::write(&rt, "disk_world_told/state", b"".as_slice())?;
+    let poor = PoorFiles { files: &rt };
+    let mut world = DiskWorld::new(&poor);
+    assert!(rt; reads_none_of_what_is_written(rt.alloc(), &mut world, "disk_world_told/state")?);
+    assert!(rt; holds(&rt, "disk_world_told/state.nodes", b"nodes"));
+    fs::remove_dir_all(&rt, "disk_world_told")?;
+    Ok(())
+}
+
+/// Whether these are the nodes in a world.
+fn has(world: &MemoryWorld, text: &[u8]) -> bool {
+    match world.nodes() {
+        Some(found) => found == text,
+        None => false,
+    }
+}
+
+/// Whether a world in memory gives what was set, also once a file was written and a store taken and put back.
+fn gives_what_was_set(alloc: Global) -> Result<bool, Fail> {
+    let mut world = MemoryWorld::new(alloc);
+    let none = world.nodes().is_none();
+    world.set_nodes(Vec::from_slice(alloc, b"set")?);
+    world.write("file", b"bytes")?;
+    let Some(lock) = world.lock(alloc, "state")? else {
+        return Ok(false);
+    };
+    let store = world.take_store(alloc, &lock)?;
+    world.put_back(&lock, store);
+    let given = gives(alloc, &world, &lock, 3, b"set") && gives_none(alloc, &world, &lock, 2);
+    Ok(none && given && has(&world, b"set"))
+}
+
+#[test]
+fn nodes_are_kept_in_memory(rt: HostRuntime) -> Result<(), Fail> {
+    let text = large_text(rt.alloc())?;
+    let mut world = MemoryWorld::new(rt.alloc());
+    assert!(rt; keeps_each(rt.alloc(), &mut world, "state", text.as_bytes())?);
+    assert!(rt; has(&world, text.as_bytes()));
+    assert!(rt; gives_what_was_set(rt.alloc())?);
+    Ok(())
+}
+
+/// Whether each write of nodes fails so where that was planned, and what was set is given on.
+fn fails_as_planned(alloc: Global, fault: WorldFault) -> Result<bool, Fail> {
+    let mut world = MemoryWorld::new(alloc);
+    world.set_nodes(Vec::from_slice(alloc, b"old")?);
+    world.fail_nodes(fault);
+    let first = fails(alloc, &mut world, "state", fault, b"old")?;
+    Ok(first && fails(alloc, &mut world, "state", fault, b"old")? && has(&world, b"old"))
+}
+
+#[test]
+fn a_write_of_nodes_fails_in_memory(rt: HostRuntime) -> Result<(), Fail> {
+    assert!(rt; fails_as_planned(rt.alloc(), WorldFault::Device)?);
+    assert!(rt; fails_as_planned(rt.alloc(), WorldFault::OutOfMemory)?);
+    Ok(())
+}
