@@ -1,6 +1,7 @@
 /* Loaded before a program, counts its operations on files and streams, from 1 on. That of the number STOP kills it: before
    it is done, or, where it writes, once half of the bytes are written. Those of the numbers from FAIL to LAST fail: undone, but
-   for half of a write, or, where LATE is set, done all the same. */
+   for half of a write, or, where LATE is set, done all the same. Where there is an operation of the number STOP or FAIL, the file MET
+   is made. */
 #define _GNU_SOURCE
 #include <dlfcn.h>
 #include <errno.h>
@@ -8,6 +9,8 @@
 #include <signal.h>
 #include <stdarg.h>
 #include <stdlib.h>
+#include <sys/stat.h>
+#include <sys/syscall.h>
 #include <unistd.h>
 
 static long number(const char *name) {
@@ -15,10 +18,20 @@ static long number(const char *name) {
     return text ? atol(text) : 0;
 }
 
+static void say_met(void) {
+    const char *name = getenv("MET");
+    if (name) {
+        syscall(SYS_mknodat, AT_FDCWD, name, S_IFREG | 0600, 0);
+    }
+}
+
 /* Counts an operation, of which so much may be done before the program is killed, and says whether it fails. */
 static int fails(void (*half)(const void *), const void *given) {
     static long operations;
     long at = __sync_add_and_fetch(&operations, 1);
+    if (at == number("STOP") || at == number("FAIL")) {
+        say_met();
+    }
     if (at == number("STOP")) {
         if (half) {
             half(given);
@@ -83,6 +96,11 @@ ssize_t write(int file, const void *bytes, size_t count) {
     struct text text = {file, bytes, count};
     int is_failed = fails(write_half, &text);
     return told(is_failed, write_first(&text, is_failed && !number("LATE") ? count / 2 : count));
+}
+
+int statx(int folder, const char *restrict path, int flags, unsigned mask, struct statx *restrict found) {
+    int (*next)(int, const char *, int, unsigned, struct statx *) = dlsym(RTLD_NEXT, "statx");
+    ANSWER(next(folder, path, flags, mask, found));
 }
 
 int fsync(int file) {

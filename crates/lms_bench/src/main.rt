@@ -1,7 +1,7 @@
-//! Times one-time keys, trees and keys of HSS against bare SHA-256 digests.
+//! Times one-time keys, trees, keys of HSS and kept nodes against bare SHA-256 digests.
 //!
 //! Without arguments it runs each case once and prints its name and what it needs, and whether the public hash is the same chain by
-//! chain. With the argument `measure` it prints for each case its time, the compressions of SHA-256 that the standard's definition
+//! chain. With the argument `measure` it prints for each case its time, the compressions of SHA-256 that its definition
 //! needs, and the ratio of its time to that of as many bare digests of 55 bytes, each the least of several rounds. For trees that all
 //! processors build it prints the compressions a second; how many times as many these are as one thread makes with bare
 //! digests, and with public hashes, which go by lanes; what share they are of what a thread with bare digests on each
@@ -14,6 +14,7 @@ mod build;
 mod case;
 mod held;
 mod hss_case;
+mod kept_case;
 mod measure;
 mod tall;
 mod tree_key;
@@ -56,7 +57,7 @@ fn obey(
 }
 
 /// Runs each case once, and prints what is counted. `stdout`, beside `src/`, has the compressions as programs in Python count them, of
-/// which one makes the same keys, trees and signatures and verifies these, and the bytes by the numbers of nodes that the trees of a
+/// which some make the same keys, trees, texts and signatures and verify these, and the bytes by the numbers of nodes that the trees of a
 /// forest have to hold.
 fn run_once(
     rt: &(impl Print + AllocGlobal + Clock + CpuClock + Threads + Sync),

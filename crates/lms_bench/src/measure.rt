@@ -5,10 +5,11 @@ use crate::build::{BUILDS, Build};
 use crate::case::{Bench, CASES, Case, Timed};
 use crate::held::print_held;
 use crate::hss_case::{HSS_CASES, HssBench, HssCase};
+use crate::kept_case::{KEPT_CASES, KeptBench};
 use lms_params::{LmsType, OtsType};
 use lms_yardstick::{
-    Fault, clock, process_clock, public_hash_compressions, real, thread_clock, time_digests,
-    time_digests_at_once, tree_compressions,
+    Fault, Hierarchy, clock, process_clock, public_hash_compressions, real, thread_clock,
+    time_digests, time_digests_at_once, tree_compressions,
 };
 use std::thread::Threads;
 use std::time::{Clock, CpuClock, Duration};
@@ -40,6 +41,9 @@ pub fn measure(
     for (name, case) in HSS_CASES {
         measure_hss_case(rt, mode, name, case)?;
     }
+    for (name, hierarchy) in KEPT_CASES {
+        measure_kept_case(rt, mode, name, hierarchy)?;
+    }
     for (name, build) in BUILDS {
         measure_build(rt, mode, name, build)?;
     }
@@ -59,6 +63,17 @@ fn measure_hss_case(
     case: HssCase,
 ) -> Result<(), Fault> {
     let mut bench = HssBench::new(rt, rt.alloc(), case)?;
+    measure_case(rt, mode, name, bench.compressions()?, &mut bench)
+}
+
+/// Runs or times a case of kept nodes.
+fn measure_kept_case(
+    rt: &(impl Print + AllocGlobal + CpuClock + Threads + Sync),
+    mode: Mode,
+    name: &str,
+    hierarchy: Hierarchy,
+) -> Result<(), Fault> {
+    let mut bench = KeptBench::new(rt, rt.alloc(), hierarchy)?;
     measure_case(rt, mode, name, bench.compressions()?, &mut bench)
 }
 

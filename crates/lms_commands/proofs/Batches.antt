@@ -11,7 +11,7 @@ use Rattle.lms_book.specs.declared.refusals.BookFault.{BookFault}
 use Rattle.lms_book.specs.declared.refusals.BookFault.TheVariants as book
 use Rattle.lms_book.specs.Stops.{MayLeave, StoreView}
 use Rattle.lms_book.specs.States.{BookState, LeaseState}
-use Rattle.lms_book.specs.Books.{Reserves, ReservesInOrder, counter, next_image}
+use Rattle.lms_book.specs.Books.{Reserves, counter, next_image}
 use Rattle.lms_book.proofs.Leaving.{leaves_failed, only_has}
 use Rattle.lms_book.specs.History.{given_len, burnt_len}
 use Rattle.lms_shared_book.specs.Desks.{Sums, plus, sums, sums_of, total}

@@ -1,14 +1,13 @@
 -- Why commands fail, by the steps that failed.
-use Rattle.std.proofs.Common.{◌≡◌, ◌⊎◌, inl, inr, ℕ, List, length, Option, Result, Ok, Err, sym, subst}
+use Rattle.std.proofs.Common.{◌≡◌, ◌⊎◌, inl, inr, ℕ, suc, List, length, Option, Result, Ok, Err, sym, subst}
 use Rattle.std.specs.Prelude.{OnOk}
 use Rattle.hex.specs.Hex.{decode_of}
 use Rattle.lms_spec.specs.Profile.{hss_public_key}
 use Rattle.lms_hss.specs.Keys.{hss_key_of}
 use Rattle.lms_hss.specs.declared.key.HssKey.{HssKey as KeyOfCode}
-use Rattle.lms_image.specs.Image.{image_of}
-use Rattle.lms_commands.specs.Keygen.{FailsToMakeKey}
+use Rattle.lms_commands.specs.Keygen.{FailsToMakeKey, MayBeNewKey}
 use Rattle.lms_world.specs.Known.{IsPrintedLast, Known, Stays, Text}
-use Rattle.lms_commands.specs.Signing.{FailsToSign, SignsNext}
+use Rattle.lms_commands.specs.Signing.{FailsToSign, MayUseIndices, SignsNext}
 use Rattle.lms_commands.specs.declared.fault.Fault.{Fault}
 use Rattle.lms_commands.specs.declared.fault.Fault.TheVariants.{OutOfMemory, Output}
 
@@ -22,30 +21,35 @@ both_ok (Ok x) P Q R more p q = more p q
 both_ok (Err e) P Q R more p q = tt
 
 -- a new key's state was stored, and its public key or capacity was not published
-pub not_published : (old mid new : Known) (key : KeyOfCode) (state public : Text) (before after : Option (List ℕ)) → old.may_lack state
-    → mid.may_hold state (image_of key 0 0 0) → Stays mid new state → (fault : Fault)
+pub not_published : (old new : Known) (key : KeyOfCode) (state public : Text) (before after : Option (List ℕ)) → MayBeNewKey old new key state → (fault : Fault)
     → (fault ≡ OutOfMemory) ⊎ ((fault ≡ Output) × IsPrintedLast new public (hss_public_key (hss_key_of key)) before after)
     → FailsToMakeKey old new key state public before after fault
-not_published old mid new key state public before after lacks stored stays fault (inl is) =
-    subst (FailsToMakeKey old new key state public before after) (sym is) (inr (lacks, stays.kept (image_of key 0 0 0) stored))
-not_published old mid new key state public before after lacks stored stays fault (inr (is, last)) =
-    subst (FailsToMakeKey old new key state public before after) (sym is) ((lacks, stays.kept (image_of key 0 0 0) stored), last)
+not_published old new key state public before after made fault (inl is) =
+    subst (FailsToMakeKey old new key state public before after) (sym is) (inr made)
+not_published old new key state public before after made fault (inr (is, last)) =
+    subst (FailsToMakeKey old new key state public before after) (sym is) (made, last)
+
+-- an index is used, and no state changed after that
+pub may_use_still : (n : ℕ) (old mid new : Known) (state : Text) (key : KeyOfCode) (index : ℕ) → MayUseIndices (suc n) old mid state key index
+    → Stays mid new state → MayUseIndices (suc n) old new state key index
+may_use_still n old mid new state key index is stays = record {
+  openings = is.openings;
+  burnt = is.burnt;
+  counted = is.counted;
+  within = is.within;
+  opened = is.opened;
+  stored = stays.kept _ is.stored;
+}
 
 -- a message was signed, and no state changed after that
 pub signed_still : (old mid new : Known) (state : Text) (random message signature : List ℕ) (index : ℕ) → SignsNext old mid state random message signature index
     → Stays mid new state → SignsNext old new state random message signature index
 signed_still old mid new state random message signature index is stays = record {
   key = is.key;
-  may_be_used = record {
-    openings = is.may_be_used.openings;
-    burnt = is.may_be_used.burnt;
-    counted = is.may_be_used.counted;
-    within = is.may_be_used.within;
-    opened = is.may_be_used.opened;
-    stored = stays.kept _ is.may_be_used.stored;
-  };
-  signature_is = is.signature_is;
-  accepted = is.accepted;
+  may_be_used = may_use_still 0 old mid new state is.key index is.may_be_used stays;
+  nodes = is.nodes;
+  may_be_kept = is.may_be_kept;
+  signed = is.signed;
 }
 
 -- the signature was not written, or the index not printed

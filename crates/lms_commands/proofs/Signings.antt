@@ -1,9 +1,7 @@
 -- Why a book's next index signed nothing, as told of the state in its world.
-use Rattle.std.proofs.Common.{◌≡◌, ◌∙◌, inl, inr, ⊎_elim, ℕ, ◌+◌, List, [], refl, sym, ap, ap₂, subst, arith}
-use Rattle.std.specs.Prelude.{◌↔◌}
-use Rattle.lms_spec.specs.Hss.{HssAccepts}
-use Rattle.lms_spec.specs.Profile.{hss_public_key, hss_signature}
-use Rattle.lms_hss.specs.Keys.{hss_key_of}
+use Rattle.std.proofs.Common.{◌≡◌, ◌∙◌, None, Some, inl, inr, ⊎_elim, ℕ, ◌+◌, List, [], refl, sym, ap, ap₂, subst, arith}
+use Rattle.std.specs.Prelude.{◌↔◌, Option, IfSome, option_map}
+use Rattle.std.proofs.lemmas.Option.{IfSome_then}
 use Rattle.lms_image.specs.Image.{image_of, HasImage}
 use Rattle.lms_book.specs.declared.history.Entry.{Entry}
 use Rattle.lms_book.specs.declared.refusals.BookFault.TheVariants as book
@@ -14,6 +12,9 @@ use Rattle.lms_book.specs.Books.{burnt_now, counter, next_image}
 use Rattle.lms_book.proofs.Leaving.{leaves_failed, only_has}
 use Rattle.lms_commands.specs.Faults.{of_signing}
 use Rattle.lms_world.specs.Known.{IsOldOr, Known, Stays, Text}
+use Rattle.lms_kept.specs.Signed.{IsSignedByText}
+use Rattle.lms_kept.specs.Ways.{Way}
+use Rattle.lms_commands.specs.Keeping.{MayBeKept}
 use Rattle.lms_commands.specs.Signing.{FailsToSignNext, GivesOne, MayBeImageOf, SignsNext, SignsNothing, MayUseIndices}
 use Rattle.lms_commands.specs.declared.signing.SignFault.{SignFault}
 use Rattle.lms_commands.specs.declared.signing.SignFault.TheVariants as unsigned
@@ -86,12 +87,30 @@ module _ (old new : Known) (state : Text) (before after : BookState) (store : St
       )
   next_failed unsigned.OutOfMemory gives = (before.key, before.base, uses_next gives, refl)
 
-  pub next_signed : (random message signature : List ℕ) (index : ℕ) → GivesOne before after → index ≡ counter before
-      → signature ≡ hss_signature (hss_key_of before.key) index random message → HssAccepts (hss_public_key (hss_key_of before.key)) message signature
-      → SignsNext old new state random message signature index
-  next_signed random message signature index gives at is accepted = record {
-    key = before.key;
-    may_be_used = subst (λ (n : ℕ). MayUseIndices 1 old new state before.key n) (sym (at ∙ is_fresh.used)) (uses_next gives);
-    signature_is = is;
-    accepted = accepted;
+  pub next_used : (index : ℕ) → GivesOne before after → index ≡ counter before → MayUseIndices 1 old new state before.key index
+  next_used index gives at = subst (λ (n : ℕ). MayUseIndices 1 old new state before.key n) (sym (at ∙ is_fresh.used)) (uses_next gives)
+
+  -- the nodes of a text that might be kept
+  pub nodes_kept : (text : Option (List ℕ)) (random message signature : List ℕ) (index : ℕ) (trees : Option Way) → IfSome text (old.may_keep state)
+      → (is : IsSignedByText text before.key index random message signature trees) → MayBeKept old state before.key is.nodes
+  nodes_kept text random message signature index trees kept is = record {
+    way = is.of_text.way;
+    of_key = is.of_text.of_key;
+    text = IfSome_then is.nodes is.of_text.text_is (λ way from. subst (λ o. IfSome o (old.may_keep state)) from kept);
   }
+
+  pub next_signed : (text : Option (List ℕ)) (random message signature : List ℕ) (index : ℕ) (trees : Option Way) → GivesOne before after
+      → index ≡ counter before → IfSome text (old.may_keep state) → IsSignedByText text before.key index random message signature trees
+      → SignsNext old new state random message signature index
+  next_signed text random message signature index trees gives at kept is = record {
+    key = before.key;
+    may_be_used = next_used index gives at;
+    nodes = is.nodes;
+    may_be_kept = nodes_kept text random message signature index trees kept is;
+    signed = is.signed;
+  }
+
+-- what some bytes of an option satisfy
+pub some_now : {T : Type 0} (now : T → List ℕ) (P : List ℕ → Type 0) (o : Option T) → IfSome o (λ x. P (now x)) → IfSome (option_map now o) P
+some_now now P None is = tt
+some_now now P (Some x) is = is

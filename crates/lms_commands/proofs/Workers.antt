@@ -1,5 +1,5 @@
 -- The text of a number of workers.
-use Rattle.std.proofs.Common.{◌≡◌, ◌≢◌, ◌∙◌, ℕ, ◌<◌, ◌≤◌, ◌^◌, List, [], ◌∷◌, length, get_or, Option, None, Some, Result, Ok, Err, refl, sym, ap, arith, decimal, lit<}
+use Rattle.std.proofs.Common.{◌≡◌, ◌≢◌, ◌∙◌, ℕ, ◌<◌, ◌≤◌, ◌^◌, List, length, get_or, Option, None, Result, Ok, Err, refl, sym, ap, arith, decimal, lit<}
 use Rattle.std.specs.Prelude.{slice_get}
 use Rattle.std.specs.Option.{unwrap_or}
 use Rattle.std.proofs.lemmas.Option.{unwrap_or-slice_get}
@@ -7,7 +7,7 @@ use Rattle.std.specs.Str.Parse.{ParsesUnsigned, AllDigits, digits_value}
 use Rattle.std.proofs.lemmas.Fmt.{decimal-digits_value, first_decimal, parse-decimal}
 use Rattle.std.proofs.lemmas.Result.{OkIff-at_ok}
 use Rattle.std.proofs.lemmas.Str.Parse.{IsNumeralModel, parse_plain}
-use Rattle.lms_commands.specs.Options.{AreWorkers, IsWorkers}
+use Rattle.lms_commands.specs.Options.{AreWorkers}
 
 own : IsNumeralModel (AllDigits 10) (digits_value 10)
 own = record { to = λ ds is. is; from = λ ds is. is; same = λ ds is. refl }

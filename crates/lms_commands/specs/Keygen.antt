@@ -13,7 +13,8 @@ use Rattle.lms_hss.specs.declared.levels.KeyFault.{KeyFault}
 use Rattle.lms_hss.specs.declared.levels.KeyFault.TheVariants as refused
 use Rattle.lms_image.specs.Image.{id_size, image_of, seed_size}
 use Rattle.lms_commands.specs.Descriptions.{number_line}
-use Rattle.lms_world.specs.Known.{IsOldOr, IsPrintedLast, Known, MayExist, Stays, Text}
+use Rattle.lms_commands.specs.Keeping.{StaysRight}
+use Rattle.lms_world.specs.Known.{IsOldOr, IsPrintedLast, Known, MayExist, SameNodes, Stays, Text}
 use Rattle.lms_commands.specs.Options.{IsLevelsText}
 use Rattle.lms_commands.specs.declared.fault.Fault.{Fault}
 use Rattle.lms_commands.specs.declared.fault.Fault.TheVariants.{BadLevels, TooManyLevels, TooTall, BadSeed, BadId, StateExists, StateInUse, WriteState, OutOfMemory, Output}
@@ -70,6 +71,11 @@ FailsToStore old new key state _ = ⊥
 -- there may have been no state, and now there may be that of this key with no index used
 abbrev pub MayBeNewKey : Known → Known → KeyOfCode → Text → Type 0
 MayBeNewKey old new key state = old.may_lack state × new.may_hold state (image_of key 0 0 0)
+
+-- what is kept beside each state is as it was, or the state may be the new key's, and what is kept of that key's trees is right where it was: nothing is
+-- kept before the state was stored
+abbrev pub KeepsWhereStored : Known → Known → KeyOfCode → Text → Type 0
+KeepsWhereStored old new key state = SameNodes old new ⊎ (MayBeNewKey old new key state × StaysRight old new state key)
 
 -- why no key was made, in the order in which it is found; memory may run out before the state is stored, and while the public key is
 -- written. Where the output failed, nothing is printed before the file has the public key.

@@ -1,5 +1,6 @@
 pub mod Descriptions
 pub mod Faults
+pub mod Keeping
 pub mod Keygen
 pub mod Options
 pub mod Signing

@@ -3,9 +3,10 @@ use Rattle.std.specs.Prelude.{ℕ, zero, suc, ◌≡◌, ◌⊎◌, ◌+◌, ◌
 use Rattle.std.specs.Io.KnownBytes.{Appends}
 use Rattle.hex.specs.Hex.{decode_of}
 use Rattle.lms_spec.specs.HashLength.{hash_length}
-use Rattle.lms_spec.specs.Hss.{capacity_of, HssAccepts}
-use Rattle.lms_spec.specs.Profile.{hss_public_key, hss_signature}
+use Rattle.lms_spec.specs.Hss.{capacity_of}
 use Rattle.lms_hss.specs.Keys.{hss_key_of}
+use Rattle.lms_kept.specs.Ways.{Way}
+use Rattle.lms_kept.specs.Signed.{IsSignedBy}
 use Rattle.lms_hss.specs.declared.key.HssKey.{HssKey as KeyOfCode}
 use Rattle.lms_book.specs.Books.{Reserves, capacity, counter, next_image}
 use Rattle.lms_image.specs.Image.{fault_of, image_of, IsImage, HasImage}
@@ -14,8 +15,9 @@ use Rattle.lms_book.specs.States.{BookState}
 use Rattle.lms_book.specs.Stops.{after_write}
 use Rattle.lms_book.specs.declared.history.Entry.TheVariants.{Given as Gave}
 use Rattle.lms_commands.specs.Descriptions.{info_text, number_line}
+use Rattle.lms_commands.specs.Keeping.{MayBeKept, StaysRight}
 use Rattle.lms_commands.specs.Keygen.{IsHexOf}
-use Rattle.lms_world.specs.Known.{IsOldOr, IsPrintedLast, Known, MayBeRead, Stays, Text}
+use Rattle.lms_world.specs.Known.{IsOldOr, IsPrintedLast, Known, MayBeRead, SameNodes, Stays, Text}
 use Rattle.lms_commands.specs.declared.fault.Fault.{Fault}
 use Rattle.lms_commands.specs.declared.fault.Fault.TheVariants.{BadRandom, StateInUse, ReadState, BadState, WriteStateBurnt, Exhausted, OutOfMemory, OutOfMemoryBurnt, Input, Output}
 use Rattle.lms_commands.specs.declared.signing.SignFault.{SignFault}
@@ -51,12 +53,24 @@ pub record MayUseIndices (n : ℕ) (old new : Known) (state : Text) (key : KeyOf
   pub opened : MayBeImageOf old state key index openings burnt
   pub stored : MayStore n old new state key index openings burnt
 
--- a signature is the one that the next index of the state's key makes, and is accepted
+-- a signature is the one that the next index of the state's key makes, and is accepted, where the nodes are right that were kept
 pub record SignsNext (old new : Known) (state : Text) (random message signature : List ℕ) (index : ℕ) : Type 0 where
   pub key : KeyOfCode
   pub may_be_used : MayUseIndices 1 old new state key index
-  pub signature_is : signature ≡ hss_signature (hss_key_of key) index random message
-  pub accepted : HssAccepts (hss_public_key (hss_key_of key)) message signature
+  pub nodes : Option Way
+  pub may_be_kept : MayBeKept old state key nodes
+  pub signed : IsSignedBy nodes key index random message signature
+
+-- an index of the state's key is used, and what is kept of its trees is right where it was
+pub record KeepsAsUsed (old new : Known) (state : Text) : Type 0 where
+  pub key : KeyOfCode
+  pub index : ℕ
+  pub used : MayUseIndices 1 old new state key index
+  pub right : StaysRight old new state key
+
+-- what is kept beside each state is as it was, or that: nothing is kept before the use of an index was stored
+abbrev pub KeepsWhereUsed : Known → Known → Text → Type 0
+KeepsWhereUsed old new state = SameNodes old new ⊎ KeepsAsUsed old new state
 
 -- the name may be that of a state which is no image, by this fault
 abbrev pub MayBeBadState : Known → Text → ImageFault → Type 0

@@ -3,7 +3,7 @@ ghost use Rattle.std.specs.Prelude.{◌≡◌, ◌≤◌, ℕ, List, [], ◌∷�
 ghost use Rattle.lms_batch.specs.Jobs.{most_workers};
 ghost use Rattle.lms_shared_book.specs.Desks.{BlankFits, sums};
 ghost use Rattle.lms_commands.specs.Batches.{FailsToBatch, FailsToSignJobs, IsSilent, SignsAllJobs, SignsJobs, streams};
-ghost use Rattle.lms_world.specs.Known.{SameFiles};
+ghost use Rattle.lms_world.specs.Known.{SameFiles, SameNodes};
 ghost use Rattle.lms_commands.specs.Options.{AreWorkers};
 ghost use Rattle.lms_commands.specs.SharedBooks.{IsDoneAtDesk, IsDoneBy, IsRefusedAtDesk, IsRefusedBy};
 
@@ -53,6 +53,7 @@ pub fn sign_jobs<W: World, I: Read, O: Write>(
         (streams (I.remaining input.old) (O.contents output.old)) (streams (I.remaining input.new) (O.contents output.new))) }
     ensures silent { IfErr result (λ fault. IsSilent fault → output.new ≡ output.old) }
     ensures files { SameFiles (W.known world.old) (W.known world.new) }
+    ensures nodes { SameNodes (W.known world.old) (W.known world.new) }
 {
     let Some(workers) = workers_from(workers) else {
         return Err(Fault::BadWorkers);
@@ -93,6 +94,7 @@ fn sign_by_state<W: World, I: Read, O: Write>(
         (streams (I.remaining input.old) (O.contents output.old)) (streams (I.remaining input.new) (O.contents output.new)) fault) }
     ensures silent { IfErr result (λ fault. IsSilent fault → output.new ≡ output.old) }
     ensures files { SameFiles (W.known world.old) (W.known world.new) }
+    ensures nodes { SameNodes (W.known world.old) (W.known world.new) }
 {
     let book = open_state(alloc, world, lock)?;
     let (answer, left) = sign_by_book(rt, alloc, book, workers, input, output, progress);

@@ -2,7 +2,7 @@
 ghost use Rattle.std.specs.Prelude.{[], ◌≡◌, ◌⊎◌, ◌↔◌, ℕ, List, IfErr, IfOk, OnOk};
 ghost use Rattle.lms_image.specs.Image.{HasImage};
 ghost use Rattle.lms_book.specs.Stops.{MayLeave};
-ghost use Rattle.lms_world.specs.Known.{MayBeRead, SameFiles, SameFilesBut, Stays};
+ghost use Rattle.lms_world.specs.Known.{MayBeRead, SameFiles, SameFilesBut, SameNodes, Stays};
 ghost use Rattle.lms_commands.specs.Faults.{of_read};
 ghost use Rattle.lms_commands.specs.Signing.{FailsToOpen, MayBeImageOf};
 ghost use Rattle.lms_commands.specs.Verifying.{MayBeRefusedAt};
@@ -73,6 +73,7 @@ pub(crate) fn write_file<W: World>(world: &mut W, name: &str, bytes: &[u8]) -> R
     ensures failed { IfErr result (λ fault. (fault ≡ Fault.Output) ⊎ (fault ≡ Fault.OutOfMemory)) }
     ensures others { SameFilesBut name.now (W.known world.old) (W.known world.new) }
     ensures states { (state : List ℕ) → Stays (W.known world.old) (W.known world.new) state }
+    ensures nodes { SameNodes (W.known world.old) (W.known world.new) }
 {
     match world.write(name, bytes) {
         Ok(()) => Ok(()),
@@ -112,6 +113,7 @@ pub(crate) fn open_state<W: World>(
     ensures stays { IfErr result (λ _. (state : List ℕ) → W.is_lock_of lock.now state
         → Stays (W.known world.old) (W.known world.new) state) }
     ensures files { SameFiles (W.known world.old) (W.known world.new) }
+    ensures nodes { SameNodes (W.known world.old) (W.known world.new) }
 {
     let store = world.take_store(alloc, lock)?;
     match Book::open(alloc, store) {

@@ -1,7 +1,7 @@
 //! `info`: what a key's state says.
 ghost use Rattle.std.specs.Prelude.{◌≡◌, ◌≢◌, ℕ, List, IfErr, IfOk, OnOk};
 ghost use Rattle.lms_image.specs.Image.{HasImage};
-ghost use Rattle.lms_world.specs.Known.{SameFiles, Stays};
+ghost use Rattle.lms_world.specs.Known.{SameFiles, SameNodes, Stays};
 ghost use Rattle.lms_commands.specs.Signing.{Describes, FailsToDescribe, FailsToOpen, MayBeImageOf};
 
 use crate::description::print_info;
@@ -28,6 +28,7 @@ pub fn describe<W: World, O: Write>(
     ensures failed { IfErr result (FailsToDescribe (W.known world.old) state.now) }
     ensures stays { Stays (W.known world.old) (W.known world.new) state.now }
     ensures files { SameFiles (W.known world.old) (W.known world.new) }
+    ensures nodes { SameNodes (W.known world.old) (W.known world.new) }
     ensures silent { IfErr result (λ fault. fault ≢ Fault.Output → output.new ≡ output.old) }
 {
     let lock = lock_state(alloc, world, state)?;
@@ -41,6 +42,7 @@ fn read_state<W: World>(alloc: Global, world: &mut W, lock: &W::Lock) -> Result<
         → MayBeImageOf (W.known world.old) state image.key image.counter image.openings image.burnt) }
     ensures stays { (state : List ℕ) → W.is_lock_of lock.now state → Stays (W.known world.old) (W.known world.new) state }
     ensures files { SameFiles (W.known world.old) (W.known world.new) }
+    ensures nodes { SameNodes (W.known world.old) (W.known world.new) }
     ensures counted { IfOk result (λ image. HasImage image.key image.counter image.openings image.burnt) }
     ensures failed { IfErr result (λ fault. (state : List ℕ) → W.is_lock_of lock.now state
         → FailsToOpen (W.known world.old) state fault) }

@@ -4,17 +4,19 @@ ghost use Rattle.std.specs.Io.KnownBytes.{Appends};
 ghost use Rattle.lms_image.specs.Image.{image_of};
 ghost use Rattle.lms_book.specs.Stops.{WritesStore};
 ghost use Rattle.lms_commands.specs.Faults.{IsBeforeFiles};
-ghost use Rattle.lms_commands.specs.Keygen.{FailsToMakeKey, FailsToStore, IsKeyOf, IsNoKey, IsTaken, MakesKey};
+ghost use Rattle.lms_commands.specs.Keygen.{FailsToMakeKey, FailsToStore, IsKeyOf, IsNoKey, IsTaken, KeepsWhereStored, MakesKey};
 ghost use Rattle.lms_commands.specs.Descriptions.{number_line};
-ghost use Rattle.lms_world.specs.Known.{IsPrintedLast, SameFiles, SameFilesBut, Stays};
+ghost use Rattle.lms_world.specs.Known.{IsPrintedLast, SameFiles, SameFilesBut, SameNodes, Stays};
 
 use crate::description::print_capacity;
 use crate::fault::Fault;
 use crate::files::{lock_state, write_file};
+use crate::keeping::keep_trees;
 use crate::options::{read_bytes, read_levels};
 use lms_book::{StateStore, StoreFault};
 use lms_hss::{HssKey, Levels, Progress};
 use lms_image::{Image, encode_image};
+use lms_kept::KeptTrees;
 use lms_world::World;
 use std::alloc::Global;
 use std::io::Write;
@@ -54,6 +56,8 @@ fn key_of(levels: Levels, seed: [u8; 32], id: [u8; 16]) -> HssKey
 /// state is the new key's then. `OutOfMemory` may come before the state is written, which stays as it was, or while the
 /// public key is written, and then the state is the new key's. No file is written before the state is stored.
 ///
+/// The top tree's nodes are kept beside the state, once that is stored, for the first signature. Where that can't be done nothing is said.
+///
 /// `progress` is told how many leaves of the top tree are worked out.
 pub fn make_key<W: World, O: Write>(
     rt: &(impl Threads + Sync),
@@ -74,14 +78,16 @@ pub fn make_key<W: World, O: Write>(
     ensures silent { IfErr result (λ fault. fault ≢ Fault.Output → output.new ≡ output.old) }
     ensures unwritten { IfErr result (λ fault. IsBeforeFiles fault → SameFiles (W.known world.old) (W.known world.new)) }
     ensures files { SameFilesBut public.now (W.known world.old) (W.known world.new) }
+    ensures nodes { KeepsWhereStored (W.known world.old) (W.known world.new) key state.now }
 {
     let lock = lock_state(alloc, world, state)?;
     if world.exists(&lock) {
         return Err(Fault::StateExists);
     }
-    let public_key = key.public_key_watched(rt, alloc, progress)?;
+    let trees = KeptTrees::top(rt, alloc, key, progress)?;
     store_key(alloc, world, key, &lock)?;
-    publish(world, public, &public_key, key.capacity(), output)
+    keep_trees(alloc, world, &lock, &trees);
+    publish(world, public, &trees.public(), key.capacity(), output)
 }
 
 /// Writes a public key to a file, and then prints its capacity. `OutOfMemory` where memory for the file was refused,
@@ -101,6 +107,7 @@ fn publish<W: World, O: Write>(
     ensures silent { IfErr result (λ fault. fault ≢ Fault.Output → output.new ≡ output.old) }
     ensures others { SameFilesBut name.now (W.known world.old) (W.known world.new) }
     ensures states { (state : List ℕ) → Stays (W.known world.old) (W.known world.new) state }
+    ensures nodes { SameNodes (W.known world.old) (W.known world.new) }
 {
     write_file(world, name, public_key)?;
     match print_capacity(output, capacity) {
@@ -121,6 +128,7 @@ fn store_key<W: World>(
     ensures failed { IfErr result (λ fault. (state : List ℕ) → W.is_lock_of lock.now state
         → FailsToStore (W.known world.old) (W.known world.new) key state fault) }
     ensures files { SameFiles (W.known world.old) (W.known world.new) }
+    ensures nodes { SameNodes (W.known world.old) (W.known world.new) }
 {
     let mut store = world.take_store(alloc, lock)?;
     let stored = store_unused(&mut store, key);

@@ -8,6 +8,7 @@ mod description;
 mod fault;
 mod files;
 mod info;
+mod keeping;
 mod keygen;
 mod levels_fault;
 mod line;

@@ -1,27 +1,30 @@
 //! `sign`: a message signed with the next index of a key's state.
-ghost use Rattle.std.specs.Prelude.{◌≡◌, ◌≢◌, ◌⊎◌, ◌+◌, ℕ, List, IfErr, IfOk, Ok, OnOk, codes, length};
+ghost use Rattle.std.specs.Prelude.{◌≡◌, ◌≢◌, ◌⊎◌, ◌+◌, ℕ, List, ◌<◌, IfErr, IfOk, IfSome, None, Ok, OnOk, Some, codes, length, option_map};
 ghost use Rattle.std.specs.Io.KnownBytes.{Appends};
 ghost use Rattle.hex.specs.Hex.{decode_of};
 ghost use Rattle.lms_spec.specs.HashLength.{hash_length};
-ghost use Rattle.lms_spec.specs.Hss.{HssAccepts};
-ghost use Rattle.lms_spec.specs.Profile.{hss_signature, hss_public_key};
+ghost use Rattle.lms_spec.specs.Hss.{capacity_of};
 ghost use Rattle.lms_hss.specs.Keys.{hss_key_of};
+ghost use Rattle.lms_kept.specs.Signed.{IsSignedByText};
 ghost use Rattle.lms_book.specs.Books.{counter};
 ghost use Rattle.lms_book.specs.States.{IsOpenedFrom};
 ghost use Rattle.lms_book.specs.Stops.{Texts};
 ghost use Rattle.lms_commands.specs.Faults.{of_signing};
 ghost use Rattle.lms_commands.specs.Descriptions.{number_line};
 ghost use Rattle.lms_commands.specs.Keygen.{IsHexOf};
-ghost use Rattle.lms_world.specs.Known.{IsPrintedLast, SameFiles, SameFilesBut, Stays};
-ghost use Rattle.lms_commands.specs.Signing.{FailsToSign, FailsToSignNext, GivesOne, SignsFile, SignsNext, SignsNothing};
+ghost use Rattle.lms_world.specs.Known.{IsPrintedLast, SameFiles, SameFilesBut, SameNodes, Stays};
+ghost use Rattle.lms_commands.specs.Keeping.{KeepsOnly};
+ghost use Rattle.lms_commands.specs.Signing.{FailsToSign, FailsToSignNext, GivesOne, KeepsWhereUsed, SignsFile, SignsNext, SignsNothing};
 
 use crate::description::print_index;
 use crate::fault::Fault;
 use crate::files::{lock_state, open_state, read_file, write_file};
+use crate::keeping::{keep_trees, kept_text};
 use crate::options::read_bytes;
-use lms_batch::{Job, OpenLease, SignFault as LeaseFault};
+use lms_batch::Job;
 use lms_book::{Book, BookFault, Lease, StateStore};
 use lms_hss::Progress;
+use lms_kept::{KeptSignature, KeptTrees, sign_by_text};
 use lms_params::OutOfMemory;
 use lms_world::World;
 use std::alloc::Global;
@@ -48,11 +51,12 @@ impl From<SignFault> for Fault {
     }
 }
 
-/// A signature, and the index that made it.
+/// A signature, the index that made it, and the trees that signed, where what was read does not serve it as it is.
 #[derive(Drop)]
 struct Signed {
     index: u64,
     signature: Vec<u8>,
+    trees: Option<KeptTrees>,
 }
 
 /// Signs the message in a file with the next index of a state's key, under a randomizer of 64 hexadecimal digits, writes
@@ -63,6 +67,9 @@ struct Signed {
 /// `OutOfMemoryBurnt` and `Output` once it was. `OutOfMemory` may come anywhere before `WriteStateBurnt`. At the last two
 /// the index is used; after `WriteStateBurnt` the state may still be the older one, which gives the index again. No file is
 /// written before the use of the index was stored.
+///
+/// What is kept of the key's trees beside the state is read before the state is opened, and where the signature needed other nodes it is kept
+/// anew once the use of the index was stored, before the file is written. Where either can't be done nothing is said.
 ///
 /// `progress` is told how many leaves are worked out of the trees that the signature needs.
 pub fn sign_file<W: World, O: Write>(
@@ -85,6 +92,7 @@ pub fn sign_file<W: World, O: Write>(
     ensures silent { IfErr result (λ fault. fault ≢ Fault.Output → output.new ≡ output.old) }
     ensures unwritten { IfErr result (λ fault. fault ≢ Fault.Output → SameFiles (W.known world.old) (W.known world.new)) }
     ensures files { SameFilesBut out.now (W.known world.old) (W.known world.new) }
+    ensures nodes { KeepsWhereUsed (W.known world.old) (W.known world.new) state.now }
 {
     let randomizer = randomizer_from(random)?;
     let message = read_file(alloc, world, message)?;
@@ -93,7 +101,8 @@ pub fn sign_file<W: World, O: Write>(
         message,
     };
     let lock = lock_state(alloc, world, state)?;
-    let signed = sign_by_state(rt, alloc, world, &lock, &job, progress)?;
+    let kept = kept_text(alloc, world, &lock);
+    let signed = sign_by_state(rt, alloc, world, &lock, &job, kept.as_deref(), progress)?;
     deliver(world, out, &signed, output)
 }
 
@@ -123,6 +132,7 @@ fn deliver<W: World, O: Write>(
         signed.now.signature.items (O.contents output.old) (O.contents output.new)) }
     ensures others { SameFilesBut out.now (W.known world.old) (W.known world.new) }
     ensures states { (state : List ℕ) → Stays (W.known world.old) (W.known world.new) state }
+    ensures nodes { SameNodes (W.known world.old) (W.known world.new) }
 {
     if write_file(world, out, &signed.signature).is_err() {
         return Err(Fault::Output);
@@ -140,21 +150,38 @@ fn sign_by_state<W: World>(
     world: &mut W,
     lock: &W::Lock,
     job: &Job,
+    kept: Option<&[u8]>,
     progress: &impl Progress,
 ) -> Result<Signed, Fault>
+    requires { (state : List ℕ) → W.is_lock_of lock.now state → IfSome kept (λ text. (W.known world.old).may_keep state text.now) }
     ensures signed { IfOk result (λ signed. (state : List ℕ) → W.is_lock_of lock.now state
         → SignsNext (W.known world.old) (W.known world.new) state job.now.c job.now.message.items
         signed.signature.items signed.index) }
     ensures failed { IfErr result (λ fault. (state : List ℕ) → W.is_lock_of lock.now state
         → FailsToSignNext (W.known world.old) (W.known world.new) state fault) }
     ensures files { SameFiles (W.known world.old) (W.known world.new) }
+    ensures nodes { (state : List ℕ) → W.is_lock_of lock.now state → KeepsWhereUsed (W.known world.old) (W.known world.new) state }
 {
     let mut book = open_state(alloc, world, lock)?;
-    let signed = sign_next(rt, alloc, &mut book, job, progress);
+    let signed = sign_next(rt, alloc, &mut book, job, kept, progress);
     world.put_back(lock, book.close());
     match signed {
-        Ok(signed) => Ok(signed),
+        Ok(signed) => {
+            keep_signers(alloc, world, lock, &signed);
+            Ok(signed)
+        }
         Err(fault) => Err(Fault::from(fault)),
+    }
+}
+
+/// Keeps the trees that signed, where what was read did not serve the index as it was.
+fn keep_signers<W: World>(alloc: Global, world: &mut W, lock: &W::Lock, signed: &Signed)
+    ensures kept { KeepsOnly signed.now.trees (W.known world.old) (W.known world.new) }
+    ensures states { (state : List ℕ) → Stays (W.known world.old) (W.known world.new) state }
+    ensures files { SameFiles (W.known world.old) (W.known world.new) }
+{
+    if let Some(trees) = &signed.trees {
+        keep_trees(alloc, world, lock, trees);
     }
 }
 
@@ -166,6 +193,7 @@ fn sign_next<S: StateStore>(
     alloc: Global,
     book: &mut Book<S>,
     job: &Job,
+    kept: Option<&[u8]>,
     progress: &impl Progress,
 ) -> Result<Signed, SignFault>
     ensures key { book.new.key ≡ book.old.key }
@@ -176,51 +204,42 @@ fn sign_next<S: StateStore>(
     ensures index { IfOk result (λ signed. signed.index ≡ counter book.old) }
     ensures reserved { IfOk result (λ _. GivesOne book.old book.new) }
     ensures failed { IfErr result (λ fault. SignsNothing book.old fault book.new) }
-    ensures signature { IfOk result (λ signed. signed.signature.items
-        ≡ hss_signature (hss_key_of book.old.key) signed.index job.now.c job.now.message.items) }
-    ensures accepted { IfOk result (λ signed.
-        HssAccepts (hss_public_key (hss_key_of book.old.key)) job.now.message.items signed.signature.items) }
+    ensures signature { IfOk result (λ signed. IsSignedByText (option_map (λ text. text.now) kept.entry) book.old.key signed.index job.now.c job.now.message.items
+        signed.signature.items signed.trees) }
 {
     let lease = book.reserve(1).map_err(|fault| SignFault::Book(fault))?;
-    let signed = sign_lease(rt, alloc, lease, job, progress);
-    signed.map_err(|_| SignFault::OutOfMemory)
+    let signed = sign_lease(rt, alloc, lease, job, kept, progress);
+    match signed {
+        Ok(signed) => Ok(signed),
+        Err(_) => Err(SignFault::OutOfMemory),
+    }
 }
 
-/// Signs a job with the index of a lease of one. `OutOfMemory` where memory is refused; the index is spent in any case.
+/// Signs a job with the index of a lease of one, by the nodes of a text where they sign what is accepted, and else by trees that are worked
+/// out. `OutOfMemory` where memory is refused; the index is spent in any case.
 fn sign_lease(
     rt: &(impl Threads + Sync),
     alloc: Global,
     lease: Lease,
     job: &Job,
+    kept: Option<&[u8]>,
     progress: &impl Progress,
 ) -> Result<Signed, OutOfMemory>
     requires { lease.len ≡ 1 }
     ensures index { IfOk result (λ signed. signed.index ≡ lease.start) }
-    ensures signature { IfOk result (λ signed. signed.signature.items
-        ≡ hss_signature (hss_key_of lease.key) signed.index job.now.c job.now.message.items) }
-    ensures accepted { IfOk result (λ signed.
-        HssAccepts (hss_public_key (hss_key_of lease.key)) job.now.message.items signed.signature.items) }
+    ensures signature { IfOk result (λ signed. IsSignedByText (option_map (λ text. text.now) kept.entry) lease.key signed.index job.now.c job.now.message.items
+        signed.signature.items signed.trees) }
 {
-    let (opened, mut seats) = match OpenLease::new_watched(rt, alloc, lease, 1, progress) {
-        Ok(made) => made,
-        Err((refused, lease)) => {
-            lease.end();
-            return Err(refused);
-        }
-    };
-    let Some(mut seat) = seats.pop() else {
-        unreachable!()
-    };
-    match opened.sign(&mut seat, job) {
-        Ok(receipt) => Ok(Signed {
-            index: receipt.index(),
-            signature: receipt.into_signature(),
-        }),
-        Err(LeaseFault::OutOfMemory(pass)) => {
-            pass.burn();
-            Err(OutOfMemory)
-        }
-        // A pool's first claim finds a place where nobody else has a seat.
-        Err(LeaseFault::Ended) => Err(OutOfMemory),
-    }
+    // Its clause bounds the index.
+    let _len = lease.len();
+    let (key, index) = (lease.key(), lease.start());
+    let message = job.message.as_slice();
+    let signed = sign_by_text(rt, alloc, key, index, &job.c, message, kept, progress);
+    lease.end();
+    let KeptSignature { signature, trees } = signed?;
+    Ok(Signed {
+        index,
+        signature,
+        trees,
+    })
 }

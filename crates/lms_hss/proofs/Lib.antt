@@ -1,6 +1,5 @@
 pub mod Bottoms
 pub mod Forests
-pub mod KeptTexts
 pub mod Keys
 pub mod SameKeys
 pub mod Ranges
@@ -8,4 +7,3 @@ pub mod Sets
 pub mod SignedKeys
 pub mod Sent
 pub mod TopKeys
-pub mod Ways

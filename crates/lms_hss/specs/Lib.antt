@@ -6,4 +6,3 @@ pub mod Levels
 pub mod SignedKeys
 pub mod Texts
 pub mod Verifying
-pub mod Ways

@@ -1,10 +1,9 @@
 //! What is derived at a leaf for the tree below it: the key of that tree, and the randomizer of the signature on its public
 //! key. Both follow from the leaf alone, so an upper one-time key signs one text only, whatever message is signed below it.
 ghost use Rattle.std.specs.Prelude.{◌≡◌};
-ghost use Rattle.lms_spec.specs.Profile.{child as child_of, derived as derived_of, for_randomizer};
+ghost use Rattle.lms_spec.specs.Profile.{child as child_of, derived as derived_of, for_nodes, for_randomizer};
 ghost use Rattle.lms_tree.specs.TreeKey.{tree_of};
 ghost use Rattle.lms_hss.specs.Levels.{level_of};
-ghost use Rattle.lms_hss.specs.Ways.{for_nodes};
 
 use lms_ots::{OtsId, secret};
 use lms_params::{LmsType, OtsType};
@@ -35,14 +34,14 @@ pub(crate) fn child_key(parent: &TreeKey, q: u32, sets: (LmsType, OtsType)) -> T
 }
 
 /// The randomizer of leaf q's signature on the public key of the tree below it.
-pub(crate) fn randomizer(parent: &TreeKey, q: u32) -> [u8; 32]
+pub fn randomizer(parent: &TreeKey, q: u32) -> [u8; 32]
     ensures { result ≡ derived_of (tree_of parent.now) q for_randomizer }
 {
     derived(parent, q, FOR_RANDOMIZER)
 }
 
-/// What the check value of a file of nodes goes by, derived at leaf 0 of the top tree.
-pub(crate) fn nodes_secret(top: &TreeKey) -> [u8; 32]
+/// What the check value of kept nodes goes by, derived at leaf 0 of the key's top tree.
+pub fn nodes_secret(top: &TreeKey) -> [u8; 32]
     ensures { result ≡ derived_of (tree_of top.now) 0 for_nodes }
 {
     derived(top, 0, FOR_NODES)

@@ -8,7 +8,6 @@ ghost use Rattle.lms_hss.specs.Levels.{levels_of, most_height};
 ghost use Rattle.lms_hss.specs.Covered.{longest_lease};
 ghost use Rattle.lms_hss.specs.Keys.{hss_key_of, tree_number as number_of};
 ghost use Rattle.lms_hss.specs.Forests.{AreLeaves};
-ghost use Rattle.lms_hss.specs.Ways.{head_length};
 
 use crate::child_key::child_key;
 use crate::levels::{Levels, MOST_LEVELS};
@@ -124,8 +123,8 @@ impl HssKey {
         TreeKey { lms, ots, i, seed }
     }
 
-    /// The tree of level k that index g goes through.
-    pub(crate) fn tree_key(&self, g: u64, k: usize) -> TreeKey
+    /// The key of the tree of level k that index g goes through.
+    pub fn tree_key(&self, g: u64, k: usize) -> TreeKey
         requires { k < length self.now.levels }
         ensures { tree_of result ≡ tree_at (hss_key_of self.now) g k }
     {
@@ -137,21 +136,8 @@ impl HssKey {
         tree
     }
 
-    /// The bytes of what stands before the signatures of level k (6.2).
-    pub(crate) fn head_len(&self, k: usize) -> usize
-        requires { k < length self.now.levels }
-        ensures { result ≡ head_length (hss_key_of self.now) k }
-    {
-        let above = &self.levels.as_slice()[..k];
-        let mut length = 4;
-        for (lms, ots) in above {
-            length += lms_sig_len(*lms, *ots) + LMS_KEY_LEN;
-        }
-        length
-    }
-
     /// The leaf of level k's tree that index g goes through.
-    pub(crate) fn place(&self, g: u64, k: usize) -> u32
+    pub fn place(&self, g: u64, k: usize) -> u32
         requires { k < length self.now.levels }
         ensures { result ≡ leaf_at (hss_key_of self.now) g k }
     {
@@ -184,33 +170,6 @@ impl HssKey {
         }
     }
 
-    /// Of how many levels, from the top on, two indices go through the same tree.
-    pub(crate) fn shared_levels(&self, g: u64, h: u64) -> usize
-        requires g { g < capacity_of (hss_key_of self.now) }
-        requires h { h < capacity_of (hss_key_of self.now) }
-        ensures some { 1 ≤ result }
-        ensures at_most { result ≤ length self.now.levels }
-        ensures same { (k : ℕ) → k < result → number_of (hss_key_of self.now) g k ≡ number_of (hss_key_of self.now) h k }
-    {
-        for k in 1..self.levels.as_slice().len() {
-            if self.tree_number(g, k) != self.tree_number(h, k) {
-                return k;
-            }
-        }
-        self.levels.as_slice().len()
-    }
-
-    /// How many leaves a tree has of each level from level k on.
-    pub(crate) fn leaves_from(&self, k: usize) -> u64
-        requires { k ≤ length self.now.levels }
-    {
-        let mut leaves = 0u64;
-        for (lms, _) in &self.levels.as_slice()[k..] {
-            leaves = leaves.saturating_add(1 << lms.height());
-        }
-        leaves
-    }
-
     /// How many leaves there are in the trees of level k that the indices from `start` to `last` go through.
     pub(crate) fn leaves_of_trees(&self, start: u64, last: u64, k: usize) -> u64
         requires { k < length self.now.levels }
@@ -237,7 +196,7 @@ impl HssKey {
 
     /// The number of the tree of level k that index g goes through, counted in its level from 0; with k the number of
     /// levels, the index itself.
-    pub(crate) fn tree_number(&self, g: u64, k: usize) -> u64
+    pub fn tree_number(&self, g: u64, k: usize) -> u64
         requires { k ≤ length self.now.levels }
         ensures { result ≡ number_of (hss_key_of self.now) g k }
     {
@@ -253,7 +212,7 @@ pub fn same_key(a: &HssKey, b: &HssKey) -> bool
 }
 
 /// The public key over this LMS public key of the top tree (6.1).
-pub(crate) fn public_key_bytes(levels: u32, top: &[u8; 56]) -> [u8; 60]
+pub fn public_key_bytes(levels: u32, top: &[u8; 56]) -> [u8; 60]
     ensures { result ≡ u32str levels ++ top.now }
 {
     let mut text = [0; 60];

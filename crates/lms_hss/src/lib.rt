@@ -6,9 +6,6 @@
 
 mod child_key;
 mod forest;
-mod kept_level;
-mod kept_text;
-mod kept_trees;
 mod key;
 mod level_trees;
 mod levels;
@@ -16,9 +13,9 @@ mod signed_tree;
 mod text;
 mod verification;
 
+pub use crate::child_key::{nodes_secret, randomizer};
 pub use crate::forest::Forest;
-pub use crate::kept_trees::KeptTrees;
-pub use crate::key::{HssKey, same_key};
+pub use crate::key::{HssKey, public_key_bytes, same_key};
 pub use crate::levels::{KeyFault, Levels, MOST_LEVELS};
 pub use crate::text::LevelsText;
 pub use crate::verification::{LMS_KEY_LEN, Verifier, verify, verify_with};

@@ -3,7 +3,6 @@ ghost use Rattle.std.specs.Prelude.{◌≡◌, ◌≤◌, length};
 
 mod damage;
 mod forests;
-mod kept;
 mod keys;
 mod pieces;
 mod verification;

@@ -6,10 +6,11 @@ use Rattle.lms_hss.specs.declared.key.HssKey.{HssKey as KeyOfCode}
 use Rattle.lms_program.specs.Commands.{AreTakenAs, AsksForHelp, IsMistaken}
 use Rattle.lms_commands.specs.Batches.{FailsToBatch, SignsAllJobs, Streams, streams}
 use Rattle.lms_commands.specs.Faults.{status_of}
-use Rattle.lms_commands.specs.Keygen.{FailsToMakeKey, IsKeyOf, IsNoKey, MakesKey}
-use Rattle.lms_world.specs.Known.{Known, Stays}
+use Rattle.lms_commands.specs.Keeping.{StaysRight}
+use Rattle.lms_commands.specs.Keygen.{FailsToMakeKey, IsKeyOf, IsNoKey, MakesKey, MayBeNewKey}
+use Rattle.lms_world.specs.Known.{Known, SameNodes, Stays}
 use Rattle.lms_commands.specs.Options.{AreWorkers}
-use Rattle.lms_commands.specs.Signing.{Describes, FailsToDescribe, FailsToSign, SignsFile}
+use Rattle.lms_commands.specs.Signing.{Describes, FailsToDescribe, FailsToSign, KeepsAsUsed, SignsFile}
 use Rattle.lms_commands.specs.Verdicts.{line_of}
 use Rattle.lms_commands.specs.Verifying.{FailsToJudge, Judges}
 use Rattle.lms_program.specs.declared.command.types.Command.{Command}
@@ -127,3 +128,15 @@ Writes _ name = ⊥
 -- no command that the words ask for writes the file of this name
 abbrev pub NoneWrites : List Text → Text → Type 0
 NoneWrites words name = (command : Command) → AreTakenAs words command → ¬ Writes command name
+
+-- the command keeps nodes beside its state, once that is stored, and what is kept of the key's trees is right where it was before
+abbrev pub Keeps : Known → Known → Command → Type 0
+Keeps old new (Keygen levels seed id state public) =
+    (key : KeyOfCode) × IsKeyOf (string_bytes levels) (string_bytes seed) (string_bytes id) key
+    × MayBeNewKey old new key (string_bytes state) × StaysRight old new (string_bytes state) key
+Keeps old new (Sign state random message out) = KeepsAsUsed old new (string_bytes state)
+Keeps old new _ = ⊥
+
+-- what is kept of nodes beside each state is as it was, or a command that the words ask for keeps some
+abbrev pub KeepsNodes : Known → Known → List Text → Type 0
+KeepsNodes old new words = SameNodes old new ⊎ ((command : Command) × AreTakenAs words command × Keeps old new command)

@@ -3,8 +3,8 @@ ghost use Rattle.std.specs.Prelude.{◌≡◌, ◌⊎◌, ◌<◌, ◌≤◌, �
 ghost use Rattle.std.specs.Io.KnownBytes.{Appends};
 ghost use Rattle.lms_commands.specs.Batches.{IsSilent};
 ghost use Rattle.lms_commands.specs.Faults.{IsBeforeFiles, status_number, status_of};
-ghost use Rattle.lms_world.specs.Known.{SameFile, SameFiles};
-ghost use Rattle.lms_program.specs.Runs.{AsksToRead, AsksToTouch, Ends, RunFails, FailsToObey, NoneWrites, Obeys, ReadsInput, Touches, Writes, moment};
+ghost use Rattle.lms_world.specs.Known.{SameFile, SameFiles, SameNodes};
+ghost use Rattle.lms_program.specs.Runs.{AsksToRead, AsksToTouch, Ends, RunFails, FailsToObey, Keeps, KeepsNodes, NoneWrites, Obeys, ReadsInput, Touches, Writes, moment};
 ghost use Rattle.lms_commands.specs.declared.status.Status.{Status};
 
 use crate::command::{Command, CommandFault, command};
@@ -25,7 +25,8 @@ use std::thread::Threads;
 ///
 /// A fault is one line on `errors`, `error: ` and its text. Help is printed to `output` and a mistake in the arguments to
 /// `errors`, both in clap's wording. Nothing but `keygen`, `info`, `sign` and `batch` may change files or states, and of the
-/// files only the one that `--public` or `--out` names. `input` is read by `batch` alone.
+/// files only the one that `--public` or `--out` names. `keygen` and `sign` alone keep nodes of trees beside the state. `input` is read by
+/// `batch` alone.
 pub fn run<S: AsStr, W: World, I: Read, O: Write, E: Write>(
     rt: &(impl Threads + Wait + Sync),
     alloc: Global,
@@ -43,6 +44,7 @@ pub fn run<S: AsStr, W: World, I: Read, O: Write, E: Write>(
     ensures files { (world.new ≡ world.old) ⊎ AsksToTouch (map S.text words.now) }
     ensures others { (name : List ℕ) → NoneWrites (map S.text words.now) name
         → SameFile (W.known world.old) (W.known world.new) name }
+    ensures nodes { KeepsNodes (W.known world.old) (W.known world.new) (map S.text words.now) }
     ensures unread { (input.new ≡ input.old) ⊎ AsksToRead (map S.text words.now) }
 {
     run_watched(rt, alloc, words, world, input, output, errors, &Unwatched)
@@ -68,6 +70,7 @@ pub fn run_watched<S: AsStr, W: World, I: Read, O: Write, E: Write>(
     ensures files { (world.new ≡ world.old) ⊎ AsksToTouch (map S.text words.now) }
     ensures others { (name : List ℕ) → NoneWrites (map S.text words.now) name
         → SameFile (W.known world.old) (W.known world.new) name }
+    ensures nodes { KeepsNodes (W.known world.old) (W.known world.new) (map S.text words.now) }
     ensures unread { (input.new ≡ input.old) ⊎ AsksToRead (map S.text words.now) }
 {
     match answer(rt, alloc, words, world, input, output, errors, progress) {
@@ -110,6 +113,7 @@ fn answer<S: AsStr, W: World, I: Read, O: Write, E: Write>(
     ensures files { (world.new ≡ world.old) ⊎ AsksToTouch (map S.text words.now) }
     ensures others { (name : List ℕ) → NoneWrites (map S.text words.now) name
         → SameFile (W.known world.old) (W.known world.new) name }
+    ensures nodes { KeepsNodes (W.known world.old) (W.known world.new) (map S.text words.now) }
     ensures unread { (input.new ≡ input.old) ⊎ AsksToRead (map S.text words.now) }
 {
     match command(alloc, words) {
@@ -147,6 +151,7 @@ fn obey<W: World, I: Read, O: Write>(
     ensures files { (world.new ≡ world.old) ⊎ Touches command }
     ensures others { (name : List ℕ) → ¬ Writes command name
         → SameFile (W.known world.old) (W.known world.new) name }
+    ensures nodes { SameNodes (W.known world.old) (W.known world.new) ⊎ Keeps (W.known world.old) (W.known world.new) command }
     ensures unread { (input.new ≡ input.old) ⊎ ReadsInput command }
 {
     match command {

@@ -22,6 +22,10 @@ for_child_seed = 0xfffe
 abbrev pub for_child_id : ℕ
 for_child_id = 0xffff
 
+-- what is derived at leaf 0 of the top tree for the check value of nodes that are kept
+abbrev pub for_nodes : ℕ
+for_nodes = 0xfffc
+
 -- a value derived at leaf q of a tree, hashed as the secret of a chain of this number would be
 unfoldable pub derived : Tree → ℕ → ℕ → List ℕ
 derived tree q number = sha256 (place tree.id q ++ u16str number ++ 0xff ∷ tree.seed)

@@ -1,6 +1,7 @@
 mod batch;
 mod batch_faults;
 mod faults;
+mod kept;
 mod lines;
 mod memory;
 mod meter;

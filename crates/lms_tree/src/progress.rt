@@ -4,7 +4,7 @@ use std::marker::Sync;
 /// Who is told how far a call is that works out trees. All its threads tell, several at once, and each goes on when the method
 /// returns.
 pub trait Progress: Sync {
-    /// Comes once, before the first leaf: the call is to work out so many leaves.
+    /// Comes before the first leaf, and again where the call has to begin anew: it is to work out so many leaves.
     fn begin(&self, leaves: u64);
 
     /// So many more of them are worked out.

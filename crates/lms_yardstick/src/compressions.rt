@@ -1,4 +1,4 @@
-//! How many compressions of SHA-256 the standard's definitions need.
+//! How many compressions of SHA-256 the definitions need, the standard's and those of kept nodes.
 ghost use Rattle.std.specs.Prelude.{◌+◌, ◌-◌, ◌/◌, ◌^◌, ◌<◌, ◌≤◌};
 
 use lms_hss::{HssKey, LMS_KEY_LEN};
@@ -9,6 +9,12 @@ use sha2::Digest;
 /// How many compressions derive the key of a tree and the randomizer of its public key's signature: one for each of the
 /// randomizer, the seed and the identifier.
 const DERIVATIONS: u64 = 3;
+
+/// How many compressions derive the key of a tree below the top: one for each of the seed and the identifier.
+const KEY_DERIVATIONS: u64 = 2;
+
+/// The bytes of the check value that a text of kept nodes ends with.
+const CHECK_LEN: u64 = 32;
 
 /// A count as a number for ratios, up to 2^52.
 pub fn real(count: u64) -> f64 {
@@ -43,6 +49,15 @@ pub fn tree_compressions(lms: LmsType, ots: OtsType) -> u64
 {
     let leaves = 1 << lms.height();
     leaves * (public_hash_compressions(ots) + 1) + (leaves - 1) * 2
+}
+
+/// The compressions of reading a text of kept nodes that is right for a key: those of its check value, which are the secret, the hash of
+/// the levels' typecodes with the bytes before it, and the hash of both; and those of the keys of the trees below the top.
+pub fn reading_compressions(key: &HssKey, text: &[u8]) -> u64 {
+    let levels = key.levels.as_slice().len() as u64;
+    let hashed = 4 + 8 * levels + (text.len() as u64).saturating_sub(CHECK_LEN);
+    let check_value = 1 + compressions_of(hashed) + compressions_of(64);
+    check_value + KEY_DERIVATIONS * (levels - 1)
 }
 
 /// The compressions of a one-time signature, and of its candidate.

@@ -1,4 +1,4 @@
-//! What timings are held against: compressions of SHA-256, counted as the standard's definitions need them, bare digests, and a public
+//! What timings are held against: compressions of SHA-256, counted as the definitions need them, bare digests, and a public
 //! hash whose chains are hashed one after another; and the keys that are timed, the clocks, and the faults of the programs that time.
 #![tactic(auto)]
 
@@ -11,7 +11,9 @@ mod key;
 
 pub use crate::chain_by_chain::public_hash_chain_by_chain;
 pub use crate::clocks::{clock, process_clock, thread_clock};
-pub use crate::compressions::{Hss, OneTime, public_hash_compressions, real, tree_compressions};
+pub use crate::compressions::{
+    Hss, OneTime, public_hash_compressions, reading_compressions, real, tree_compressions,
+};
 pub use crate::digests::{time_digests, time_digests_at_once};
 pub use crate::fault::Fault;
 pub use crate::key::{Hierarchy, ID, MESSAGE, RANDOMIZER, SEED};

@@ -1,6 +1,6 @@
 //! Commands to which memory is refused once, where it is.
 use super::states::is_with;
-use super::words::{CHEAP, INFO, SIGN, keygen};
+use super::words::{CHEAP_TWICE, INFO, SIGN, keygen};
 use super::{Ended, VERIFY, end_of};
 use lms_world::{MemoryWorld, World};
 use std::alloc::Global;
@@ -11,7 +11,7 @@ use std::thread::Threads;
 /// How many indices of the key are used, each by an opening of its own.
 fn used(world: &MemoryWorld) -> Result<u64, Fail> {
     for counter in 0..4 {
-        if is_with(world, &CHEAP, counter, counter, 0) {
+        if is_with(world, &CHEAP_TWICE, counter, counter, 0) {
             return Ok(counter);
         }
     }
@@ -48,12 +48,12 @@ fn signs(
 
 /// Makes a key, at the second try where memory was refused at the first, unless the first try made its state.
 fn makes_a_key(rt: &(impl Threads + Wait + AllocGlobal + Sync), world: &mut MemoryWorld) -> bool {
-    let words = keygen("5/2");
+    let words = keygen("5/2,5/2");
     let first = end_of(rt, &words, world);
     match (first.status, first.errors()) {
         (0, "") | (6, "error: cannot write output\n") => true,
         (5, "error: out of memory\n") => {
-            let made = is_with(world, &CHEAP, 0, 0, 0);
+            let made = is_with(world, &CHEAP_TWICE, 0, 0, 0);
             end_of(rt, &words, world).status == if made { 3 } else { 0 }
         }
         _ => false,

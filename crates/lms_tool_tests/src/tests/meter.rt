@@ -146,7 +146,7 @@ impl Progress for Sums {
 }
 
 /// Whether a run is done, and tells that it is to work out so many leaves, and of each.
-fn tells_of(
+pub(super) fn tells_of(
     rt: &(impl Threads + Wait + AllocGlobal + Sync),
     words: &[&str],
     world: &mut MemoryWorld,
@@ -180,7 +180,7 @@ fn keygen_sign_and_batch_tell_of_their_leaves(rt: HostRuntime) -> Result<(), Fai
     let mut world = MemoryWorld::new(rt.alloc());
     world.write("text", b"abc")?;
     assert!(rt; tells_of(&rt, &keygen("5/2,5/2"), &mut world, b"", 32));
-    assert!(rt; tells_of(&rt, &SIGN, &mut world, b"", 64));
+    assert!(rt; tells_of(&rt, &SIGN, &mut world, b"", 32));
     assert!(rt; tells_of(&rt, &batch("2"), &mut world, TWO_LINES.as_bytes(), 64));
     assert!(rt; tells_of(&rt, &INFO, &mut world, b"", 0));
     Ok(())

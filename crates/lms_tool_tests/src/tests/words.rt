@@ -15,6 +15,11 @@ pub(super) const TWO: [(LmsType, OtsType); 2] = [
 /// The levels 5/2, whose tree takes a twentieth of the work.
 pub(super) const CHEAP: [(LmsType, OtsType); 1] = [(LmsType::H5, OtsType::W2)];
 
+pub(super) const CHEAP_TWICE: [(LmsType, OtsType); 2] = [
+    (LmsType::H5, OtsType::W2),
+    (LmsType::H5, OtsType::W2),
+];
+
 pub(super) const INFO: [&str; 4] = ["lms_tool", "info", "--state", "key.state"];
 
 pub(super) const SIGN: [&str; 10] = [

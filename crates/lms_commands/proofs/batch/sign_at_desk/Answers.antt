@@ -1,7 +1,6 @@
 use Rattle.std.proofs.Common.{List, ap}
 use Rattle.std.specs.Prelude.{slice_set}
 use Rattle.lms_shared_book.specs.Desks.{Sums}
-use Rattle.lms_commands.proofs.Batches.{not_write}
 use Rattle.lms_commands.proofs.batch.sign_at_desk.Goals as goal
 
 pub returns-in-Ok-clause-done : goal.returns-in-Ok-clause-done

@@ -1,5 +1,6 @@
 use Rattle.std.proofs.lemmas.Result.{IfErr-weaker}
 use Rattle.lms_commands.proofs.Failing.{both_ok, not_delivered, signed_still}
+use Rattle.lms_commands.proofs.StayingRight.{used_still}
 use Rattle.lms_commands.proofs.signing.sign_file.Goals as goal
 
 pub returns-clause-signed : goal.returns-clause-signed
@@ -41,6 +42,11 @@ returns-clause-failed g c =
     randomizer text signed.signature.items signed.index c.in_ok-randomizer.ensures.read given
     (signed_still old mid new c.args.state.now randomizer text signed.signature.items signed.index (c.in_ok-signed.ensures.signed _ c.in_ok-lock.ensures.locked) (c.deliver.ensures.states c.args.state.now)))
     c.deliver.ensures.failed
+
+pub returns-clause-nodes : goal.returns-clause-nodes
+returns-clause-nodes g c =
+    used_still (g.W.World.known c.args.world.now) (g.W.World.known c.sign_by_state.new.world) (g.W.World.known c.deliver.new.world) c.args.state.now
+    (c.in_ok-signed.ensures.nodes _ c.in_ok-lock.ensures.locked) (c.deliver.ensures.states c.args.state.now) c.deliver.ensures.nodes
 
 pub returns-clause-silent : goal.returns-clause-silent
 returns-clause-silent g c = IfErr-weaker c.deliver.result _ _ (λ fault failed other. absurd (other failed.0)) c.deliver.ensures.failed

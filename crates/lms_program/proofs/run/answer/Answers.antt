@@ -30,3 +30,7 @@ returns-in-Ok-clause-unread g c =
 
 pub returns-in-Ok-clause-unwritten : goal.returns-in-Ok-clause-unwritten
 returns-in-Ok-clause-unwritten g c = kept_before_files _ _ c.in-Ok.command c.obey.result _ c.obey.ensures.done c.obey.ensures.unwritten
+
+pub returns-in-Ok-clause-nodes : goal.returns-in-Ok-clause-nodes
+returns-in-Ok-clause-nodes g c =
+    ⊎_elim inl (λ keeps. inr (c.in-Ok.command, (c.in-Ok.ensures.reads, c.in-Ok.ensures.faults), keeps)) c.obey.ensures.nodes

@@ -1,4 +1,4 @@
-use Rattle.std.proofs.Common.{inl, inr}
+use Rattle.std.proofs.Common.{⊎_elim, inl, inr}
 use Rattle.clap.proofs.TakesLemmas.{passed_up}
 use Rattle.lms_commands.proofs.Failing.{stays_same}
 use Rattle.lms_program.proofs.Ending.{not_output}
@@ -28,3 +28,18 @@ pub returns-in_ok-sign_file-in-Sign-clause-others : goal.returns-in_ok-sign_file
 returns-in_ok-sign_file-in-Sign-clause-others g c =
     let files = rw (c.deref-in-Sign-4.ensures) at c.in_ok-sign_file-in-Sign.ensures.files in
     rw c.in-Sign.is files
+
+pub returns-in_err-make_key-in-Keygen-clause-unwritten : goal.returns-in_err-make_key-in-Keygen-clause-unwritten
+returns-in_err-make_key-in-Keygen-clause-unwritten g c = passed_up _ _ _ c.from_residual-in_err-make_key-in-Keygen.ensures.1 c.in_err-make_key-in-Keygen.ensures.unwritten
+
+pub returns-in_err-make_key-in-Keygen-clause-nodes : goal.returns-in_err-make_key-in-Keygen-clause-nodes
+returns-in_err-make_key-in-Keygen-clause-nodes g c =
+    let key = rw (c.deref.ensures, c.deref-in-Keygen.ensures, c.deref-in-Keygen-2.ensures) at c.in_ok-key-in-Keygen.ensures.key in
+    let nodes = rw c.deref-in-Keygen-3.ensures at c.in_err-make_key-in-Keygen.ensures.nodes in
+    rw c.in-Keygen.is (⊎_elim inl (λ kept. inr (c.in_ok-key-in-Keygen.key, key, kept.0, kept.1)) nodes)
+
+pub returns-in_ok-make_key-in-Keygen-clause-nodes : goal.returns-in_ok-make_key-in-Keygen-clause-nodes
+returns-in_ok-make_key-in-Keygen-clause-nodes g c =
+    let key = rw (c.deref.ensures, c.deref-in-Keygen.ensures, c.deref-in-Keygen-2.ensures) at c.in_ok-key-in-Keygen.ensures.key in
+    let nodes = rw c.deref-in-Keygen-3.ensures at c.in_ok-make_key-in-Keygen.ensures.nodes in
+    rw c.in-Keygen.is (⊎_elim inl (λ kept. inr (c.in_ok-key-in-Keygen.key, key, kept.0, kept.1)) nodes)

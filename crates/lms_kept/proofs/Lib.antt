@@ -1,0 +1,4 @@
+pub mod KeptTexts
+pub mod TextLengths
+pub mod Texts
+pub mod Ways

@@ -1,0 +1,33 @@
+use Rattle.std.proofs.Common.{◌∙◌, ap, None, refl, subst}
+use Rattle.lms_spec.specs.Hss.{HssAccepts}
+use Rattle.lms_spec.specs.Profile.{hss_public_key, hss_signature}
+use Rattle.lms_hss.specs.Keys.{hss_key_of}
+use Rattle.lms_hss.specs.declared.key.HssKey.{HssKey}
+use Rattle.lms_kept.proofs.signing.sign_anew.Goals as goal
+
+pub returns : goal.returns
+returns g c =
+    let trees = c.in_ok-trees.ensures in
+    let along = rw c.in-Some.is at c.in_ok-signature.ensures.along in
+    let checked = rw c.in-Some.is at c.in_ok-signature.ensures.checked in
+    let text = rw c.in-Some.is at c.in_ok-signature.ensures.signature in
+    let accepted = rw c.in-Some.is at c.in_ok-signature.ensures.accepted in
+    let random = c.args.c.now in
+    let message = c.args.msg.now in
+    let signature = c.in-Some.signature.items in
+    λ _ not_right. record {
+      nodes = None;
+      of_text = record { way = tt; of_key = tt; text_is = tt };
+      anew = not_right;
+      signed = record {
+        trees = c.in_ok-trees.trees;
+        are = record { way = trees.way; of_key = trees.key; serves = trees.serves; from = trees.genuine; right = λ _. trees.genuine };
+        along = along;
+        checked = checked;
+        signature_is = λ _. text trees.genuine ∙ ap (λ (key : HssKey). hss_signature (hss_key_of key) c.args.index random message) trees.key;
+        accepted = λ _. subst (λ (key : HssKey). HssAccepts (hss_public_key (hss_key_of key)) message signature) trees.key (accepted trees.genuine);
+      };
+      kept_are = refl;
+      changed = λ no. no;
+      unchanged = tt;
+    }

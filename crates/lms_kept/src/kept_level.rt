@@ -1,0 +1,218 @@
+//! A tree of a hierarchy with nodes that were given, and what is signed of it.
+ghost use Rattle.std.specs.Prelude.{ℕ, ◌≡◌, ◌+◌, ◌-◌, ◌*◌, ◌^◌, ◌<◌, ◌≤◌, ◌++◌, List, [], length, IfOk, OnOk, IfSome, IfNone};
+ghost use Rattle.std.specs.List.{flat_map};
+ghost use Rattle.lms_spec.specs.Parameters.{lms_public_key_length};
+ghost use Rattle.lms_spec.specs.Tree.{lms_signature};
+ghost use Rattle.lms_tree.specs.Bands.{bottom_height as bottom_height_of, tallest_subtree};
+ghost use Rattle.lms_tree.specs.Held.{nodes_in};
+ghost use Rattle.lms_tree.specs.Kept.{AreNodes, HasShape, IsSignatureAlong, ServesLeaf, subtree_rows, upper_rows};
+ghost use Rattle.lms_tree.specs.TreeKey.{tree_of, signature_length_under};
+ghost use Rattle.lms_kept.specs.Ways.{IsKeptChild, IsMoved, level_text};
+
+use lms_hss::{LMS_KEY_LEN, randomizer};
+use lms_params::{OutOfMemory, lms_sig_len};
+use lms_tree::{BandTree, KeptTree, Progress, TreeKey, bottom_height};
+use std::alloc::Global;
+use std::thread::Threads;
+
+/// A tree that serves the leaves of one of its bottom subtrees, with nodes that were given, and, given, too, the signature of its public key by the
+/// tree above, and that key. Of a top tree nothing is signed.
+#[derive(Drop)]
+pub(crate) struct KeptLevel {
+    pub(crate) tree: KeptTree,
+    pub(crate) signed: Vec<u8>,
+}
+
+impl KeptLevel {
+    /// A top tree, which no level signs, worked out. It serves this leaf.
+    pub(crate) fn top(
+        rt: &(impl Threads + Sync),
+        alloc: Global,
+        key: TreeKey,
+        leaf: u32,
+        progress: &impl Progress,
+    ) -> Result<Self, OutOfMemory>
+        requires { leaf < 2 ^ (tree_of key).lms.h }
+        ensures key { IfOk result (λ level. level.tree.key ≡ key) }
+        ensures served { IfOk result (λ level. ServesLeaf level.tree leaf) }
+        ensures shape { IfOk result (λ level. HasShape level.tree) }
+        ensures nodes { IfOk result (λ level. AreNodes level.tree) }
+        ensures signed { IfOk result (λ level. level.signed.items ≡ []) }
+    {
+        let tree = worked_out(rt, alloc, key, leaf, progress)?;
+        let signed = Vec::new(alloc);
+        Ok(KeptLevel { tree, signed })
+    }
+
+    /// The tree of this key, which stands below leaf q. It is worked out and serves leaf `below`, and leaf q, which must be served, signs its public
+    /// key.
+    pub(crate) fn child(
+        &self,
+        rt: &(impl Threads + Sync),
+        alloc: Global,
+        q: u32,
+        key: TreeKey,
+        below: u32,
+        progress: &impl Progress,
+    ) -> Result<Self, OutOfMemory>
+        requires served { ServesLeaf self.now.tree q }
+        requires below { below < 2 ^ (tree_of key).lms.h }
+        ensures { IfOk result (IsKeptChild self.now q key below) }
+    {
+        let above = self.tree.key();
+        let mut signed = vec![in alloc; 0; lms_sig_len(above.lms, above.ots) + LMS_KEY_LEN]?;
+        let tree = worked_out(rt, alloc, key, below, progress)?;
+        self.sign_key_into(q, &randomizer(&above, q), &tree.public_bytes(), &mut signed);
+        Ok(KeptLevel { tree, signed })
+    }
+
+    /// Goes on to leaf q of its tree. `None` where the node that was given for the root of the bottom subtree there isn't the one that is
+    /// worked out.
+    pub(crate) fn moved_to(
+        self,
+        rt: &(impl Threads + Sync),
+        alloc: Global,
+        q: u32,
+        progress: &impl Progress,
+    ) -> Result<Option<Self>, OutOfMemory>
+        requires leaf { q < 2 ^ (tree_of self.tree.key).lms.h }
+        requires shape { HasShape self.tree }
+        ensures moved { IfOk result (λ moved. IfSome moved (IsMoved self q)) }
+        ensures refused { IfOk result (λ moved. IfNone moved (¬ AreNodes self.tree)) }
+    {
+        let KeptLevel { tree, signed } = self;
+        let subtree = q >> bottom_height(tree.key().lms);
+        if tree.subtree() == subtree {
+            return Ok(Some(KeptLevel { tree, signed }));
+        }
+        match tree.moved_to(rt, alloc, subtree, progress)? {
+            Some(tree) => Ok(Some(KeptLevel { tree, signed })),
+            None => Ok(None),
+        }
+    }
+
+    /// How many leaves are worked out where it goes on to leaf q.
+    pub(crate) fn leaves_to(&self, q: u32) -> u64
+        ensures served { ServesLeaf self.now.tree q → result ≡ 0 }
+        ensures limit { result ≤ 2 ^ tallest_subtree }
+        ensures other { ¬ ServesLeaf self.now.tree q → result ≡ 2 ^ bottom_height_of (tree_of self.now.tree.key).lms.h }
+    {
+        let height = bottom_height(self.tree.key().lms);
+        if self.tree.subtree() == q >> height {
+            0
+        } else {
+            1 << height
+        }
+    }
+
+    /// Appends what is signed of it, and its nodes.
+    pub(crate) fn write(&self, text: &mut Vec<u8>) -> Result<(), OutOfMemory>
+        ensures { OnOk result (text.new.items ≡ text.old.items ++ level_text self.now) }
+    {
+        text.extend_from_slice(&self.signed)?;
+        text.extend_from_slice(self.tree.upper().as_flattened())?;
+        text.extend_from_slice(self.tree.lower().as_flattened())?;
+        Ok(())
+    }
+
+    /// A level that serves leaf q of a tree, of which so many bytes are signed, at the front of a text, and the rest of that. `None` where the text
+    /// is shorter.
+    pub(crate) fn split<'a>(
+        alloc: Global,
+        key: TreeKey,
+        q: u32,
+        signed: usize,
+        text: &'a [u8],
+    ) -> Result<Option<(Self, &'a [u8])>, OutOfMemory>
+        requires { q < 2 ^ (tree_of key).lms.h }
+        ensures key { IfOk result (λ split. IfSome split (λ s. s.0.tree.key ≡ key)) }
+        ensures served { IfOk result (λ split. IfSome split (λ s. ServesLeaf s.0.tree q)) }
+        ensures shape { IfOk result (λ split. IfSome split (λ s. HasShape s.0.tree)) }
+        ensures signed { IfOk result (λ split. IfSome split (λ s. length s.0.signed.items ≡ signed)) }
+        ensures text { IfOk result (λ split. IfSome split (λ s. text.now ≡ level_text s.0 ++ s.1.now)) }
+        ensures none { IfOk result (λ split. IfNone split (length text.now
+            < signed + 32 * (nodes_in (upper_rows (tree_of key).lms.h) + nodes_in (subtree_rows (tree_of key).lms.h 0)))) }
+    {
+        let (in_upper, in_lower) = KeptTree::counts(key.lms);
+        let Some((signed, rest)) = text.split_at_checked(signed) else {
+            return Ok(None);
+        };
+        let Some((upper, rest)) = split_nodes(rest, in_upper) else {
+            return Ok(None);
+        };
+        let Some((lower, rest)) = split_nodes(rest, in_lower) else {
+            return Ok(None);
+        };
+        let signed = Vec::from_slice(alloc, signed)?;
+        let upper = Vec::from_slice(alloc, upper)?;
+        let lower = Vec::from_slice(alloc, lower)?;
+        match KeptTree::given(key, q >> bottom_height(key.lms), upper, lower) {
+            Some(tree) => Ok(Some((KeptLevel { tree, signed }, rest))),
+            None => unreachable!(),
+        }
+    }
+
+    /// Appends the LMS signature of a message by leaf q, which is served, under the randomizer `c`.
+    pub(crate) fn append_signature(
+        &self,
+        q: u32,
+        c: &[u8; 32],
+        msg: &[u8],
+        text: &mut Vec<u8>,
+    ) -> Result<(), OutOfMemory>
+        requires { ServesLeaf self.now.tree q }
+        ensures { OnOk result ((signature : List ℕ) × (text.new.items ≡ text.old.items ++ signature)
+            × IsSignatureAlong (tree_of self.now.tree.key) q c.now msg.now signature
+            × (AreNodes self.now.tree → signature ≡ lms_signature (tree_of self.now.tree.key) q c.now msg.now)) }
+    {
+        let key = self.tree.key();
+        let start = text.len();
+        text.resize(start + lms_sig_len(key.lms, key.ots), 0)?;
+        self.tree.sign_into(q, c, msg, &mut text[start..]);
+        Ok(())
+    }
+
+    /// Writes the LMS signature of a public key by leaf q, and that key.
+    fn sign_key_into(&self, q: u32, c: &[u8; 32], public: &[u8; LMS_KEY_LEN], out: &mut [u8])
+        requires served { ServesLeaf self.now.tree q }
+        requires room { length out.old ≡ signature_length_under self.now.tree.key + lms_public_key_length }
+        ensures { (signature : List ℕ) × (out.new ≡ signature ++ public.now)
+            × IsSignatureAlong (tree_of self.now.tree.key) q c.now public.now signature
+            × (AreNodes self.now.tree → signature ≡ lms_signature (tree_of self.now.tree.key) q c.now public.now) }
+    {
+        let signed = out.len() - LMS_KEY_LEN;
+        self.tree.sign_into(q, c, public, &mut out[..signed]);
+        out[signed..].copy_from_slice(public);
+    }
+}
+
+/// What serves a leaf of a tree, worked out.
+fn worked_out(
+    rt: &(impl Threads + Sync),
+    alloc: Global,
+    key: TreeKey,
+    leaf: u32,
+    progress: &impl Progress,
+) -> Result<KeptTree, OutOfMemory>
+    requires { leaf < 2 ^ (tree_of key).lms.h }
+    ensures key { IfOk result (λ tree. tree.key ≡ key) }
+    ensures served { IfOk result (λ tree. ServesLeaf tree leaf) }
+    ensures shape { IfOk result HasShape }
+    ensures nodes { IfOk result AreNodes }
+{
+    let tree = BandTree::build_watched(rt, alloc, key, leaf, leaf, progress)?;
+    Ok(tree.into_kept())
+}
+
+/// So many values of 32 bytes at the front of a text, and the rest of that. `None` where the text is shorter.
+fn split_nodes(text: &[u8], count: usize) -> Option<(&[[u8; 32]], &[u8])>
+    ensures some { IfSome result (λ r. text.now ≡ flat_map (λ x. x) r.0.now ++ r.1.now) }
+    ensures count { IfSome result (λ r. length r.0.now ≡ count) }
+    ensures rest { IfSome result (λ r. length r.1.now + 32 * count ≡ length text.now) }
+    ensures none { IfNone result (length text.now < 32 * count) }
+{
+    let length = count.checked_mul(32)?;
+    let (nodes, rest) = text.split_at_checked(length)?;
+    let (nodes, _) = nodes.as_chunks::<32>();
+    Some((nodes, rest))
+}

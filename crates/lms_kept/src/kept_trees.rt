@@ -1,0 +1,347 @@
+//! The trees on the way of an index, with nodes that were given.
+ghost use Rattle.std.specs.Prelude.{ℕ, ◌≡◌, ◌+◌, ◌-◌, ◌*◌, ◌^◌, ◌<◌, ◌≤◌, ◌↔◌, ◌++◌, length, slice_index_or, IsTrue, IfOk, IfSome, IfNone};
+ghost use Rattle.std.specs.List.{flat_map};
+ghost use Rattle.lms_spec.specs.Bytes.{u32str};
+ghost use Rattle.lms_spec.specs.Hss.{capacity_of, HssAccepts};
+ghost use Rattle.lms_spec.specs.Profile.{hss_signature, hss_public_key};
+ghost use Rattle.lms_hss.specs.Keys.{hss_key_of};
+ghost use Rattle.lms_kept.specs.Ways.{AreGenuine, bottom_of, EndsAlong, IsOnWay, IsWay, level_length, level_text, most_text_length, nodes_text, public_of, Serves, signed_keys as signed_keys_of, SignOwnKeys, SignsNoOther, Way};
+ghost use Rattle.lms_kept.specs.declared.kept_level.KeptLevel.{KeptLevel as LevelKept};
+
+use crate::kept_level::KeptLevel;
+use crate::kept_text::{CHECK_LEN, HEADER_LEN, check_value, checked_rest, header};
+use crate::levels::{leaves_from, level_len, shared_levels, signed_len};
+use lms_hss::{HssKey, Progress, public_key_bytes, verify};
+use lms_params::OutOfMemory;
+use lms_tree::bottom_height;
+use std::alloc::Global;
+use std::marker::Model;
+use std::thread::Threads;
+
+/// Of each level from the top the tree that an index goes through, with the nodes that serve the leaves of one of its bottom subtrees, and
+/// what is signed of it by the level above. Where they were read from a text, its check value was right; whether the nodes are is not known.
+/// An upper level signs the public key of a tree only where that tree was worked out. Contracts see the key, the index and all that was
+/// given.
+#[derive(Drop)]
+pub struct KeptTrees {
+    key: HssKey,
+    at: u64,
+    levels: Vec<KeptLevel>,
+}
+
+impl Model for KeptTrees {
+    ghost use Rattle.lms_kept.specs.Ways.{IsWay, Way};
+
+    ghost Value = { Way };
+
+    ghost view = { λ a. record { key = a.key; at = a.at; levels = a.levels.items } };
+
+    ghost invariant = { λ a. IsWay (record { key = a.key; at = a.at; levels = a.levels.items }) };
+}
+
+impl KeptTrees {
+    /// Works out the top tree alone, on the way of the first index, as for a new key, whose public key needs it. `progress` is told how
+    /// many leaves are worked out. `OutOfMemory` where memory is refused.
+    pub fn top(
+        rt: &(impl Threads + Sync),
+        alloc: Global,
+        key: HssKey,
+        progress: &impl Progress,
+    ) -> Result<Self, OutOfMemory>
+        ensures key { IfOk result (λ trees. trees.key ≡ key) }
+        ensures at { IfOk result (λ trees. trees.at ≡ 0) }
+        ensures alone { IfOk result (λ trees. length trees.levels ≡ 1) }
+        ensures way { IfOk result IsWay }
+        ensures genuine { IfOk result AreGenuine }
+    {
+        let (lms, _) = key.levels.as_slice()[0];
+        progress.begin(1 << lms.height());
+        KeptTrees::top_of(rt, alloc, key, 0, progress)
+    }
+
+    /// Works out the trees on the way of an index, level by level from the top, and tells `progress` how many leaves of all these trees.
+    /// `OutOfMemory` where memory is refused.
+    pub fn work_out(
+        rt: &(impl Threads + Sync),
+        alloc: Global,
+        key: HssKey,
+        at: u64,
+        progress: &impl Progress,
+    ) -> Result<Self, OutOfMemory>
+        requires { at < capacity_of (hss_key_of key) }
+        ensures key { IfOk result (λ trees. trees.key ≡ key) }
+        ensures at { IfOk result (λ trees. trees.at ≡ at) }
+        ensures serves { IfOk result (λ trees. Serves trees at) }
+        ensures way { IfOk result IsWay }
+        ensures genuine { IfOk result AreGenuine }
+    {
+        progress.begin(leaves_from(&key, 0));
+        KeptTrees::top_of(rt, alloc, key, at, progress)?.completed(rt, alloc, progress)
+    }
+
+    /// Whether all levels are there, and index g is signed by the nodes that are there.
+    pub fn serves(&self, g: u64) -> bool
+        ensures { IsTrue result ↔ Serves self.now g }
+    {
+        let levels = self.key.levels.as_slice();
+        let (lms, _) = levels[levels.len() - 1];
+        let height = bottom_height(lms);
+        self.levels.len() == levels.len() && g >> height == self.at >> height
+    }
+
+    /// Goes on to the way of index g. It works out a bottom subtree of the lowest tree held that index g goes through, too, where that tree
+    /// serves another one, and all trees below it. The public key of each of these is signed by the tree above it; what is signed of the
+    /// others stays as it was given. `progress` is told how many leaves are worked out. `None` where the node that was given for the root of
+    /// that bottom subtree is another one; `OutOfMemory` where memory is refused.
+    pub fn moved_to(
+        self,
+        rt: &(impl Threads + Sync),
+        alloc: Global,
+        g: u64,
+        progress: &impl Progress,
+    ) -> Result<Option<Self>, OutOfMemory>
+        requires { g < capacity_of (hss_key_of self.key) }
+        ensures key { IfOk result (λ moved. IfSome moved (λ trees. trees.key ≡ self.key)) }
+        ensures at { IfOk result (λ moved. IfSome moved (λ trees. trees.at ≡ g)) }
+        ensures serves { IfOk result (λ moved. IfSome moved (λ trees. Serves trees g)) }
+        ensures way { IfOk result (λ moved. IfSome moved IsWay) }
+        ensures signs { IfOk result (λ moved. IfSome moved (SignsNoOther self)) }
+        ensures genuine { IfOk result (λ moved. IfSome moved (λ trees. AreGenuine self → AreGenuine trees)) }
+        ensures refused { IfOk result (λ moved. IfNone moved (¬ AreGenuine self)) }
+    {
+        let KeptTrees {
+            key,
+            at,
+            mut levels,
+        } = self;
+        let shared = shared_levels(&key, at, g).min(levels.len());
+        levels.truncate(shared);
+        let Some(last) = levels.pop() else {
+            unreachable!()
+        };
+        let leaf = key.place(g, shared - 1);
+        progress.begin(last.leaves_to(leaf) + leaves_from(&key, shared));
+        let Some(last) = last.moved_to(rt, alloc, leaf, progress)? else {
+            return Ok(None);
+        };
+        levels.push(last)?;
+        let trees = KeptTrees { key, at: g, levels };
+        Ok(Some(trees.completed(rt, alloc, progress)?))
+    }
+
+    /// The signature of a message by index g, which must be served, under the randomizer `c` (RFC 8554, 6.2), where it is accepted under
+    /// the key's public key as `public` has it. `None` where it isn't, which comes only where what was given is not right. In any case the
+    /// one-time signature of the message is RFC 8554's. Each index must sign one message only, which nothing here checks. `OutOfMemory`
+    /// where memory for the signature is refused.
+    pub fn sign(
+        &self,
+        alloc: Global,
+        g: u64,
+        c: &[u8; 32],
+        msg: &[u8],
+    ) -> Result<Option<Vec<u8>>, OutOfMemory>
+        requires { Serves self.now g }
+        ensures along { IfOk result (λ signed. IfSome signed (λ text. EndsAlong self.now g c.now msg.now text.items)) }
+        ensures signature { IfOk result (λ signed. IfSome signed (λ text. AreGenuine self.now
+            → text.items ≡ hss_signature (hss_key_of self.now.key) g c.now msg.now)) }
+        ensures accepted { IfOk result (λ signed. IfSome signed (λ text. AreGenuine self.now
+            → HssAccepts (hss_public_key (hss_key_of self.now.key)) msg.now text.items)) }
+        ensures checked { IfOk result (λ signed. IfSome signed (λ text. (other : LevelKept)
+            → HssAccepts (public_of self.now other) msg.now text.items)) }
+        ensures refused { IfOk result (λ signed. IfNone signed (¬ AreGenuine self.now)) }
+    {
+        let text = self.signed(alloc, g, c, msg)?;
+        if verify(&self.public(), msg, &text) {
+            Ok(Some(text))
+        } else {
+            Ok(None)
+        }
+    }
+
+    /// The public key over the node that was given for the root of the top tree, 60 bytes (RFC 8554, 6.1).
+    pub fn public(&self) -> [u8; 60]
+        ensures given { (other : LevelKept) → result ≡ public_of self.now other }
+        ensures right { AreGenuine self.now → result ≡ hss_public_key (hss_key_of self.now.key) }
+    {
+        let levels = self.key.levels.as_slice().len();
+        public_key_bytes(levels as u32, &self.level(0).tree.public_bytes())
+    }
+
+    /// The text of a file that keeps all of this, of at most `MOST_TEXT_LEN` bytes. `OutOfMemory` where memory for it is refused.
+    pub fn text(&self, alloc: Global) -> Result<Vec<u8>, OutOfMemory>
+        ensures text { IfOk result (λ text. text.items ≡ nodes_text self.now) }
+        ensures at_most { IfOk result (λ text. length text.items ≤ most_text_length) }
+    {
+        let mut text = header(alloc, self.at, self.text_len())?;
+        for level in &self.levels {
+            level.write(&mut text)?;
+        }
+        let check = check_value(&self.key, &text);
+        text.extend_from_slice(&check)?;
+        Ok(text)
+    }
+
+    /// What a text keeps for a key. `None` exactly where it is no text of that key's: of another version, of another key, too short or too
+    /// long, or changed. `OutOfMemory` where memory is refused.
+    pub fn read(alloc: Global, key: HssKey, text: &[u8]) -> Result<Option<Self>, OutOfMemory>
+        ensures key { IfOk result (λ read. IfSome read (λ trees. trees.key ≡ key)) }
+        ensures way { IfOk result (λ read. IfSome read IsWay) }
+        ensures text { IfOk result (λ read. IfSome read (λ trees. text.now ≡ nodes_text trees)) }
+        ensures none { IfOk result (λ read. IfNone read ((way : Way) → IsWay way → way.key ≡ key → ¬ (text.now ≡ nodes_text way))) }
+    {
+        let capacity = key.capacity();
+        let Some((at, rest)) = checked_rest(&key, text) else {
+            return Ok(None);
+        };
+        if at >= capacity {
+            return Ok(None);
+        }
+        let (levels, rest) = split_levels(alloc, &key, at, rest)?;
+        if levels.is_empty() {
+            return Ok(None);
+        }
+        if !rest.is_empty() {
+            return Ok(None);
+        }
+        Ok(Some(KeptTrees { key, at, levels }))
+    }
+
+    /// The top tree alone, worked out, on the way of an index.
+    fn top_of(
+        rt: &(impl Threads + Sync),
+        alloc: Global,
+        key: HssKey,
+        at: u64,
+        progress: &impl Progress,
+    ) -> Result<Self, OutOfMemory>
+        requires { at < capacity_of (hss_key_of key) }
+        ensures key { IfOk result (λ trees. trees.key ≡ key) }
+        ensures at { IfOk result (λ trees. trees.at ≡ at) }
+        ensures alone { IfOk result (λ trees. length trees.levels ≡ 1) }
+        ensures way { IfOk result IsWay }
+        ensures genuine { IfOk result AreGenuine }
+    {
+        let level = KeptLevel::top(rt, alloc, key.tree_key(at, 0), key.place(at, 0), progress)?;
+        let mut levels = Vec::new(alloc);
+        levels.push(level)?;
+        Ok(KeptTrees { key, at, levels })
+    }
+
+    /// Works out the levels that are not there, each below the one above it.
+    fn completed(
+        self,
+        rt: &(impl Threads + Sync),
+        alloc: Global,
+        progress: &impl Progress,
+    ) -> Result<Self, OutOfMemory>
+        ensures key { IfOk result (λ trees. trees.key ≡ self.key) }
+        ensures at { IfOk result (λ trees. trees.at ≡ self.at) }
+        ensures all { IfOk result (λ trees. length trees.levels ≡ length self.key.levels) }
+        ensures way { IfOk result IsWay }
+        ensures same { IfOk result (λ trees. (k : ℕ) (other : LevelKept) → k < length self.levels
+            → slice_index_or trees.levels k other ≡ slice_index_or self.levels k other) }
+        ensures signs { IfOk result (λ trees. SignOwnKeys (hss_key_of self.key) self.at (length self.levels) trees.levels) }
+        ensures genuine { IfOk result (λ trees. AreGenuine self → AreGenuine trees) }
+    {
+        let KeptTrees {
+            key,
+            at,
+            mut levels,
+        } = self;
+        for k in levels.len()..key.levels.as_slice().len() {
+            let child = levels[k - 1].child(
+                rt,
+                alloc,
+                key.place(at, k - 1),
+                key.tree_key(at, k),
+                key.place(at, k),
+                progress,
+            )?;
+            levels.push(child)?;
+        }
+        Ok(KeptTrees { key, at, levels })
+    }
+
+    /// The signature of a message by index g.
+    fn signed(
+        &self,
+        alloc: Global,
+        g: u64,
+        c: &[u8; 32],
+        msg: &[u8],
+    ) -> Result<Vec<u8>, OutOfMemory>
+        requires { Serves self.now g }
+        ensures along { IfOk result (λ text. EndsAlong self.now g c.now msg.now text.items) }
+        ensures signature { IfOk result (λ text. AreGenuine self.now → text.items ≡ hss_signature (hss_key_of self.now.key) g c.now msg.now) }
+        ensures accepted { IfOk result (λ text. AreGenuine self.now → HssAccepts (hss_public_key (hss_key_of self.now.key)) msg.now text.items) }
+    {
+        let bottom = self.key.levels.as_slice().len() - 1;
+        let mut text = self.signed_keys(alloc)?;
+        self.level(bottom)
+            .append_signature(self.key.place(g, bottom), c, msg, &mut text)?;
+        Ok(text)
+    }
+
+    /// What stands before the signature of a message: how many public keys are signed, and what is signed of each level.
+    fn signed_keys(&self, alloc: Global) -> Result<Vec<u8>, OutOfMemory>
+        ensures { IfOk result (λ text. text.items ≡ u32str (bottom_of self.now.key) ++ signed_keys_of self.now.levels) }
+    {
+        let signed_keys = self.key.levels.as_slice().len() as u32 - 1;
+        let mut text = Vec::with_capacity(alloc, self.key.sig_len())?;
+        text.extend_from_slice(&signed_keys.to_be_bytes())?;
+        for level in &self.levels {
+            text.extend_from_slice(&level.signed)?;
+        }
+        Ok(text)
+    }
+
+    /// The bytes of the text of a file that keeps all of this.
+    fn text_len(&self) -> usize
+        ensures { result ≡ length (nodes_text self.now) }
+    {
+        let mut length = HEADER_LEN + CHECK_LEN;
+        for k in 0..self.levels.len() {
+            length += level_len(&self.key, k);
+        }
+        length
+    }
+
+    /// Level k.
+    fn level(&self, k: usize) -> &KeptLevel
+        requires { k < length self.now.levels }
+        ensures level { result.now ≡ slice_index_or self.now.levels k result.now }
+        ensures way { IsOnWay (hss_key_of self.now.key) self.now.at k result.now }
+    {
+        &self.levels[k]
+    }
+}
+
+/// As many levels as a text has, from the top on, on the way of an index, and what is left of the text.
+fn split_levels<'a>(
+    alloc: Global,
+    key: &HssKey,
+    at: u64,
+    text: &'a [u8],
+) -> Result<(Vec<KeptLevel>, &'a [u8]), OutOfMemory>
+    requires { at < capacity_of (hss_key_of key.now) }
+    ensures at_most { IfOk result (λ cut. length cut.0.items ≤ length key.now.levels) }
+    ensures each { IfOk result (λ cut. (k : ℕ) (other : LevelKept) → k < length cut.0.items
+        → IsOnWay (hss_key_of key.now) at k (slice_index_or cut.0.items k other)) }
+    ensures text { IfOk result (λ cut. text.now ≡ flat_map level_text cut.0.items ++ cut.1.now) }
+    ensures ends { IfOk result (λ cut. length cut.0.items < length key.now.levels
+        → length cut.1.now < level_length (hss_key_of key.now) (length cut.0.items)) }
+{
+    let mut levels = Vec::new(alloc);
+    let mut rest = text;
+    for k in 0..key.levels.as_slice().len() {
+        let tree = key.tree_key(at, k);
+        match KeptLevel::split(alloc, tree, key.place(at, k), signed_len(key, k), rest)? {
+            Some((level, after)) => {
+                levels.push(level)?;
+                rest = after;
+            }
+            None => return Ok((levels, rest)),
+        }
+    }
+    Ok((levels, rest))
+}

@@ -1,0 +1,5 @@
+//! Tests of `lms_kept`.
+#![tactic(auto)]
+
+#[cfg(test)]
+mod tests;

@@ -1,0 +1,347 @@
+//! What tests of this crate share, and that kept trees sign as forests do.
+ghost use Rattle.std.specs.Prelude.{◌≡◌, IfOk, IfSome};
+
+mod texts;
+mod wrong;
+
+use lms_hss::{Forest, HssKey, KeyFault, Levels, Progress, verify};
+use lms_kept::{KeptSignature, KeptTrees, sign_by_text};
+use lms_params::{LmsType, OtsType, OutOfMemory};
+use std::process::Abort;
+use std::sync::atomic::{AtomicU64, Ordering};
+use std::test::Fail;
+use std::thread::Threads;
+
+const RANDOMIZER: [u8; 32] = [0x33; 32];
+
+/// A level of 5/8.
+const LEVEL: (LmsType, OtsType) = (LmsType::H5, OtsType::W8);
+
+/// A level whose trees are worked out quickly.
+const QUICK: (LmsType, OtsType) = (LmsType::H5, OtsType::W2);
+
+/// Three levels of different widths.
+const THREE_LEVELS: [(LmsType, OtsType); 3] = [
+    LEVEL,
+    (LmsType::H5, OtsType::W4),
+    (LmsType::H5, OtsType::W2),
+];
+
+/// A bottom tree of 32 leaves below each leaf of a tree of 32 bottom subtrees.
+const TALL_ABOVE: [(LmsType, OtsType); 2] = [
+    (LmsType::H15, OtsType::W1),
+    (LmsType::H5, OtsType::W1),
+];
+
+/// The key of these levels.
+fn key_of(levels: &[(LmsType, OtsType)]) -> Result<HssKey, KeyFault> {
+    Ok(HssKey::new(Levels::new(levels)?, [0x11; 32], [0x22; 16]))
+}
+
+/// Counts the calls that begin, adds up what they are to work out and what is done, and counts those that begin in the midst of another one.
+#[derive(Drop)]
+struct Sums {
+    begun: AtomicU64,
+    to_do: AtomicU64,
+    done: AtomicU64,
+    in_between: AtomicU64,
+}
+
+impl Progress for Sums {
+    fn begin(&self, leaves: u64) {
+        self.begun.fetch_add(1, Ordering::SeqCst);
+        let before = self.to_do.fetch_add(leaves, Ordering::SeqCst);
+        if self.done.load(Ordering::SeqCst) != before {
+            self.in_between.fetch_add(1, Ordering::SeqCst);
+        }
+    }
+
+    fn done(&self, leaves: u64) {
+        self.done.fetch_add(leaves, Ordering::SeqCst);
+    }
+}
+
+fn no_sums() -> Sums {
+    Sums {
+        begun: AtomicU64::new(0),
+        to_do: AtomicU64::new(0),
+        done: AtomicU64::new(0),
+        in_between: AtomicU64::new(0),
+    }
+}
+
+/// So many calls began, each before its first leaf, and so many leaves were to be worked out by all, and were.
+fn check_sums(rt: &impl Abort, sums: &Sums, calls: u64, leaves: u64) {
+    assert_eq!(rt; sums.begun.load(Ordering::SeqCst), calls);
+    assert_eq!(rt; sums.in_between.load(Ordering::SeqCst), 0);
+    assert_eq!(rt; sums.to_do.load(Ordering::SeqCst), leaves);
+    assert_eq!(rt; sums.done.load(Ordering::SeqCst), leaves);
+}
+
+/// The trees of an index that a key has.
+fn work_out(
+    rt: &(impl Abort + AllocGlobal + Threads + Sync),
+    key: HssKey,
+    at: u64,
+    sums: &Sums,
+) -> Result<KeptTrees, Fail>
+    ensures { IfOk result (λ trees. trees.key ≡ key) }
+{
+    assert!(rt; at < key.capacity());
+    Ok(KeptTrees::work_out(rt, rt.alloc(), key, at, sums)?)
+}
+
+/// The trees of another index that the key has, or none where what was given is wrong.
+fn moved(
+    rt: &(impl Abort + AllocGlobal + Threads + Sync),
+    key: HssKey,
+    trees: KeptTrees,
+    g: u64,
+    sums: &Sums,
+) -> Result<Option<KeptTrees>, Fail>
+    requires { trees.key ≡ key }
+    ensures { IfOk result (λ moved. IfSome moved (λ trees. trees.key ≡ key)) }
+{
+    assert!(rt; g < key.capacity());
+    Ok(trees.moved_to(rt, rt.alloc(), g, sums)?)
+}
+
+/// The signature of `abc` by an index that is served, or none where it is not accepted.
+fn signed(
+    rt: &(impl Abort + AllocGlobal),
+    trees: &KeptTrees,
+    g: u64,
+) -> Result<Option<Vec<u8>>, Fail> {
+    assert!(rt; trees.serves(g), "{g}");
+    Ok(trees.sign(rt.alloc(), g, &RANDOMIZER, b"abc")?)
+}
+
+/// The signature of `abc` by an index, from trees that are worked out for it alone.
+fn expected(
+    rt: &(impl Abort + AllocGlobal + Threads + Sync),
+    key: HssKey,
+    g: u64,
+) -> Result<Vec<u8>, Fail> {
+    assert!(rt; g < key.capacity());
+    let forest = Forest::cover(rt, rt.alloc(), key, g, 1)?;
+    Ok(forest.sign(g, &RANDOMIZER, b"abc")?)
+}
+
+/// An index is signed as by trees that are worked out for it alone.
+fn check_index(
+    rt: &(impl Abort + AllocGlobal + Threads + Sync),
+    key: HssKey,
+    trees: &KeptTrees,
+    g: u64,
+) -> Result<(), Fail> {
+    let signature = signed(rt, trees, g)?.ok_or("an accepted signature")?;
+    assert!(rt; signature == expected(rt, key, g)?, "{g}");
+    Ok(())
+}
+
+/// What a text keeps signs an index, moved on where it doesn't serve it, and is kept again.
+fn check_next(
+    rt: &(impl Abort + AllocGlobal + Threads + Sync),
+    key: HssKey,
+    text: &[u8],
+    g: u64,
+) -> Result<Vec<u8>, Fail> {
+    let kept = KeptTrees::read(rt.alloc(), key, text)?.ok_or("a text of the key")?;
+    let trees = if kept.serves(g) {
+        kept
+    } else {
+        moved(rt, key, kept, g, &no_sums())?.ok_or("right nodes")?
+    };
+    check_index(rt, key, &trees, g)?;
+    Ok(trees.text(rt.alloc())?)
+}
+
+/// Indices of a key in this order, each by what was kept for the one before.
+fn check_indices(
+    rt: &(impl Abort + AllocGlobal + Threads + Sync),
+    levels: &[(LmsType, OtsType)],
+    indices: &[u64],
+) -> Result<(), Fail> {
+    let key = key_of(levels)?;
+    let mut text = work_out(rt, key, 0, &no_sums())?.text(rt.alloc())?;
+    for g in indices {
+        text = check_next(rt, key, &text, *g)?;
+    }
+    Ok(())
+}
+
+/// Over the ends of trees of each level, to the last index, and back.
+#[test]
+fn signs_as_trees_that_are_worked_out(rt: HostRuntime) -> Result<(), Fail> {
+    check_indices(
+        &rt,
+        &[LEVEL; 8],
+        &[0, 31, 32, 1023, 1024, 32767, 32768, 1099511627775, 5],
+    )?;
+    let three = [LEVEL, (LmsType::H10, OtsType::W4), LEVEL];
+    check_indices(&rt, &three, &[31, 32, 1023, 1024, 32767, 32768, 1048575])?;
+    check_indices(&rt, &THREE_LEVELS, &[40, 1000, 32767])
+}
+
+/// Over the end of a bottom tree of 1024 leaves.
+#[test]
+fn signs_across_trees_of_height_10(rt: HostRuntime) -> Result<(), Fail> {
+    check_indices(
+        &rt,
+        &[(LmsType::H10, OtsType::W8); 2],
+        &[31, 32, 1023, 1024, 1048575],
+    )
+}
+
+/// Over the end of a bottom subtree of 1024 leaves.
+#[test]
+fn signs_across_bottom_subtrees(rt: HostRuntime) -> Result<(), Fail> {
+    check_indices(
+        &rt,
+        &[(LmsType::H15, OtsType::W4)],
+        &[31, 32, 1023, 1024, 32767],
+    )
+}
+
+/// Over the end of a bottom subtree of the level above, and back.
+#[test]
+fn signs_across_bottom_subtrees_above(rt: HostRuntime) -> Result<(), Fail> {
+    check_indices(&rt, &TALL_ABOVE, &[32767, 32768, 32799, 0])
+}
+
+/// The public key, and each index from the first on, by the top tree of a new key.
+#[test]
+fn begins_with_the_top_tree(rt: HostRuntime) -> Result<(), Fail> {
+    let key = key_of(&THREE_LEVELS)?;
+    let sums = no_sums();
+    let top = KeptTrees::top(&rt, rt.alloc(), key, &sums)?;
+    check_sums(&rt, &sums, 1, 32);
+    assert!(rt; top.public() == key.public_key(&rt, rt.alloc())?);
+    assert!(rt; !top.serves(0));
+    let text = top.text(rt.alloc())?;
+    let _first = check_next(&rt, key, &text, 0)?;
+    let _later = check_next(&rt, key, &text, 2000)?;
+    Ok(())
+}
+
+/// A signature by an index of a key is that of trees which are worked out for it alone, and there are trees to be kept, or none.
+fn check_by_text(
+    rt: &(impl Abort + AllocGlobal + Threads + Sync),
+    key: HssKey,
+    g: u64,
+    text: Option<&[u8]>,
+    keeps: bool,
+) -> Result<KeptSignature, Fail> {
+    assert!(rt; g < key.capacity());
+    let signed = sign_by_text(
+        rt,
+        rt.alloc(),
+        key,
+        g,
+        &RANDOMIZER,
+        b"abc",
+        text,
+        &no_sums(),
+    )?;
+    assert!(rt; signed.signature == expected(rt, key, g)?, "{g}");
+    assert!(rt; signed.trees.is_some() == keeps, "{g}");
+    Ok(signed)
+}
+
+/// By no text; by one that serves the index; by one that is moved on; by that of another key, and by one that is damaged.
+#[test]
+fn signs_by_a_text_or_anew(rt: HostRuntime) -> Result<(), Fail> {
+    let key = key_of(&[QUICK; 2])?;
+    let signed = check_by_text(&rt, key, 31, None, true)?;
+    let mut text = signed.trees.ok_or("trees")?.text(rt.alloc())?;
+    let _same = check_by_text(&rt, key, 30, Some(&text), false)?;
+    let next = check_by_text(&rt, key, 32, Some(&text), true)?;
+    assert!(rt; next.trees.ok_or("trees")?.serves(32));
+    let _other = check_by_text(&rt, key_of(&[LEVEL])?, 31, Some(&text), true)?;
+    if let Some(byte) = text.last_mut() {
+        *byte ^= 1;
+    }
+    let _anew = check_by_text(&rt, key, 30, Some(&text), true)?;
+    Ok(())
+}
+
+/// Trees of two levels; the next bottom tree; one that is served already; the next bottom subtree of a tree of height 15, and the tree below it.
+#[test]
+fn tells_of_the_leaves_that_are_worked_out(rt: HostRuntime) -> Result<(), Fail> {
+    let key = key_of(&[QUICK; 2])?;
+    let sums = no_sums();
+    let first = work_out(&rt, key, 0, &sums)?;
+    check_sums(&rt, &sums, 1, 64);
+    let next = moved(&rt, key, first, 32, &sums)?.ok_or("right nodes")?;
+    check_sums(&rt, &sums, 2, 64 + 32);
+    let same = moved(&rt, key, next, 63, &sums)?.ok_or("right nodes")?;
+    check_sums(&rt, &sums, 3, 64 + 32);
+    drop(same);
+    let tall = key_of(&TALL_ABOVE)?;
+    let below = no_sums();
+    let start = work_out(&rt, tall, 0, &below)?;
+    let there = moved(&rt, tall, start, 32768, &below)?.ok_or("right nodes")?;
+    drop(there);
+    check_sums(&rt, &below, 2, 32768 + 32 + 1024 + 32);
+    Ok(())
+}
+
+/// `rt test` refuses no memory, and `tests/refused` each request of a test in turn: where a call is refused, a second one works.
+#[test]
+fn signs_after_refused_memory(rt: HostRuntime) -> Result<(), Fail> {
+    let key = key_of(&[(LmsType::H5, OtsType::W1); 2])?;
+    assert!(rt; key.capacity() == 1024);
+    let trees = match KeptTrees::work_out(&rt, rt.alloc(), key, 31, &no_sums()) {
+        Ok(trees) => trees,
+        Err(OutOfMemory) => KeptTrees::work_out(&rt, rt.alloc(), key, 31, &no_sums())?,
+    };
+    let text = match trees.text(rt.alloc()) {
+        Ok(text) => text,
+        Err(OutOfMemory) => trees.text(rt.alloc())?,
+    };
+    let kept = match KeptTrees::read(rt.alloc(), key, &text) {
+        Ok(kept) => kept,
+        Err(OutOfMemory) => KeptTrees::read(rt.alloc(), key, &text)?,
+    };
+    let kept = kept.ok_or("a text of the key")?;
+    let next = match kept.moved_to(&rt, rt.alloc(), 32, &no_sums()) {
+        Ok(next) => next,
+        Err(OutOfMemory) => trees.moved_to(&rt, rt.alloc(), 32, &no_sums())?,
+    };
+    let next = next.ok_or("right nodes")?;
+    assert!(rt; next.serves(32));
+    let signature = match next.sign(rt.alloc(), 32, &RANDOMIZER, b"abc") {
+        Ok(signature) => signature,
+        Err(OutOfMemory) => next.sign(rt.alloc(), 32, &RANDOMIZER, b"abc")?,
+    };
+    let top = match KeptTrees::top(&rt, rt.alloc(), key, &no_sums()) {
+        Ok(top) => top,
+        Err(OutOfMemory) => KeptTrees::top(&rt, rt.alloc(), key, &no_sums())?,
+    };
+    let signature = signature.ok_or("an accepted signature")?;
+    assert!(rt; verify(&top.public(), b"abc", &signature));
+    let by_text = match sign_by_text(
+        &rt,
+        rt.alloc(),
+        key,
+        32,
+        &RANDOMIZER,
+        b"abc",
+        Some(&text),
+        &no_sums(),
+    ) {
+        Ok(signed) => signed,
+        Err(OutOfMemory) => sign_by_text(
+            &rt,
+            rt.alloc(),
+            key,
+            32,
+            &RANDOMIZER,
+            b"abc",
+            Some(&text),
+            &no_sums(),
+        )?,
+    };
+    assert!(rt; by_text.signature == signature);
+    Ok(())
+}

@@ -1,0 +1,204 @@
+//! Texts with the right check value and wrong nodes, as only a holder of the seed can make them.
+ghost use Rattle.std.specs.Prelude.{◌≡◌, IfOk};
+
+use crate::tests::{QUICK, TALL_ABOVE, expected, key_of, moved, no_sums, signed, work_out};
+use lms_hss::{HssKey, verify};
+use lms_kept::KeptTrees;
+use lms_params::{LmsType, OtsType};
+use sha2::{Digest, Sha256};
+use std::process::Abort;
+use std::test::Fail;
+
+/// Where the nodes of the top tree begin.
+const TOP: usize = 16;
+
+/// What the check value of these keys goes by: the value derived at leaf 0 under the number 0xfffc.
+fn secret() -> [u8; 32] {
+    let mut hasher = Sha256::new();
+    hasher.update([0x22; 16]);
+    hasher.update([0, 0, 0, 0, 0xff, 0xfc, 0xff]);
+    hasher.update([0x11; 32]);
+    hasher.finalize()
+}
+
+/// The hash of the typecodes of a key's levels, before what stands in a text before the check value.
+fn digest(key: &HssKey, body: &[u8]) -> [u8; 32] {
+    let levels = key.levels.as_slice();
+    let mut hasher = Sha256::new();
+    hasher.update((levels.len() as u32).to_be_bytes());
+    for (lms, ots) in levels {
+        hasher.update(lms.code().to_be_bytes());
+        hasher.update(ots.code().to_be_bytes());
+    }
+    hasher.update(body);
+    hasher.finalize()
+}
+
+/// Gives a text the check value that is right for what stands before it.
+fn check_again(key: &HssKey, text: &mut [u8]) {
+    let length = text.len().saturating_sub(32);
+    let (body, check) = text.split_at_mut(length);
+    let mut hasher = Sha256::new();
+    hasher.update(secret());
+    hasher.update(digest(key, body));
+    if check.len() == 32 {
+        check.copy_from_slice(&hasher.finalize());
+    }
+}
+
+/// The 32 bytes at a place of a text.
+fn at(text: &[u8], start: usize) -> [u8; 32] {
+    let mut value = [0; 32];
+    if let Some(part) = text.get(start..start.saturating_add(32)) {
+        value.copy_from_slice(part);
+    }
+    value
+}
+
+/// Sets them.
+fn set(text: &mut [u8], start: usize, value: &[u8; 32]) {
+    if let Some(part) = text.get_mut(start..start.saturating_add(32)) {
+        part.copy_from_slice(value);
+    }
+}
+
+/// A node over its two children (RFC 8554, 5.3).
+fn node(r: u32, left: &[u8; 32], right: &[u8; 32]) -> [u8; 32] {
+    let mut hasher = Sha256::new();
+    hasher.update([0x22; 16]);
+    hasher.update(r.to_be_bytes());
+    hasher.update([0x83, 0x83]);
+    hasher.update(left);
+    hasher.update(right);
+    hasher.finalize()
+}
+
+/// Where node r of a top tree of height 5 stands in a text: after the root, which stands there once more.
+fn place(r: u32) -> usize {
+    TOP.saturating_add(32)
+        .saturating_add(32 * (r as usize).saturating_sub(1))
+}
+
+/// Changes the node of leaf 1 of a top tree of height 5, and all nodes above it with it.
+fn change_consistently(key: &HssKey, text: &mut [u8]) {
+    let changed = at(text, place(33)).map(|byte| byte ^ 1);
+    set(text, place(33), &changed);
+    for r in [16, 8, 4, 2, 1] {
+        let value = node(r, &at(text, place(2 * r)), &at(text, place(2 * r + 1)));
+        set(text, place(r), &value);
+    }
+    let root = at(text, place(1));
+    set(text, TOP, &root);
+    check_again(key, text);
+}
+
+/// What a changed text keeps, which the key takes.
+fn taken(rt: &impl AllocGlobal, key: HssKey, text: &[u8]) -> Result<KeptTrees, Fail>
+    ensures { IfOk result (λ trees. trees.key ≡ key) }
+{
+    Ok(KeptTrees::read(rt.alloc(), key, text)?.ok_or("the right check value")?)
+}
+
+/// A changed node in a leaf's path makes its signature one that is not accepted, and so none; by other leaves it plays no part.
+#[test]
+fn gives_no_signature_by_a_changed_node(rt: HostRuntime) -> Result<(), Fail> {
+    let key = key_of(&[QUICK])?;
+    let mut text = work_out(&rt, key, 0, &no_sums())?.text(rt.alloc())?;
+    let changed = at(&text, place(33)).map(|byte| byte ^ 1);
+    set(&mut text, place(33), &changed);
+    check_again(&key, &mut text);
+    let trees = taken(&rt, key, &text)?;
+    assert!(rt; signed(&rt, &trees, 0)?.is_none());
+    assert!(rt; signed(&rt, &trees, 2)? == Some(expected(&rt, key, 2)?));
+    Ok(())
+}
+
+/// Where all nodes above are changed with it, the worst is a signature that the key's public key refuses.
+#[test]
+fn signs_what_is_refused_at_worst(rt: HostRuntime) -> Result<(), Fail> {
+    let key = key_of(&[QUICK])?;
+    let public = key.public_key(&rt, rt.alloc())?;
+    let mut text = work_out(&rt, key, 0, &no_sums())?.text(rt.alloc())?;
+    change_consistently(&key, &mut text);
+    let trees = taken(&rt, key, &text)?;
+    assert!(rt; trees.public() != public);
+    let wrong = signed(&rt, &trees, 0)?.ok_or("a signature under the changed root")?;
+    let right = expected(&rt, key, 0)?;
+    assert!(rt; verify(&trees.public(), b"abc", &wrong) && !verify(&public, b"abc", &wrong));
+    assert!(rt; verify(&public, b"abc", &right) && !verify(&trees.public(), b"abc", &right));
+    // But for the path, which begins after 4 + 4 + 4292 + 4 bytes, it is the right one.
+    assert!(rt; wrong.len() == right.len() && wrong.get(..4304) == right.get(..4304));
+    Ok(())
+}
+
+/// A tree that is worked out below a leaf of a changed tree has its own public key signed, by the same one-time signature as ever: only the
+/// path above it is another one.
+#[test]
+fn signs_the_same_public_keys_at_worst(rt: HostRuntime) -> Result<(), Fail> {
+    let key = key_of(&[QUICK; 2])?;
+    let mut text = work_out(&rt, key, 0, &no_sums())?.text(rt.alloc())?;
+    change_consistently(&key, &mut text);
+    // Index 64 goes through leaf 2 of the top tree, which has node 16, over the changed leaf, in its path.
+    let trees = moved(&rt, key, taken(&rt, key, &text)?, 64, &no_sums())?.ok_or(
+        "no subtree above",
+    )?;
+    let wrong = signed(&rt, &trees, 64)?.ok_or("a signature under the changed root")?;
+    let right = expected(&rt, key, 64)?;
+    assert!(rt; wrong.len() == right.len() && wrong != right);
+    assert!(rt; wrong.get(..4304) == right.get(..4304));
+    assert!(rt; wrong.get(4464..) == right.get(4464..));
+    Ok(())
+}
+
+/// In an upper tree of height 15 a changed root of the bottom subtree to go on to is found.
+#[test]
+fn goes_on_to_no_other_subtree(rt: HostRuntime) -> Result<(), Fail> {
+    let key = key_of(&TALL_ABOVE)?;
+    let mut text = work_out(&rt, key, 0, &no_sums())?.text(rt.alloc())?;
+    // Node 33 is the root of the second bottom subtree, whose first leaf index 32768 goes through.
+    let start = TOP + 32 * 32;
+    let changed = at(&text, start).map(|byte| byte ^ 1);
+    set(&mut text, start, &changed);
+    check_again(&key, &mut text);
+    assert!(rt; moved(&rt, key, taken(&rt, key, &text)?, 32768, &no_sums())?.is_none());
+    let beside = moved(&rt, key, taken(&rt, key, &text)?, 131072, &no_sums())?;
+    assert!(rt; beside.is_some());
+    Ok(())
+}
+
+/// Whether the key takes a text whose check value is made anew.
+fn is_taken(rt: &impl AllocGlobal, key: &HssKey, text: &[u8]) -> Result<bool, Fail> {
+    let mut text = Vec::from_slice(rt.alloc(), text)?;
+    check_again(key, &mut text);
+    Ok(KeptTrees::read(rt.alloc(), *key, &text)?.is_some())
+}
+
+/// Another word, another version, an index past the last one, no level, half of one, and more bytes than its levels have, each with the right check value.
+#[test]
+fn takes_no_other_form(rt: HostRuntime) -> Result<(), Fail> {
+    let key = key_of(&[QUICK; 2])?;
+    let text = work_out(&rt, key, 0, &no_sums())?.text(rt.alloc())?;
+    assert!(rt; is_taken(&rt, &key, &text)?);
+    for place in [0, 3, 4, 7, 8, 13] {
+        let mut other = Vec::from_slice(rt.alloc(), &text)?;
+        if let Some(byte) = other.get_mut(place) {
+            *byte ^= 4;
+        }
+        assert!(rt; !is_taken(&rt, &key, &other)?, "{place}");
+    }
+    // 16 bytes and those of the top tree, each with room for the check value.
+    for (length, is_form) in [
+        (16, false),
+        (16 + 1024, false),
+        (16 + 2048, true),
+        (16 + 2049, false),
+    ] {
+        let other = Vec::from_slice(rt.alloc(), text.get(..length + 32).unwrap_or(&[]))?;
+        assert!(rt; other.len() == length + 32);
+        assert!(rt; is_taken(&rt, &key, &other)? == is_form, "{length}");
+    }
+    let mut longer = Vec::from_slice(rt.alloc(), &text)?;
+    longer.push(0)?;
+    assert!(rt; !is_taken(&rt, &key, &longer)?);
+    Ok(())
+}
