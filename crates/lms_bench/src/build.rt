@@ -8,7 +8,7 @@ use std::alloc::Global;
 use std::thread::Threads;
 
 /// Each build and its name, in the order in which they are printed.
-pub const BUILDS: [(&str, Build); 7] = [
+pub const BUILDS: [(&str, Build); 8] = [
     (
         "WholeTree::build 5/4",
         Build::Whole(LmsType::H5, OtsType::W4),
@@ -17,6 +17,10 @@ pub const BUILDS: [(&str, Build); 7] = [
     (
         "WholeTree::build 10/8",
         Build::Whole(LmsType::H10, OtsType::W8),
+    ),
+    (
+        "BandTree::build 10/8",
+        Build::Band(LmsType::H10, OtsType::W8),
     ),
     (
         "WholeTree::build 10/4",

@@ -1,6 +1,6 @@
 //! One-time keys and the root of a tree, timed in one thread.
 use crate::tree_key::tree_key;
-use lms_ots::{candidate, public_hash, sign_into};
+use lms_ots::{candidate, eight_public_hashes, public_hash, sign_into};
 use lms_params::{LmsType, OtsType};
 use lms_yardstick::{
     Fault, ID, MESSAGE, OneTime, RANDOMIZER, SEED, public_hash_chain_by_chain,
@@ -8,7 +8,23 @@ use lms_yardstick::{
 };
 
 /// Each case and its name, in the order in which they are printed.
-pub const CASES: [(&str, Case); 17] = [
+pub const CASES: [(&str, Case); 21] = [
+    (
+        "eight_public_hashes w=1",
+        Case::EightPublicHashes(OtsType::W1),
+    ),
+    (
+        "eight_public_hashes w=2",
+        Case::EightPublicHashes(OtsType::W2),
+    ),
+    (
+        "eight_public_hashes w=4",
+        Case::EightPublicHashes(OtsType::W4),
+    ),
+    (
+        "eight_public_hashes w=8",
+        Case::EightPublicHashes(OtsType::W8),
+    ),
     ("public_hash w=1", Case::PublicHash(OtsType::W1)),
     (
         "public_hash chain by chain w=1",
@@ -46,6 +62,8 @@ pub const CASES: [(&str, Case); 17] = [
 /// What is timed.
 #[derive(Clone, Copy)]
 pub enum Case {
+    /// Those of eight neighbouring leaves.
+    EightPublicHashes(OtsType),
     PublicHash(OtsType),
     /// The public hash without lanes, chain by chain.
     ChainByChain(OtsType),
@@ -58,6 +76,7 @@ impl Case {
     /// The compressions of SHA-256 that the standard's definition of this case needs.
     pub fn compressions(self) -> u64 {
         match self {
+            Case::EightPublicHashes(ots) => 8 * public_hash_compressions(ots),
             Case::PublicHash(ots) | Case::ChainByChain(ots) => public_hash_compressions(ots),
             Case::SignInto(ots) => OneTime::new(ots, ID, &RANDOMIZER, &MESSAGE).signature,
             Case::Candidate(ots) => OneTime::new(ots, ID, &RANDOMIZER, &MESSAGE).candidate,
@@ -91,6 +110,7 @@ impl Bench {
     /// Runs the case once. Each run works on what the run before gave, so none of them can be left out.
     fn run(&mut self, given: [u8; 32]) -> [u8; 32] {
         match self.case {
+            Case::EightPublicHashes(ots) => eight_public_hashes(ots, &given, ID)[7],
             Case::PublicHash(ots) => public_hash(ots, &given, ID),
             Case::ChainByChain(ots) => public_hash_chain_by_chain(ots, &given, ID),
             Case::SignInto(ots) => sign(ots, &given, &mut self.signature),

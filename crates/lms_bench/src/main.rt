@@ -1,10 +1,10 @@
 //! Times one-time keys, trees, keys of HSS and kept nodes against bare SHA-256 digests.
 //!
-//! Without arguments it runs each case once and prints its name and what it needs, and whether the public hash is the same chain by
+//! Without arguments it runs each case once and prints its name and what it needs, and whether public hashes are the same chain by
 //! chain. With the argument `measure` it prints for each case its time, the compressions of SHA-256 that its definition
 //! needs, and the ratio of its time to that of as many bare digests of 55 bytes, each the least of several rounds. For trees that all
 //! processors build it prints the compressions a second; how many times as many these are as one thread makes with bare
-//! digests, and with public hashes, which go by lanes; what share they are of what a thread with bare digests on each
+//! digests, and with public hashes of eight leaves side by side; what share they are of what a thread with bare digests on each
 //! processor makes; and how long it takes to start and join threads that do nothing. Last come the bytes that a forest
 //! holds. With the argument `cover` it makes one such forest, and with `tall` it works out a tree of height 20 and signs
 //! by it.
@@ -22,7 +22,7 @@ mod tree_key;
 use crate::held::cover;
 use crate::measure::{Mode, measure};
 use crate::tall::sign_tall;
-use lms_ots::public_hash;
+use lms_ots::{OtsId, eight_public_hashes, public_hash};
 use lms_params::{LmsType, OtsType};
 use lms_yardstick::{Fault, ID, SEED, public_hash_chain_by_chain, tree_compressions};
 use std::env;
@@ -69,11 +69,16 @@ fn run_once(
     Ok(())
 }
 
-/// Prints whether both ways to a public hash of this width agree, and what a tree needs.
+/// Prints whether all ways to public hashes of this width agree, and what a tree needs.
 fn print_width(rt: &impl Print, ots: OtsType) -> Result<(), Fault> {
     let w = ots.w();
-    let is_same = public_hash(ots, &SEED, ID) == public_hash_chain_by_chain(ots, &SEED, ID);
-    println!(rt; "w={w}: the public hash is the same chain by chain: {is_same}")?;
+    let first = public_hash_chain_by_chain(ots, &SEED, ID);
+    let i = ID.i;
+    let last = OtsId { i, q: ID.q + 7 };
+    let eighth = public_hash_chain_by_chain(ots, &SEED, last);
+    let eight = eight_public_hashes(ots, &SEED, ID);
+    let is_same = public_hash(ots, &SEED, ID) == first && eight[0] == first && eight[7] == eighth;
+    println!(rt; "w={w}: public hashes are the same chain by chain: {is_same}")?;
     let compressions = tree_compressions(LmsType::H10, ots);
     println!(rt; "a tree of 10/{w}: {compressions} compressions")?;
     Ok(())

@@ -8,8 +8,8 @@ use crate::hss_case::{HSS_CASES, HssBench, HssCase};
 use crate::kept_case::{KEPT_CASES, KeptBench};
 use lms_params::{LmsType, OtsType};
 use lms_yardstick::{
-    Fault, Hierarchy, clock, process_clock, public_hash_compressions, real, thread_clock,
-    time_digests, time_digests_at_once, tree_compressions,
+    Fault, Hierarchy, clock, process_clock, real, thread_clock, time_digests, time_digests_at_once,
+    tree_compressions,
 };
 use std::thread::Threads;
 use std::time::{Clock, CpuClock, Duration};
@@ -157,8 +157,8 @@ fn measure_build(
     }
 }
 
-/// The least times of a build, and of what it is held against: public hashes, which go by lanes, and bare digests, in one thread;
-/// bare digests in a thread for each processor; and such threads that do nothing.
+/// The least times of a build, and of what it is held against: public hashes of eight leaves side by side, and bare digests, in one
+/// thread; bare digests in a thread for each processor; and such threads that do nothing.
 #[derive(Clone, Copy)]
 struct BuildTimes {
     own: Duration,
@@ -186,7 +186,7 @@ impl BuildTimes {
     ) -> Result<Self, Fault> {
         let processors = rayon::current_num_threads(rt);
         let own = time_build(rt, build)?;
-        let by_lanes = time_public_hashes(rt, build.ots())?;
+        let by_lanes = time_eight_public_hashes(rt, build.ots())?;
         let bare = time_digests(rt, COMPRESSIONS_A_ROUND)?;
         let at_once = time_digests_at_once(rt, compressions, processors)?;
         let nothing = time_digests_at_once(rt, 0, processors)?;
@@ -200,15 +200,15 @@ impl BuildTimes {
     }
 }
 
-/// The time of a round's public hashes.
-fn time_public_hashes(rt: &impl CpuClock, ots: OtsType) -> Result<Duration, Fault> {
-    let runs = runs_of(public_hash_compressions(ots));
-    time_runs(rt, &mut Bench::new(Case::PublicHash(ots)), runs)
+/// The time of a round's public hashes, of eight leaves side by side.
+fn time_eight_public_hashes(rt: &impl CpuClock, ots: OtsType) -> Result<Duration, Fault> {
+    let case = Case::EightPublicHashes(ots);
+    time_runs(rt, &mut Bench::new(case), runs_of(case.compressions()))
 }
 
 /// Prints for a build its compressions a second; how many times those of one thread with bare digests they are, and how many times
-/// those of one with public hashes, which go by lanes; their share of those of a thread with bare digests on each processor at once;
-/// and how long such threads take that do nothing.
+/// those of one with public hashes of eight leaves side by side; their share of those of a thread with bare digests on each processor
+/// at once; and how long such threads take that do nothing.
 fn print_build(
     rt: &impl Print,
     name: &str,
@@ -216,8 +216,8 @@ fn print_build(
     compressions: u64,
     times: BuildTimes,
 ) -> Result<(), Fault> {
-    let a_hash = public_hash_compressions(ots);
-    let hashed = real(runs_of(a_hash)) * real(a_hash);
+    let eight = Case::EightPublicHashes(ots).compressions();
+    let hashed = real(runs_of(eight)) * real(eight);
     let rate = real(compressions) / times.own.as_secs_f64();
     let threads = rate * times.bare.as_secs_f64() / real(COMPRESSIONS_A_ROUND);
     let lanes = rate * times.by_lanes.as_secs_f64() / hashed;

@@ -45,7 +45,7 @@ impl Model for Forest {
 
 impl Forest {
     /// Works out what signs the indices from `start` to `start + len - 1`, 1 to 1024 indices below the key's capacity. The
-    /// trees are worked out level by level from the top, each in a thread for each processor, up to 32.
+    /// trees are worked out level by level from the top, each by as many threads at once as there are processors, up to 32.
     /// `OutOfMemory` where memory is refused.
     pub fn cover(
         rt: &(impl Threads + Sync),

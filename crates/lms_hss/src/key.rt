@@ -78,8 +78,8 @@ impl HssKey {
         places
     }
 
-    /// The public key, 60 bytes (RFC 8554, 6.1). All leaves of the top tree are worked out, in a thread for each processor, up to
-    /// 32. `OutOfMemory` where memory is refused.
+    /// The public key, 60 bytes (RFC 8554, 6.1). All leaves of the top tree are worked out, by as many threads at once as there are
+    /// processors, up to 32. `OutOfMemory` where memory is refused.
     pub fn public_key(
         &self,
         rt: &(impl Threads + Sync),

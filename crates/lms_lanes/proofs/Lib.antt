@@ -1,4 +1,6 @@
+pub mod Absorbed
 pub mod ChainText
+pub mod EndsText
 pub mod Lanes
 pub mod Majority
 pub mod OneBlock

@@ -4,6 +4,7 @@ ghost use Rattle.std.specs.Int.{from_be_bytes, to_be_bytes, w32};
 ghost use Rattle.sha2.specs.Sha256.{digest_bytes, word_at};
 ghost use Rattle.lms_lanes.specs.Lanes.{AreVectors, EachLane, four_at, lane_of};
 ghost use Rattle.lms_lanes.specs.Chains.{HasHead, half_word};
+ghost use Rattle.lms_lanes.specs.Ends.{HasFront};
 
 use std::simd::prelude::*;
 
@@ -20,6 +21,21 @@ pub(crate) fn head_words(heads: &[[u8; 22]; 8]) -> [u32x8; 6]
         words_at(heads, 12),
         words_at(heads, 16),
         half_words(heads),
+    ]
+}
+
+/// The words of the fronts.
+#[inline(always)]
+pub(crate) fn front_words(fronts: &[[u8; 20]; 8]) -> [u32x8; 5]
+    ensures vectors { AreVectors 5 result }
+    ensures lanes { (k : ℕ) → k < 8 → HasFront (lane_of result k) (slice_index_or fronts.now k []) }
+{
+    [
+        words_at(fronts, 0),
+        words_at(fronts, 4),
+        words_at(fronts, 8),
+        words_at(fronts, 12),
+        words_at(fronts, 16),
     ]
 }
 

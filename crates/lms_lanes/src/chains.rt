@@ -6,7 +6,7 @@ ghost use Rattle.lms_lanes.specs.Chains.{HasHead, walked};
 
 use crate::blocks::block_at;
 use crate::bytes::{digests_of, head_words, value_words, widened};
-use crate::rounds::compress;
+use crate::rounds::{IN_STEPS, compress, initial};
 use std::simd::prelude::*;
 
 /// Takes eight chains each from its value by its own number of steps. A step hashes the chain's head, a byte and the value
@@ -23,15 +23,39 @@ pub fn hash_chains(
         ≡ walked (slice_index_or heads.now k []) (slice_index firsts.now k) (slice_index steps.now k) (slice_index_or values.now k []) }
 {
     let head = head_words(heads);
-    let first = widened(firsts);
-    let count = widened(steps);
-    let mut now = value_words(values);
-    'steps: for i in 0..most(steps) {
-        let next = step(&head, first, i, &now);
-        let after = chosen(count, i, &next, &now);
+    let end = walk(
+        &head,
+        widened(firsts),
+        widened(steps),
+        most(steps),
+        &value_words(values),
+    );
+    digests_of(&end)
+}
+
+/// Takes each lane from its value by its own number of steps, none above `most`.
+pub(crate) fn walk(
+    head: &[u32x8; 6],
+    first: u32x8,
+    steps: u32x8,
+    most: u16,
+    start: &[u32x8; 8],
+) -> [u32x8; 8]
+    requires head { AreVectors 6 head.now }
+    requires start { AreVectors 8 start.now }
+    requires first { (k : ℕ) → k < 8 → slice_index first k < 2 ^ 16 }
+    requires most { (k : ℕ) → k < 8 → slice_index steps k ≤ most }
+    ensures vectors { AreVectors 8 result }
+    ensures lanes { (k : ℕ) → k < 8 → (text : List ℕ) → HasHead (lane_of head.now k) text
+        → digest_bytes (lane_of result k) 8 ≡ walked text (slice_index first k) (slice_index steps k) (digest_bytes (lane_of start.now k) 8) }
+{
+    let mut now = *start;
+    'steps: for i in 0..most {
+        let next = step(head, first, i, &now);
+        let after = chosen(steps, i, &next, &now);
         now = after;
     }
-    digests_of(&now)
+    now
 }
 
 // The greatest of eight numbers.
@@ -57,7 +81,7 @@ fn step(head: &[u32x8; 6], first: u32x8, i: u16, value: &[u32x8; 8]) -> [u32x8; 
     ensures lanes { (k : ℕ) → k < 8 → (text : List ℕ) → HasHead (lane_of head.now k) text
         → digest_bytes (lane_of result k) 8 ≡ sha256 (text ++ (slice_index first k + i) % 256 ∷ digest_bytes (lane_of value.now k) 8) }
 {
-    compress(block_at(head, first, i, value))
+    compress::<IN_STEPS>(initial(), block_at(head, first, i, value))
 }
 
 // `next` in the lanes that take more than `i` steps, `now` in the others.

@@ -1,5 +1,5 @@
 use hex::FromHex;
-use lms_lanes::hash_chains;
+use lms_lanes::{hash_chains, hash_ends};
 use sha2::{Digest, Sha256};
 use std::test::Fail;
 
@@ -104,5 +104,53 @@ fn stops_each_lane_at_its_own_end(rt: HostRuntime) -> Result<(), Fail> {
         )
     );
     assert!(rt; ends_as_bare([0, 1, 2, 3, 4, 5, 6, 65535], [0, 0, 0, 0, 0, 0, 0, 2]));
+    Ok(())
+}
+
+/// The digest over a front, a mark and the ends of its chains, chain by chain.
+fn bare_ends(
+    front: [u8; 20],
+    mark: u16,
+    chains: u16,
+    first: u16,
+    steps: u16,
+    start: [u8; 32],
+) -> [u8; 32] {
+    let mut hasher = Sha256::new();
+    hasher.update(front);
+    hasher.update(mark.to_be_bytes());
+    for number in 0..chains {
+        let mut head = [0; 22];
+        head[..20].copy_from_slice(&front);
+        head[20..].copy_from_slice(&number.to_be_bytes());
+        hasher.update(bare(head, first, steps, start));
+    }
+    hasher.finalize()
+}
+
+#[test]
+fn hashes_the_ends_of_each_key(rt: HostRuntime) -> Result<(), Fail> {
+    let mut fronts = [[0; 20]; 8];
+    for k in 0..8 {
+        let front = head(k);
+        fronts[k].copy_from_slice(&front[..20]);
+    }
+    for (chains, first, steps) in [
+        (0, 255, 3),
+        (1, 0, 3),
+        (2, 7, 0),
+        (3, 255, 300),
+        (4, 65535, 2),
+        (34, 254, 5),
+        (300, 255, 1),
+    ] {
+        let hashes = hash_ends(&fronts, 0x8080, chains, first, steps, &value(3));
+        for k in 0..8 {
+            assert!(rt;
+                hashes[k] == bare_ends(fronts[k], 0x8080, chains, first, steps, value(3)),
+                "{chains} {k}"
+            );
+        }
+    }
     Ok(())
 }

@@ -8,6 +8,7 @@ mod chain_ends;
 mod chain_hashes;
 mod eights;
 mod hashing;
+mod neighbours;
 mod one_time_key;
 mod signature;
 mod verification;
@@ -15,6 +16,7 @@ mod walk;
 
 pub use crate::chain_ends::{ByEights, ChainEnds, OneByOne};
 pub use crate::hashing::hasher_at;
+pub use crate::neighbours::eight_public_hashes;
 pub use crate::one_time_key::{OtsId, chain, public_hash, secret};
 pub use crate::signature::sign_into;
 pub use crate::verification::{Verifier, candidate};

@@ -1,7 +1,7 @@
 use hex::FromHex;
 use lms_ots::{
-    ByEights, ChainEnds, OneByOne, OtsId, Verifier, candidate, chain, hasher_at, public_hash,
-    secret, sign_into,
+    ByEights, ChainEnds, OneByOne, OtsId, Verifier, candidate, chain, eight_public_hashes,
+    hasher_at, public_hash, secret, sign_into,
 };
 use lms_params::{LmsType, OtsType};
 use lms_slow::SlowTree;
@@ -93,6 +93,32 @@ fn equals_the_slow_signer(rt: HostRuntime) -> Result<(), Fail> {
     for ots in [OtsType::W1, OtsType::W2, OtsType::W4, OtsType::W8] {
         check_leaf(&rt, ots, 0)?;
         check_leaf(&rt, ots, 31)?;
+    }
+    Ok(())
+}
+
+#[test]
+fn hashes_eight_neighbours_as_the_slow_signer(rt: HostRuntime) -> Result<(), Fail> {
+    for ots in [OtsType::W1, OtsType::W2, OtsType::W4, OtsType::W8] {
+        let tree = SlowTree {
+            lms: LmsType::H5,
+            ots,
+            seed: SEED,
+            id: ID,
+        };
+        for q in [0, 7] {
+            let publics = eight_public_hashes(ots, &SEED, OtsId { i: ID, q });
+            for k in 0..8 {
+                assert!(rt;
+                    publics[k] == tree.public_hash(q + k as u32),
+                    "{ots:?} {q} {k}"
+                );
+            }
+        }
+        let q = u32::MAX - 7;
+        let publics = eight_public_hashes(ots, &SEED, OtsId { i: ID, q });
+        let last = OtsId { i: ID, q: u32::MAX };
+        assert!(rt; publics[7] == public_hash(ots, &SEED, last), "{ots:?}");
     }
     Ok(())
 }

@@ -10,9 +10,9 @@ ghost use Rattle.lms_tree.specs.Held.{row_of, row_below, nodes_in, AreInTree, Ho
 
 use crate::nodes::{inner_hash, leaf_count};
 use crate::progress::Progress;
+use crate::row::fill_lowest_row;
 use crate::tree_key::TreeKey;
 use lms_params::OutOfMemory;
-use rayon::prelude::*;
 use std::alloc::Global;
 use std::marker::Model;
 use std::thread::Threads;
@@ -101,9 +101,10 @@ impl Model for Band {
 }
 
 impl Band {
-    /// Works out the nodes in these rows, where there is room for them: the lowest row in a thread for each processor, up to 32,
-    /// then the rows above it. A node of the lowest row that stands in the top row of `lower`, a band of the same tree, is copied
-    /// from there. The memory of `room` becomes the band's. `progress` is told of the leaves under each other node of that row.
+    /// Works out the nodes in these rows, where there is room for them: the lowest row by as many threads at once as there are
+    /// processors, up to 32, then the rows above it. A node of the lowest row that stands in the top row of `lower`, a band of the
+    /// same tree, is copied from there. The memory of `room` becomes the band's. `progress` is told of the leaves under each other
+    /// node of that row.
     pub(crate) fn build(
         rt: &(impl Threads + Sync),
         key: TreeKey,
@@ -176,7 +177,7 @@ impl Band {
     }
 
     /// Whether node r stands in the top row.
-    fn has_on_top(&self, r: u32) -> bool
+    pub(crate) fn has_on_top(&self, r: u32) -> bool
         ensures { IsTrue result ↔ ((self.now.rows.first ≤ r) × (r < self.now.rows.first + self.now.rows.width)) }
     {
         r >= self.rows.first && r - self.rows.first < self.rows.width
@@ -225,49 +226,6 @@ fn fill_rows(
         progress,
     );
     fill_upper_rows(&key, rows, nodes);
-}
-
-/// Works out a row from node `first` on, in a thread for each processor, up to 32.
-fn fill_lowest_row(
-    rt: &(impl Threads + Sync),
-    key: TreeKey,
-    first: u32,
-    lower: Option<&Band>,
-    row: &mut [[u8; 32]],
-    progress: &impl Progress,
-)
-    requires from_root { 1 ≤ first }
-    requires in_tree { first + length row.old ≤ 2 * 2 ^ (tree_of key).lms.h }
-    requires lower { IfSome lower (λ band. band.now.key ≡ key) }
-    ensures { (i : ℕ) → i < length row.new → slice_index_or row.new i [] ≡ node_of (tree_of key) (first + i) }
-{
-    par_for_each_mut(
-        rt,
-        row,
-        |i: usize, node: &mut [u8; 32]|
-            requires { (1 ≤ first) × (first + i < 2 * 2 ^ (tree_of key).lms.h) × IfSome lower (λ band. band.now.key ≡ key) }
-            ensures { node.new ≡ node_of (tree_of key) (first + i) }
-        {
-            *node = value(&key, lower, first + i as u32, progress);
-        },
-    );
-}
-
-/// The value of node r: what `lower` has in its top row, else worked out from the leaves, of which `progress` is told.
-fn value(key: &TreeKey, lower: Option<&Band>, r: u32, progress: &impl Progress) -> [u8; 32]
-    requires from_root { 1 ≤ r }
-    requires in_tree { r < 2 * 2 ^ (tree_of key.now).lms.h }
-    requires lower { IfSome lower (λ band. band.now.key ≡ key.now) }
-    ensures { result ≡ node_of (tree_of key.now) r }
-{
-    match lower {
-        Some(band) if band.has_on_top(r) => band.node(0, r),
-        _ => {
-            let root = key.subtree_root(r);
-            progress.done(u64::from(leaf_count(key.lms) >> r.ilog2()));
-            root
-        }
-    }
 }
 
 /// Works out the rows above the lowest one, from there up.

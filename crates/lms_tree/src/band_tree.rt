@@ -41,9 +41,9 @@ impl Model for BandTree {
 
 impl BandTree {
     /// Works out what serves the leaves from `first` to `last`, at most 1024 leaves of the tree: first the bottom subtrees that
-    /// hold them, then the roots of the others and the nodes above, leaves and roots in a thread for each processor, up to 32.
-    /// `OutOfMemory` where one of the two requests for memory is refused, for the nodes that are kept, 32 bytes each: nothing was
-    /// worked out then.
+    /// hold them, then the roots of the others and the nodes above, leaves and roots by as many threads at once as there are
+    /// processors, up to 32. `OutOfMemory` where one of the two requests for memory is refused, for the nodes that are kept, 32 bytes
+    /// each: nothing was worked out then.
     pub fn build(
         rt: &(impl Threads + Sync),
         alloc: Global,

@@ -10,10 +10,12 @@ mod kept_tree;
 mod node_source;
 mod nodes;
 mod progress;
+mod row;
 mod signing;
 mod tree_key;
 mod verification;
 mod whole_tree;
+mod workers;
 
 pub use crate::band_tree::{BandTree, bottom_height};
 pub use crate::kept_tree::KeptTree;

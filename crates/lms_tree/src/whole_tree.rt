@@ -32,7 +32,8 @@ impl Model for WholeTree {
 }
 
 impl WholeTree {
-    /// Works out all nodes of a tree: the leaves in a thread for each processor, up to 32, then the inner nodes from the leaves up.
+    /// Works out all nodes of a tree: the leaves by as many threads at once as there are processors, up to 32, then the inner nodes
+    /// from the leaves up.
     /// `OutOfMemory` where the one request for memory is refused, for 2^(h+1) - 1 nodes of 32 bytes.
     pub fn build(
         rt: &(impl Threads + Sync),

@@ -1,0 +1,208 @@
+//! A row of nodes, worked out by several threads at once.
+ghost use Rattle.std.specs.Prelude.{ℕ, ◌≡◌, ◌+◌, ◌*◌, ◌^◌, ◌<◌, ◌≤◌, [], length, slice_index_or, IfSome};
+ghost use Rattle.std.specs.Option.{ForSome};
+ghost use Rattle.std.specs.Thread.{IsSync};
+ghost use Rattle.lms_spec.specs.Tree.{node as node_of};
+ghost use Rattle.lms_tree.specs.TreeKey.{tree_of};
+
+use crate::band::Band;
+use crate::nodes::leaf_count;
+use crate::progress::Progress;
+use crate::tree_key::TreeKey;
+use crate::workers::Workers;
+use rayon::current_num_threads;
+use std::thread::{Threads, join_mut};
+
+/// The most threads that work out a row at once.
+const MOST_THREADS: usize = 32;
+
+/// What the threads that work out a row share.
+#[derive(Drop)]
+struct Work<'a, R, P> {
+    rt: &'a R,
+    key: TreeKey,
+    lower: Option<&'a Band>,
+    progress: &'a P,
+    workers: Workers,
+    ghost lower_key: { ForSome lower (λ band. band.now.key ≡ key) },
+}
+
+/// Works out a row from node `first` on. As many threads work at once as there are processors, up to 32, and others may wait for them:
+/// they begin with parts alike, and one that has much left gives half of it to a new thread when a processor comes free. A node that
+/// stands in the top row of `lower`, a band of the same tree, is copied from there, and `progress` is told of the leaves under each
+/// other one.
+pub(crate) fn fill_lowest_row(
+    rt: &(impl Threads + Sync),
+    key: TreeKey,
+    first: u32,
+    lower: Option<&Band>,
+    row: &mut [[u8; 32]],
+    progress: &impl Progress,
+)
+    requires from_root { 1 ≤ first }
+    requires in_tree { first + length row.old ≤ 2 * 2 ^ (tree_of key).lms.h }
+    requires lower { IfSome lower (λ band. band.now.key ≡ key) }
+    ensures { (i : ℕ) → i < length row.new → slice_index_or row.new i [] ≡ node_of (tree_of key) (first + i) }
+{
+    let threads = current_num_threads(rt).min(MOST_THREADS);
+    let work = Work {
+        rt,
+        key,
+        lower,
+        progress,
+        workers: Workers::new(threads),
+    };
+    fill(&work, threads, first, row);
+}
+
+/// Works out a part of a row by so many threads, of which the caller's is one. All of them count as at work before, and none after.
+#[cycle(parts)]
+fn fill<R: Threads + Sync, P: Progress>(
+    work: &Work<R, P>,
+    threads: usize,
+    first: u32,
+    part: &mut [[u8; 32]],
+)
+    requires threads { (0 < threads) × (threads ≤ 32) }
+    requires from_root { 1 ≤ first }
+    requires in_tree { first + length part.old ≤ 2 * 2 ^ (tree_of work.now.key).lms.h }
+    ensures count { length part.new ≡ length part.old }
+    ensures nodes { (i : ℕ) → i < length part.new → slice_index_or part.new i [] ≡ node_of (tree_of work.now.key) (first + i) }
+{
+    if threads > 1 && part.len() > 1 {
+        fill_both(work, threads, first, part);
+        return;
+    }
+    work.workers.end(threads - 1);
+    let done = fill_until_free(work, first, part);
+    if done < part.len() {
+        fill_both(work, 2, first + done as u32, &mut part[done..]);
+    } else {
+        work.workers.end(1);
+    }
+}
+
+/// Works out a part of a row by so many threads, half of them for the nodes on the left and half for those on the right. Where no thread
+/// can be made the caller's goes on to the right. All of them count as at work before, and none after.
+#[cycle(parts)]
+fn fill_both<R: Threads + Sync, P: Progress>(
+    work: &Work<R, P>,
+    threads: usize,
+    first: u32,
+    part: &mut [[u8; 32]],
+)
+    requires threads { (1 < threads) × (threads ≤ 32) }
+    requires nodes { 1 < length part.old }
+    requires from_root { 1 ≤ first }
+    requires in_tree { first + length part.old ≤ 2 * 2 ^ (tree_of work.now.key).lms.h }
+    ensures count { length part.new ≡ length part.old }
+    ensures nodes { (i : ℕ) → i < length part.new → slice_index_or part.new i [] ≡ node_of (tree_of work.now.key) (first + i) }
+{
+    let own = threads / 2;
+    let others = threads - own;
+    let (left, right) = part.split_at_mut(left_len(part.len(), own, threads));
+    let next = first + left.len() as u32;
+    let mut theirs = ||
+        requires { IsSync R.row × IsSync P.row × (0 < others) × (others ≤ 32) × (1 ≤ next) × (next + length right.now ≤ 2 * 2 ^ (tree_of work.now.key).lms.h) }
+        ensures { (length right.exit.now ≡ length right.entry.now) × ((i : ℕ) → i < length right.exit.now → slice_index_or right.exit.now i [] ≡ node_of (tree_of work.entry.now.key) (next + i)) }
+    { fill(work, others, next, right) };
+    let mut ours = ||
+        requires { IsSync R.row × IsSync P.row × (0 < own) × (own ≤ 32) × (1 ≤ first) × (first + length left.now ≤ 2 * 2 ^ (tree_of work.now.key).lms.h) }
+        ensures { (length left.exit.now ≡ length left.entry.now) × ((i : ℕ) → i < length left.exit.now → slice_index_or left.exit.now i [] ≡ node_of (tree_of work.entry.now.key) (first + i)) }
+    { fill(work, own, first, left) };
+    join_mut(work.rt, &mut theirs, &mut ours);
+}
+
+/// The share of so many of the threads in so many nodes: whole eights, where that makes little difference.
+fn left_len(nodes: usize, own: usize, threads: usize) -> usize
+    requires own { own < threads }
+    requires threads { threads ≤ 32 }
+    requires nodes { 1 < nodes }
+    requires fits { nodes < 2 ^ 32 }
+    ensures some { 0 < result }
+    ensures others { result < nodes }
+{
+    let share = nodes * own / threads;
+    let whole = if share < 64 { share } else { share / 8 * 8 };
+    whole.clamp(1, nodes - 1)
+}
+
+/// Works out nodes from the first on, until all are done or a processor is free while much is left, and tells how many are done. Where
+/// not all are, one more thread counts as at work, which is to have some of the others.
+fn fill_until_free<R: Threads + Sync, P: Progress>(
+    work: &Work<R, P>,
+    first: u32,
+    part: &mut [[u8; 32]],
+) -> usize
+    requires from_root { 1 ≤ first }
+    requires in_tree { first + length part.old ≤ 2 * 2 ^ (tree_of work.now.key).lms.h }
+    ensures count { length part.new ≡ length part.old }
+    ensures bound { result ≤ length part.old }
+    ensures others { result < length part.old → result + 1 < length part.old }
+    ensures nodes { (i : ℕ) → i < result → slice_index_or part.new i [] ≡ node_of (tree_of work.now.key) (first + i) }
+{
+    let much = 2 * piece_len(work, first);
+    let mut done = 0;
+    while done < part.len() {
+        if part.len() - done >= much && work.workers.begin_where_free() {
+            break;
+        }
+        done += fill_next(work, first + done as u32, &mut part[done..]);
+    }
+    done
+}
+
+/// How many nodes are worked out at once from this one on: eight leaves, where none is copied, else one node.
+fn piece_len<R, P>(work: &Work<R, P>, first: u32) -> usize
+    ensures some { 0 < result }
+    ensures leaves { 1 < result → (result ≡ 8) × (2 ^ (tree_of work.now.key).lms.h ≤ first) }
+{
+    let is_leaf = first >= leaf_count(work.key.lms);
+    if is_leaf && work.lower.is_none() {
+        8
+    } else {
+        1
+    }
+}
+
+/// Works out the first eight nodes of a part side by side, or the first one, and tells how many.
+fn fill_next<R: Threads + Sync, P: Progress>(
+    work: &Work<R, P>,
+    first: u32,
+    part: &mut [[u8; 32]],
+) -> usize
+    requires some { 0 < length part.old }
+    requires from_root { 1 ≤ first }
+    requires in_tree { first + length part.old ≤ 2 * 2 ^ (tree_of work.now.key).lms.h }
+    ensures count { length part.new ≡ length part.old }
+    ensures some { 0 < result }
+    ensures bound { result ≤ length part.old }
+    ensures nodes { (i : ℕ) → i < result → slice_index_or part.new i [] ≡ node_of (tree_of work.now.key) (first + i) }
+{
+    if part.len() >= 8 && piece_len(work, first) == 8 {
+        let q = first - leaf_count(work.key.lms);
+        part[..8].copy_from_slice(&work.key.eight_leaves(q));
+        work.progress.done(8);
+        8
+    } else {
+        part[0] = node(work, first);
+        1
+    }
+}
+
+/// The value of node r: what `lower` has in its top row, else worked out from the leaves below it.
+fn node<R, P: Progress>(work: &Work<R, P>, r: u32) -> [u8; 32]
+    requires from_root { 1 ≤ r }
+    requires in_tree { r < 2 * 2 ^ (tree_of work.now.key).lms.h }
+    ensures { result ≡ node_of (tree_of work.now.key) r }
+{
+    match work.lower {
+        Some(band) if band.has_on_top(r) => band.node(0, r),
+        _ => {
+            let root = work.key.subtree_root(r);
+            work.progress
+                .done(u64::from(leaf_count(work.key.lms) >> r.ilog2()));
+            root
+        }
+    }
+}

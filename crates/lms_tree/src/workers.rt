@@ -1,0 +1,36 @@
+//! How many threads work.
+use std::sync::atomic::{AtomicUsize, Ordering};
+
+/// How many threads are at work, and how many may be. It decides who works, and never what is worked out.
+#[derive(Drop)]
+pub(crate) struct Workers {
+    at_work: AtomicUsize,
+    most: usize,
+}
+
+impl Workers {
+    /// So many may be at work, and are.
+    pub(crate) fn new(most: usize) -> Self {
+        Workers {
+            at_work: AtomicUsize::new(most),
+            most,
+        }
+    }
+
+    /// One more is at work, where fewer are than may be. Tells whether it is so.
+    pub(crate) fn begin_where_free(&self) -> bool {
+        if self.at_work.load(Ordering::SeqCst) >= self.most {
+            return false;
+        }
+        let is_free = self.at_work.fetch_add(1, Ordering::SeqCst) < self.most;
+        if !is_free {
+            self.end(1);
+        }
+        is_free
+    }
+
+    /// So many are no longer at work.
+    pub(crate) fn end(&self, count: usize) {
+        self.at_work.fetch_sub(count, Ordering::SeqCst);
+    }
+}
