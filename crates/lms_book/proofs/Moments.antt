@@ -19,14 +19,14 @@ among_two a b texts (suc zero, lt, same) = inr (sym same)
 among_two a b texts (suc (suc k), lt, same) = absurd (omega (arith, lt))
 
 -- a call within which no moment passed leaves what was left before
-not_moved : (old : StoreView) (failures : ℕ) (text : List ℕ) → LeavesWithin old (record { now = old.now; past = old.past; failures = failures }) text → MayLeave old text
+not_moved : (old : StoreView) (failures : ℕ) (text : List ℕ) → LeavesWithin old (record { now = old.now; past = old.past; given = old.given; failures = failures }) text → MayLeave old text
 not_moved old failures text (texts, has, among) =
     let one = subst (λ (l : List Texts). Contains (l ++ old.now ∷ []) texts) (drop-length old.past) has in
     subst (λ (t : Texts). IsAmong t text) (among_one old.now texts one) among
 
 -- a call within which one moment passed leaves what was left before, or what is left now
 moved_once : (old : StoreView) (now : Texts) (failures : ℕ) (text : List ℕ)
-    → LeavesWithin old (record { now = now; past = old.past ++ old.now ∷ []; failures = failures }) text → MayLeave old text ⊎ IsAmong now text
+    → LeavesWithin old (record { now = now; past = old.past ++ old.now ∷ []; given = old.given; failures = failures }) text → MayLeave old text ⊎ IsAmong now text
 moved_once old now failures text (texts, has, among) =
     let two = subst (λ (l : List Texts). Contains (l ++ now ∷ []) texts) (drop-append_seam old.past (old.now ∷ [])) has in
     ⊎_elim (λ is. inl (subst (λ (t : Texts). IsAmong t text) is among)) (λ is. inr (subst (λ (t : Texts). IsAmong t text) is among)) (among_two old.now now texts two)

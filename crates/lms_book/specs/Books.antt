@@ -7,9 +7,9 @@ use Rattle.lms_book.specs.declared.refusals.BookFault.{BookFault}
 use Rattle.lms_book.specs.declared.refusals.BookFault.TheVariants as faults
 use Rattle.lms_book.specs.declared.refusals.OpenFault.{OpenFault}
 use Rattle.lms_book.specs.declared.refusals.OpenFault.TheVariants as open_faults
-use Rattle.lms_image.specs.Image.{image_of, fault_of, HasImage}
+use Rattle.lms_image.specs.Image.{image_of, fault_of, HasImage, IsImage}
 use Rattle.lms_book.specs.History.{Range, end, counter_of, burnt_after, leases}
-use Rattle.lms_book.specs.Stops.{Texts, StoreView, MayLeave, LeavesWithin, after_write, after_failure, FailsToWrite}
+use Rattle.lms_book.specs.Stops.{Texts, StoreView, MayLeave, LeavesWithin, having_given, after_write, after_failure, FailsToWrite}
 use Rattle.lms_book.specs.States.{BookState, LeaseState, IsOpenedFrom, IsSafe}
 
 -- how many of the key's indices are used
@@ -47,11 +47,18 @@ Reserves n old (Err (faults.Store start len)) new =
     × (new.history ≡ old.history ++ Burnt n ∷ [])
     × FailsToWrite (next_image n old) old.store new.store
 
--- why a store was not opened: it failed, or one of its texts has this fault, or memory was refused
+-- a book was opened from a text that its store's read gave: one that a stop could have left, an image of the book's key and numbers
+pub record IsReadFrom (store : StoreView) (book : BookState) : Type 0 where
+  pub text : List ℕ
+  pub left : MayLeave store text
+  pub image : IsImage text book.key book.base book.openings book.burnt
+  pub given : book.store ≡ having_given text store
+
+-- why a store was not opened: it failed, or the text that its read gave has this fault, or memory was refused
 abbrev pub HasCause : Type 0 → StoreView → OpenFault → StoreView → Type 0
 HasCause may_fail old open_faults.Store new = may_fail × (new ≡ after_failure old)
 HasCause may_fail old (open_faults.Image fault) new =
-    ((text : List ℕ) × MayLeave old text × (fault_of text ≡ Some fault)) × (new ≡ old)
+    (text : List ℕ) × MayLeave old text × (fault_of text ≡ Some fault) × (new ≡ having_given text old)
 HasCause may_fail old open_faults.OutOfMemory new = new ≡ old
 
 -- the second range begins at or past the end of the first

@@ -14,6 +14,8 @@ pub record MemoryState : Type 0 where
   -- what it held before each write
   pub past : List (Option (List ℕ))
   pub text : Option (List ℕ)
+  -- what the last read gave, none before one
+  pub given : Option (List ℕ)
   -- how many writes it has room for
   pub room : ℕ
   pub failures : ℕ
@@ -30,11 +32,12 @@ held (Some text) = only text
 
 -- what contracts see of it, as of any store
 abbrev pub view_of : MemoryState → StoreView
-view_of store = record { now = held store.text; past = map held store.past; failures = store.failures }
+view_of store = record { now = held store.text; past = map held store.past; given = store.given; failures = store.failures }
 
--- nothing recorded, counted or planned
+-- nothing recorded, given, counted or planned
 pub record IsFresh (room : ℕ) (store : MemoryState) : Type 0 where
   pub past : store.past ≡ []
+  pub given : store.given ≡ None
   pub room_is : store.room ≡ room
   pub failures : store.failures ≡ 0
   pub writes : store.writes ≡ replicate 8 None
@@ -44,6 +47,10 @@ pub record IsFresh (room : ℕ) (store : MemoryState) : Type 0 where
 -- another text is held, and the one before recorded
 abbrev pub holding : MemoryState → List ℕ → MemoryState
 holding store text = record store { past = store.past ++ store.text ∷ []; text = Some text }
+
+-- a read gave this text
+abbrev pub giving : MemoryState → List ℕ → MemoryState
+giving store text = record store { given = Some text }
 
 -- a failure is counted
 abbrev pub failed : MemoryState → MemoryState
@@ -108,6 +115,6 @@ MayFail store = ¬ CanRead store
 
 -- what a read answers and leaves
 abbrev pub Reads : MemoryState → Result (Vec ℕ) ReadFault → MemoryState → Type 0
-Reads old (Ok text) new = CanRead old × (old.text ≡ Some text.items) × (new ≡ past_read old)
+Reads old (Ok text) new = CanRead old × (old.text ≡ Some text.items) × (new ≡ giving (past_read old) text.items)
 Reads old (Err Device) new = (¬ CanRead old) × (new ≡ failed (past_read old))
 Reads old (Err OutOfMemory) new = CanRead old × (new ≡ past_read old)

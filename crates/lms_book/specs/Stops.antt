@@ -1,5 +1,5 @@
--- What a store is to contracts: what a stop of the program leaves in it, now and at each moment before, and how many calls
--- failed.
+-- What a store is to contracts: what a stop of the program leaves in it, now and at each moment before, what it gave last, and how
+-- many calls failed.
 use Rattle.std.specs.Prelude.{◌≡◌, ◌⊎◌, ℕ, ◌+◌, ◌^◌, ◌-◌, max, min, List, [], ◌∷◌, ◌++◌, Contains, drop, length, Option, Some, None, Result, Ok, Err}
 use Rattle.std.specs.Global.{Vec}
 use Rattle.lms_book.specs.declared.store.ReadFault.{ReadFault}
@@ -27,10 +27,11 @@ or_else text None = None
 or_else text (Some texts) = Some (text ∷ texts)
 
 -- what contracts see of a store: the texts that a stop could leave now, those that it could leave at each moment before, the first
--- moment first, and how many calls failed
+-- moment first, the text that the last read gave, none before one, and how many calls failed
 pub record StoreView : Type 0 where
   pub now : Texts
   pub past : List Texts
+  pub given : Option (List ℕ)
   pub failures : ℕ
 
 -- a stop now could leave this text
@@ -48,6 +49,10 @@ moved texts store = record store { now = texts; past = store.past ++ store.now �
 -- this text was stored for certain
 abbrev pub after_write : List ℕ → StoreView → StoreView
 after_write text store = moved (only text) store
+
+-- a read gave this text
+abbrev pub having_given : List ℕ → StoreView → StoreView
+having_given text store = record store { given = Some text }
 
 -- a failure is counted
 abbrev pub after_failure : StoreView → StoreView
@@ -69,7 +74,7 @@ WritesStore text old (Err fault) new = FailsToWrite text old new
 
 -- what a read answers and leaves, where the device may fail or may not
 abbrev pub ReadsStore : Type 0 → StoreView → Result (Vec ℕ) ReadFault → StoreView → Type 0
-ReadsStore may_fail old (Ok text) new = MayLeave old text.items × (new ≡ old)
+ReadsStore may_fail old (Ok text) new = MayLeave old text.items × (new ≡ having_given text.items old)
 ReadsStore may_fail old (Err Device) new = may_fail × (new ≡ after_failure old)
 ReadsStore may_fail old (Err OutOfMemory) new = new ≡ old
 

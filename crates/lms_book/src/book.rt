@@ -109,10 +109,9 @@ impl<S: StateStore> Deref for Book<S> {
 impl<S: StateStore> Book<S> {
     ghost use Rattle.lms_image.specs.Image.{HasImage};
     ghost use Rattle.lms_book.specs.History.{leases, range_of};
-    ghost use Rattle.lms_book.specs.Lives.{Finds};
     ghost use Rattle.lms_book.specs.Stops.{Texts};
     ghost use Rattle.lms_book.specs.States.{IsOpenedFrom, reservations_of};
-    ghost use Rattle.lms_book.specs.Books.{Reserves, HasCause, IsInOrder};
+    ghost use Rattle.lms_book.specs.Books.{Reserves, IsReadFrom, HasCause, IsInOrder};
 
     /// Reads the image that the store holds, of either version, and opens a book with its key and its numbers. Nothing is
     /// written, so a crash leaves what it could leave before; the opening is counted by its first write.
@@ -122,9 +121,8 @@ impl<S: StateStore> Book<S> {
     pub fn open(alloc: Global, store: S) -> Result<Self, (OpenFault, S)>
         ensures opened { IfOk result (IsOpenedFrom (S.seen store).now) }
         ensures fresh { IfOk result (λ book. book.history ≡ []) }
-        ensures found { IfOk result (λ book. Finds (S.seen store).now book.key book.base book.openings book.burnt) }
+        ensures found { IfOk result (IsReadFrom (S.seen store)) }
         ensures counted { IfOk result (λ book. HasImage book.key book.base book.openings book.burnt) }
-        ensures store { IfOk result (λ book. book.store ≡ S.seen store) }
         ensures err { IfErr result (λ e. HasCause (S.may_fail store) (S.seen store) e.0 (S.seen e.1)) }
     {
         let mut store = store;

@@ -6,6 +6,7 @@
 
 mod book;
 mod history;
+mod last_read;
 pub mod laws;
 mod memory;
 mod plans;
@@ -16,6 +17,7 @@ mod text;
 
 pub use crate::book::{Book, Lease};
 pub use crate::history::Entry;
+pub use crate::last_read::LastRead;
 pub use crate::memory::MemoryStore;
 pub use crate::plans::Left;
 pub use crate::refusals::{BookFault, OpenFault};

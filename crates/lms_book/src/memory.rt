@@ -2,8 +2,9 @@
 ghost use Rattle.std.specs.Prelude.{◌≡◌, ◌⊎◌, ◌-◌, ◌<◌, ◌≤◌, [], ◌∷◌, ◌++◌, length, Some, None, true, false, ◌↔◌, IsTrue, IfOk, MatchOption, OnOk, OnErr};
 ghost use Rattle.std.proofs.Math.ListN.{set};
 ghost use Rattle.lms_book.specs.Stops.{longest_text};
-ghost use Rattle.lms_book.specs.Memory.{IsFresh, Takes, holding, failed, planning, next_write, past_write, next_read, past_read};
+ghost use Rattle.lms_book.specs.Memory.{IsFresh, Takes, holding, giving, failed, planning, next_write, past_write, next_read, past_read};
 
+use crate::last_read::LastRead;
 use crate::plans::{Left, PLANS, Plan, take_first};
 use crate::store::{ReadFault, StateStore, StoreFault};
 use crate::text::{MOST_BYTES, Text};
@@ -12,12 +13,13 @@ use std::alloc::Global;
 use std::marker::Model;
 use std::mem;
 
-/// A store in memory. Contracts see the bytes that it holds, those that it held before each write, how many writes it has
-/// room for, how many calls failed, and which calls are to fail.
+/// A store in memory. Contracts see the bytes that it holds, those that it held before each write, those that the last read
+/// gave, how many writes it has room for, how many calls failed, and which calls are to fail.
 #[derive(Drop)]
 pub struct MemoryStore {
     past: Vec<Option<Text>>,
     text: Option<Text>,
+    given: LastRead,
     room: usize,
     failures: u64,
     writes: [Option<Plan>; 8],
@@ -34,6 +36,7 @@ impl Model for MemoryStore {
     ghost view = { λ store. record {
       past = store.past.items;
       text = store.text;
+      given = store.given;
       room = store.room;
       failures = store.failures;
       writes = store.writes;
@@ -57,6 +60,7 @@ impl MemoryStore {
         Ok(MemoryStore {
             past,
             text: text.map(|text| short_text(text)),
+            given: LastRead::none(),
             room,
             failures: 0,
             writes: [None; PLANS],
@@ -104,8 +108,8 @@ impl MemoryStore {
         self.reads[k - 1] = true;
     }
 
-    /// The store as the program finds it when it starts again: its bytes and its room, with an empty record, nothing
-    /// planned and no failure counted.
+    /// The store as the program finds it when it starts again: its bytes and its room, with an empty record, nothing given
+    /// or planned, and no failure counted.
     pub fn restart(self) -> Self
         ensures text { result.text ≡ self.text }
         ensures fresh { IsFresh self.room result }
@@ -113,6 +117,7 @@ impl MemoryStore {
         let MemoryStore {
             past,
             text,
+            given: _,
             room,
             failures: _,
             writes: _,
@@ -124,6 +129,7 @@ impl MemoryStore {
         MemoryStore {
             past,
             text,
+            given: LastRead::none(),
             room,
             failures: 0,
             writes: [None; PLANS],
@@ -169,6 +175,13 @@ impl MemoryStore {
         self.past.push_reserved(old);
     }
 
+    /// From now on these are the bytes that the last read gave.
+    fn give(&mut self, text: &Vec<u8>)
+        ensures { self.new ≡ giving self.old text.now.items }
+    {
+        self.given = LastRead::of(text);
+    }
+
     /// Counts a failure.
     fn fail(&mut self)
         ensures { self.new ≡ failed self.old }
@@ -198,7 +211,13 @@ impl StateStore for MemoryStore {
                 return Err(ReadFault::Device);
             }
         };
-        copied.map_err(|_| ReadFault::OutOfMemory)
+        match copied {
+            Ok(text) => {
+                self.give(&text);
+                Ok(text)
+            }
+            Err(_) => Err(ReadFault::OutOfMemory),
+        }
     }
 
     /// Takes no memory. Fails where it is told to and after a planned crash; and, with the old bytes left, where its record

@@ -44,17 +44,18 @@ impl fmt::Display for StoreFault {
 impl error::Error for StoreFault {}
 
 /// Keeps one byte string, a key's state, when the program ends or crashes. Contracts see which byte strings a crash could
-/// leave, now and at each moment before, and how many calls failed.
+/// leave, now and at each moment before, which one the last read gave, and how many calls failed.
 pub trait StateStore: Send {
-    /// The byte strings of which a crash would leave one, now and at each moment before, and how many calls failed.
+    /// The byte strings of which a crash would leave one, now and at each moment before, the one that the last read gave, and how
+    /// many calls failed.
     ghost seen: { Self → StoreView };
 
     /// Whether the next read may fail.
     ghost may_fail: { Self → Type 0 };
 
-    /// The stored bytes, which are among those that a crash now could leave. `Device` where the store failed, which it
-    /// counts; `OutOfMemory` where memory for the bytes is refused, which it doesn't count. Reading changes nothing that a
-    /// crash could leave.
+    /// The stored bytes, which are among those that a crash now could leave, and which are from now on those that the last read
+    /// gave. `Device` where the store failed, which it counts; `OutOfMemory` where memory for the bytes is refused, which it
+    /// doesn't count. Reading changes nothing that a crash could leave.
     fn read(&mut self, alloc: Global) -> Result<Vec<u8>, ReadFault>
         ensures reads { ReadsStore (may_fail self.old) (seen self.old) result (seen self.new) };
 

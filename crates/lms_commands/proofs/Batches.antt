@@ -1,6 +1,6 @@
 -- What a list of jobs did to a book, as told of the state in its world.
 use Rattle.std.proofs.Common.{◌≡◌, ◌∙◌, inl, inr, ⊎_elim, ℕ, zero, suc, ◌+◌, ◌≤◌, List, [], ◌∷◌, ◌++◌, drop, take, length, Option, None, Some, Result, Ok, Err, refl, sym, ap, subst, arith}
-use Rattle.std.specs.Prelude.{◌≢◌, ◌↔◌, IfSome, min}
+use Rattle.std.specs.Prelude.{◌↔◌, IfSome, min}
 use Rattle.std.specs.Io.KnownBytes.{Appends, Keeps}
 use Rattle.std.proofs.lemmas.List.{append-nil}
 use Rattle.std.proofs.lemmas.List.Sums.{sum_by-cons}
@@ -20,17 +20,22 @@ use Rattle.lms_batch.specs.Answers.{CouldBeReserved, IsAnswerAfter, start_of}
 use Rattle.lms_batch.specs.declared.collector.Batch.{Batch}
 use Rattle.lms_batch.specs.declared.service.BatchFault.{BatchFault}
 use Rattle.lms_batch.specs.declared.service.BatchFault.TheVariants as unsigned
-use Rattle.lms_lines.specs.AnswerLines.{answer_text}
-use Rattle.lms_lines.specs.SignedLines.{IsBatchRead, IsLinesFault}
+use Rattle.lms_lines.specs.AnswerLines.{answer_text, AppendsFront}
+use Rattle.lms_lines.specs.SignedLines.{IsBatchRead, IsUnsigned, signatures_in}
 use Rattle.lms_lines.specs.declared.fault.JobsFault.TheVariants as jobs
-use Rattle.lms_lines.specs.declared.signing.Done.{Done}
+use Rattle.lms_lines.specs.declared.signing.SignedJobs.{SignedJobs}
 use Rattle.lms_lines.specs.declared.signing.LinesFault.{LinesFault}
 use Rattle.lms_lines.specs.declared.signing.LinesFault.TheVariants as lines
-use Rattle.lms_commands.specs.Batches.{FailsToSignJobs, IsSilent, SignsAllJobs, SignsBatch, SignsInput, SignsJobs, SignsJobsInVain, Streams, streams}
+use Rattle.lms_commands.specs.Batches.{FailsToAnswer, FailsToSignInput, IsUnprinted, SignsAllJobs, SignsAsked, SignsBatch, Streams}
 use Rattle.lms_commands.specs.Faults.{of_lines}
 use Rattle.lms_commands.specs.declared.fault.Fault.{Fault}
+use Rattle.lms_commands.specs.declared.fault.Fault.TheVariants.{BadLevels, TooManyLevels, TooTall, BadSeed, BadId, BadRandom, BadWorkers, BadJob, TooManyJobs, StateExists, StateInUse, ReadState, BadState, WriteState, WriteStateBurnt, Exhausted, OutOfMemory, OutOfMemoryBurnt, Partial, Input, Output}
+use Rattle.lms_commands.specs.BatchLogs.{AnswersJobs, LogsBatch, LogsJobsUnsigned, LogsUnanswered, UsesAll}
+use Rattle.lms_commands.specs.Logs.{LeavesState, WorldCalls, OpensState, StoresUse, TriesUse, state_of}
+use Rattle.lms_world.specs.Events.{PutBack}
+use Rattle.lms_commands.proofs.Logged.{left_so, stored, tried}
 use Rattle.lms_world.specs.Known.{IsOldOr, Known, Stays, Text}
-use Rattle.lms_commands.specs.SharedBooks.{IsDoneBy, IsRefusedBy, at_one_desk}
+use Rattle.lms_commands.specs.SharedBooks.{IsRefusedBy, IsSignedByBook, at_one_desk}
 use Rattle.lms_commands.specs.Signing.{MayBurnIndices, MayBeImageOf, MayLackIndices, Opens, MayUseIndices}
 use Rattle.lms_commands.proofs.Signings.{IsJustOpened, image_is}
 
@@ -165,7 +170,7 @@ module _ (old new : Known) (state : Text) (start left : BookState) (store : Stor
   used_some zero some settled = absurd (omega (arith, some))
   used_some (suc n) some settled = uses n settled
 
-  signs_batch : (before after : Streams) (sum : Sums) (batch : Batch) (is : IsBatchRead (at_one_desk start) before.input after.input (sums 0 0 0) sum batch)
+  signs_batch : (before after : Option (List ℕ)) (sum : Sums) (batch : Batch) (is : IsBatchRead (at_one_desk start) before after (sums 0 0 0) sum batch)
       → IsSettled start sum left → SignsBatch old new state is.jobs batch
   signs_batch before after sum batch is settled = record {
     key = start.key;
@@ -175,31 +180,16 @@ module _ (old new : Known) (state : Text) (start left : BookState) (store : Stor
     start = λ some. starts_at start (length is.jobs) batch (is.reserved some) ∙ is_fresh.used;
   }
 
-  signs_input : (before after : Streams) (sum : Sums) (batch : Batch) → IsBatchRead (at_one_desk start) before.input after.input (sums 0 0 0) sum batch
-      → IsSettled start sum left → SignsInput old new state before after
-  signs_input before after sum batch is settled = record {
-    jobs = is.jobs;
-    batch = batch;
-    read = is.read;
-    signs = signs_batch before after sum batch is settled;
-  }
-
-  pub done_so : (before after : Streams) (done : Done) → IsDoneBy start before after done left → SignsJobs old new state before after done.signed done.asked
-  unfolding signs_input
-  done_so before after done (sum, (batch, is, printed, signed, asked), settled) = record {
-    made = signs_input before after sum batch is settled;
-    signed_is = signed;
-    asked_is = asked;
-    printed = printed;
-  }
+  pub signed_so : (before after : Option (List ℕ)) (signed : SignedJobs) → IsSignedByBook start before after signed left → SignsAsked old new state before after signed
+  signed_so before after signed (sum, (is, asked), settled) =
+      (record { jobs = is.jobs; read = is.read; signs = signs_batch before after sum signed.batch is settled }, asked)
 
   opens : Opens old state
   opens = (start.key, start.base, start.openings, start.burnt, counted, opened)
 
-  lines_failed : (before after : Streams) (fault : LinesFault) (sum : Sums)
-      → IsLinesFault (at_one_desk start) before.input after.input before.output after.output (sums 0 0 0) sum fault → IsSettled start sum left
-      → FailsToSignJobs old new state before after (of_lines fault)
-  unfolding signs_input
+  lines_failed : (before after : Option (List ℕ)) (fault : LinesFault) (sum : Sums)
+      → IsUnsigned (at_one_desk start) before after (sums 0 0 0) sum fault → IsSettled start sum left
+      → FailsToSignInput old new state before after (of_lines fault)
   lines_failed before after (lines.Jobs jobs.Read) sum is settled = (opens, stays (subst (λ (s : Sums). IsSettled start s left) is.1 settled))
   lines_failed before after (lines.Jobs (jobs.BadJob line)) sum is settled = (opens, is.0, stays (subst (λ (s : Sums). IsSettled start s left) is.1 settled))
   lines_failed before after (lines.Jobs jobs.TooManyJobs) sum is settled = (opens, is.0, stays (subst (λ (s : Sums). IsSettled start s left) is.1 settled))
@@ -230,11 +220,74 @@ module _ (old new : Known) (state : Text) (start left : BookState) (store : Stor
       let n = length is.jobs in
       let used = used_some n is.some (subst (λ (s : Sums). IsSettled start s left) (is.counted.1 ∙ from_none _) settled) in
       (is.jobs, is.read, (is.counted.0, (start.key, start.base, used)))
-  lines_failed before after lines.Write sum (batch, is, printed) settled = record { made = signs_input before after sum batch is settled; printed = printed }
+  lines_failed before after lines.Write sum is settled = absurd is
 
-  pub failed_so : (before after : Streams) (fault : Fault) → IsRefusedBy start before after fault left → FailsToSignJobs old new state before after fault
+  pub failed_so : (before after : Option (List ℕ)) (fault : Fault) → IsRefusedBy start before after fault left → FailsToSignInput old new state before after fault
   failed_so before after fault (sum, (lines, same, is), settled) =
-      subst (FailsToSignJobs old new state before after) (sym same) (lines_failed before after lines sum is settled)
+      subst (FailsToSignInput old new state before after) (sym same) (lines_failed before after lines sum is settled)
+
+-- the same, as told of the calls that were made
+module _ (start left : BookState) (view : StoreView) (before opened back : WorldCalls) (opens : OpensState start before opened) (is_fresh : IsJustOpened start)
+    (view_is : view ≡ left.store) (back_is : back ≡ PutBack view ∷ opened) where
+  leaves_none : (sum : Sums) → sum ≡ sums 0 0 0 → IsSettled start sum left → LeavesState (state_of start) before back
+  leaves_none sum none settled =
+      let same = no_entry start settled.entries left settled.after (settled.all ∙ none) in
+      left_so start left view before opened back opens is_fresh view_is back_is same
+
+  stores_some : (n : ℕ) → 1 ≤ n → IsSettled start (sums 1 n 0) left → StoresUse n (state_of start) before back
+  stores_some n some settled =
+      let made = (one_given start n settled.entries left some settled.after settled.all).reservation in
+      stored start left view before opened back opens is_fresh view_is back_is n made.0 made.3
+
+  tries_some : (n : ℕ) → 1 ≤ n → IsSettled start (sums 1 0 n) left → TriesUse n (state_of start) before back
+  tries_some n some settled =
+      let made = (one_burnt start n settled.entries left some settled.after settled.all).reservation in
+      tried start left view before opened back opens is_fresh view_is back_is n made.0 made.4
+
+  uses_all : (n : ℕ) (sum : Sums) → sum ≡ plus (sums 0 0 0) (sums (min 1 n) n 0) → IsSettled start sum left → UsesAll n (state_of start) before back
+  uses_all zero sum is settled = leaves_none sum is settled
+  uses_all (suc n) sum is settled = stores_some (suc n) (omega arith) (subst (λ (s : Sums). IsSettled start s left) (is ∙ from_some n) settled)
+
+  pub log_batch : (input rest : Option (List ℕ)) (signed : SignedJobs) → IsSignedByBook start input rest signed left
+      → (signs : LogsBatch input rest signed.batch before back) × (signed.asked ≡ length signs.jobs)
+  log_batch input rest signed (sum, (is, asked), settled) = (
+    record {
+      state = state_of start;
+      jobs = is.jobs;
+      read = is.read;
+      uses = uses_all (length is.jobs) sum is.counted settled;
+      answer = is.answer;
+      next = λ some. starts_at start (length is.jobs) signed.batch (is.reserved some) ∙ is_fresh.used;
+    },
+    asked,
+  )
+
+  log_lines : (input rest : Option (List ℕ)) (fault : LinesFault) (sum : Sums) → IsUnsigned (at_one_desk start) input rest (sums 0 0 0) sum fault
+      → IsSettled start sum left → LogsJobsUnsigned input rest (of_lines fault) (state_of start) before back
+  log_lines input rest (lines.Jobs jobs.Read) sum is settled = leaves_none sum is.1 settled
+  log_lines input rest (lines.Jobs (jobs.BadJob line)) sum is settled = leaves_none sum is.1 settled
+  log_lines input rest (lines.Jobs jobs.TooManyJobs) sum is settled = leaves_none sum is.1 settled
+  log_lines input rest (lines.Jobs jobs.OutOfMemory) sum is settled = leaves_none sum is.1 settled
+  log_lines input rest (lines.Batch unsigned.TooMany) sum is settled = absurd (is.few refl)
+  log_lines input rest (lines.Batch (unsigned.Book (book.Exhausted count))) sum is settled =
+      let (full, left_is, same) = (refused_so start (length is.jobs) (book.Exhausted count) is.reserved).1 in
+      (is.jobs, is.read, is.some, (omega (arith, full, is_fresh.used), omega (arith, left_is, is_fresh.used), leaves_none sum is.counted settled))
+  log_lines input rest (lines.Batch (unsigned.Book book.OutOfMemory)) sum is settled = leaves_none sum is.counted settled
+  log_lines input rest (lines.Batch (unsigned.Book (book.Store first len))) sum is settled =
+      let n = length is.jobs in
+      let refused = (refused_so start n (book.Store first len) is.reserved).1 in
+      let tries = tries_some n is.some (subst (λ (s : Sums). IsSettled start s left) (is.counted.1 ∙ from_none _) settled) in
+      (is.jobs, is.read, is.some, (refused.1 ∙ is_fresh.used, is.counted.0, tries))
+  log_lines input rest (lines.Batch (unsigned.OutOfMemory burnt)) sum is settled =
+      let n = length is.jobs in
+      let stores = stores_some n is.some (subst (λ (s : Sums). IsSettled start s left) (is.counted.1 ∙ from_none _) settled) in
+      (is.jobs, is.read, is.some, (is.counted.0, stores))
+  log_lines input rest lines.Write sum is settled = absurd is
+
+  pub log_refused : (input rest : Option (List ℕ)) (fault : Fault) → IsRefusedBy start input rest fault left
+      → LogsJobsUnsigned input rest fault (state_of start) before back
+  log_refused input rest fault (sum, (lines, same, is), settled) =
+      subst (λ (f : Fault). LogsJobsUnsigned input rest f (state_of start) before back) (sym same) (log_lines input rest lines sum is settled)
 
 -- the only desk of a shared book counts all that was reserved
 pub settled_one : (start book left : BookState) (desks : List Sums) (counted : Sums) → book ≡ start → desks ≡ counted ∷ [] → IsSettled book (total desks) left
@@ -249,43 +302,78 @@ lent_one len items lent first counted one was is =
     ap (λ (n : ℕ). take n (lent ++ drop (length lent) items)) one ∙ ap (λ (ds : List Sums). take 1 (ds ++ drop (length ds) items)) is
     ∙ ap (λ (ds : List Sums). take 1 (counted ∷ drop 1 ds)) was
 
-pub not_write : (fault : LinesFault) → IsSilent (of_lines fault) → fault ≢ lines.Write
-not_write (lines.Jobs fault) silent = λ e. cc
-not_write (lines.Batch fault) silent = λ e. cc
-not_write lines.Write silent = absurd silent
-
 flushed : (before mid after : Option (List ℕ)) (text : List ℕ) → Appends before mid text → Keeps mid after → Appends before after text
 flushed None mid after text appends keeps = tt
 flushed (Some x) None after text appends keeps = absurd appends
 flushed (Some x) (Some y) None text appends keeps = absurd keeps
 flushed (Some x) (Some y) (Some z) text appends keeps = keeps ∙ appends
 
-module _ (old new : Known) (state : Text) (before mid : Streams) (printed : Option (List ℕ)) (signed asked : ℕ) (keeps : Keeps mid.output printed) (is : SignsJobs old new state before mid signed asked) where
-  made : SignsInput old new state before (streams mid.input printed)
-  made = record { jobs = is.made.jobs; batch = is.made.batch; read = is.made.read; signs = is.made.signs }
+-- what was printed stays when it is passed on
+pub flushed_front : (before mid after : Option (List ℕ)) (text : List ℕ) → Appends before mid text → Keeps mid after → AppendsFront before after text
+flushed_front before mid after text appends keeps =
+    record { front = text; rest = []; whole = sym (append-nil _); appended = flushed before mid after text appends keeps }
 
-  -- what was printed stays when it is passed on
-  pub passed_on : SignsJobs old new state before (streams mid.input printed) signed asked
-  unfolding made
-  passed_on = record {
-    made = made;
-    signed_is = is.signed_is;
-    asked_is = is.asked_is;
-    printed = flushed before.output mid.output printed _ is.printed keeps;
-  }
+-- all jobs were signed and their lines printed
+pub answered_all : (old new : Known) (state : Text) (before after : Streams) (signed : SignedJobs) → SignsAsked old new state before.input after.input signed
+    → (signatures_in signed.batch ≡ signed.asked) × Appends before.output after.output (answer_text signed.batch) → SignsAllJobs old new state before after
+answered_all old new state before after signed (is, asked) (count, printed) = (
+  signed.asked,
+  record { batch = signed.batch; made = is; signed_is = sym count; asked_is = asked; printed = printed },
+)
 
-  pub all_passed_on : signed ≡ asked → SignsAllJobs old new state before (streams mid.input printed)
-  all_passed_on same = (asked, subst (λ (n : ℕ). SignsJobs old new state before (streams mid.input printed) n asked) same passed_on)
-
-  -- or may not have been passed on
-  pub not_passed_on : SignsJobsInVain old new state before (streams mid.input printed)
-  unfolding made
-  not_passed_on = record {
-    made = made;
-    printed = record { front = answer_text is.made.batch; rest = []; whole = sym (append-nil _); appended = flushed before.output mid.output printed _ is.printed keeps };
-  }
+-- they were not, or not all lines were printed
+pub unprinted : (old new : Known) (state : Text) (before after : Streams) (signed : SignedJobs) → SignsAsked old new state before.input after.input signed
+    → (fault : Fault) → IsUnprinted signed before.output after.output fault → FailsToAnswer old new state before after fault
+unprinted old new state before after signed is BadLevels never = absurd never
+unprinted old new state before after signed is TooManyLevels never = absurd never
+unprinted old new state before after signed is TooTall never = absurd never
+unprinted old new state before after signed is BadSeed never = absurd never
+unprinted old new state before after signed is BadId never = absurd never
+unprinted old new state before after signed is BadRandom never = absurd never
+unprinted old new state before after signed is BadWorkers never = absurd never
+unprinted old new state before after signed is (BadJob line) never = absurd never
+unprinted old new state before after signed is TooManyJobs never = absurd never
+unprinted old new state before after signed is StateExists never = absurd never
+unprinted old new state before after signed is StateInUse never = absurd never
+unprinted old new state before after signed is ReadState never = absurd never
+unprinted old new state before after signed is (BadState bad) never = absurd never
+unprinted old new state before after signed is WriteState never = absurd never
+unprinted old new state before after signed is (WriteStateBurnt start len) never = absurd never
+unprinted old new state before after signed is (Exhausted left) never = absurd never
+unprinted old new state before after signed is OutOfMemory never = absurd never
+unprinted old new state before after signed is (OutOfMemoryBurnt count) never = absurd never
+unprinted old new state before after signed (is, asked) (Partial some all) (differ, signed_is, all_is, printed) =
+    (differ, record { batch = signed.batch; made = is; signed_is = signed_is; asked_is = all_is ∙ asked; printed = printed })
+unprinted old new state before after signed is Input never = absurd never
+unprinted old new state before after signed (is, asked) Output printed = record { batch = signed.batch; made = is; printed = printed }
 
 -- of an input of which nothing is said
 pub says_nothing : (input : Option (List ℕ)) → IfSome input (λ text. Unit {0})
 says_nothing None = tt
 says_nothing (Some text) = tt
+
+-- the calls of a batch whose lines are not all printed
+pub log_unprinted : (input rest : Option (List ℕ)) (before printed : List ℕ) (signed : SignedJobs) (old new : WorldCalls)
+    (answers : AnswersJobs input rest before signed.batch old new) → signed.asked ≡ length answers.signs.jobs → (fault : Fault)
+    → IsUnprinted signed (Some before) (Some printed) fault → LogsUnanswered input rest before printed fault old new
+log_unprinted input rest before printed signed old new answers asked BadLevels never = absurd never
+log_unprinted input rest before printed signed old new answers asked TooManyLevels never = absurd never
+log_unprinted input rest before printed signed old new answers asked TooTall never = absurd never
+log_unprinted input rest before printed signed old new answers asked BadSeed never = absurd never
+log_unprinted input rest before printed signed old new answers asked BadId never = absurd never
+log_unprinted input rest before printed signed old new answers asked BadRandom never = absurd never
+log_unprinted input rest before printed signed old new answers asked BadWorkers never = absurd never
+log_unprinted input rest before printed signed old new answers asked (BadJob line) never = absurd never
+log_unprinted input rest before printed signed old new answers asked TooManyJobs never = absurd never
+log_unprinted input rest before printed signed old new answers asked StateExists never = absurd never
+log_unprinted input rest before printed signed old new answers asked StateInUse never = absurd never
+log_unprinted input rest before printed signed old new answers asked ReadState never = absurd never
+log_unprinted input rest before printed signed old new answers asked (BadState bad) never = absurd never
+log_unprinted input rest before printed signed old new answers asked WriteState never = absurd never
+log_unprinted input rest before printed signed old new answers asked (WriteStateBurnt start len) never = absurd never
+log_unprinted input rest before printed signed old new answers asked (Exhausted left) never = absurd never
+log_unprinted input rest before printed signed old new answers asked OutOfMemory never = absurd never
+log_unprinted input rest before printed signed old new answers asked (OutOfMemoryBurnt count) never = absurd never
+log_unprinted input rest before printed signed old new answers asked (Partial some all) (differ, some_is, all_is, lines) = (differ, (signed.batch, answers, some_is, all_is ∙ asked, lines))
+log_unprinted input rest before printed signed old new answers asked Input never = absurd never
+log_unprinted input rest before printed signed old new answers asked Output lines = (signed.batch, answers, lines)

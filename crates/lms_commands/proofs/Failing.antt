@@ -1,15 +1,19 @@
 -- Why commands fail, by the steps that failed.
-use Rattle.std.proofs.Common.{◌≡◌, ◌⊎◌, inl, inr, ℕ, suc, List, length, Option, Result, Ok, Err, sym, subst}
-use Rattle.std.specs.Prelude.{OnOk}
+use Rattle.std.proofs.Common.{◌≡◌, inr, ℕ, suc, List, length, Result, Ok, Err, sym, subst}
+use Rattle.std.specs.Prelude.{IfErr, IsErrAnd, OnOk}
 use Rattle.hex.specs.Hex.{decode_of}
-use Rattle.lms_spec.specs.Profile.{hss_public_key}
-use Rattle.lms_hss.specs.Keys.{hss_key_of}
 use Rattle.lms_hss.specs.declared.key.HssKey.{HssKey as KeyOfCode}
 use Rattle.lms_commands.specs.Keygen.{FailsToMakeKey, MayBeNewKey}
-use Rattle.lms_world.specs.Known.{IsPrintedLast, Known, Stays, Text}
-use Rattle.lms_commands.specs.Signing.{FailsToSign, MayUseIndices, SignsNext}
+use Rattle.lms_world.specs.Known.{Known, Stays, Text}
+use Rattle.lms_commands.specs.Signing.{FailsToSign, FailsUnder, MayUseIndices, SignsNext}
+use Rattle.lms_commands.specs.Faults.{of_read}
+use Rattle.lms_commands.specs.KeygenLogs.{IsUnpublished}
+use Rattle.lms_commands.specs.Verifying.{MayBeRefusedAt}
+use Rattle.lms_world.specs.declared.world.WorldFault.{WorldFault}
+use Rattle.lms_world.specs.declared.world.WorldFault.TheVariants as world
+use Rattle.lms_commands.specs.Logs.{IsReadRefused, WorldCalls}
 use Rattle.lms_commands.specs.declared.fault.Fault.{Fault}
-use Rattle.lms_commands.specs.declared.fault.Fault.TheVariants.{OutOfMemory, Output}
+use Rattle.lms_commands.specs.declared.fault.Fault.TheVariants.{BadLevels, TooManyLevels, TooTall, BadSeed, BadId, BadRandom, BadWorkers, BadJob, TooManyJobs, StateExists, StateInUse, ReadState, BadState, WriteState, WriteStateBurnt, Exhausted, OutOfMemory, OutOfMemoryBurnt, Partial, Input, Output}
 
 -- nothing changed
 pub stays_same : (at : Known) (state : Text) → Stays at at state
@@ -20,14 +24,16 @@ pub both_ok : {T E : Type 0} (result : Result T E) (P Q R : Type 0) → (P → Q
 both_ok (Ok x) P Q R more p q = more p q
 both_ok (Err e) P Q R more p q = tt
 
--- a new key's state was stored, and its public key or capacity was not published
-pub not_published : (old new : Known) (key : KeyOfCode) (state public : Text) (before after : Option (List ℕ)) → MayBeNewKey old new key state → (fault : Fault)
-    → (fault ≡ OutOfMemory) ⊎ ((fault ≡ Output) × IsPrintedLast new public (hss_public_key (hss_key_of key)) before after)
-    → FailsToMakeKey old new key state public before after fault
-not_published old new key state public before after made fault (inl is) =
-    subst (FailsToMakeKey old new key state public before after) (sym is) (inr made)
-not_published old new key state public before after made fault (inr (is, last)) =
-    subst (FailsToMakeKey old new key state public before after) (sym is) (made, last)
+-- what is done, or failed, of each state of a lock, is so of one of them
+pub made_with : {T E : Type 0} (result : Result T E) (Of Made : Text → Type 0) (state : Text) → Of state
+    → OnOk result ((name : Text) → Of name → Made name) → OnOk result (Made state)
+made_with (Ok x) Of Made state locked made = made state locked
+made_with (Err e) Of Made state locked made = tt
+
+pub failed_with : {T E : Type 0} (result : Result T E) (Of : Text → Type 0) (Fails : Text → E → Type 0) (state : Text) → Of state
+    → IfErr result (λ fault. (name : Text) → Of name → Fails name fault) → IfErr result (Fails state)
+failed_with (Ok x) Of Fails state locked failed = tt
+failed_with (Err e) Of Fails state locked failed = failed state locked
 
 -- an index is used, and no state changed after that
 pub may_use_still : (n : ℕ) (old mid new : Known) (state : Text) (key : KeyOfCode) (index : ℕ) → MayUseIndices (suc n) old mid state key index
@@ -52,20 +58,93 @@ signed_still old mid new state random message signature index is stays = record 
   signed = is.signed;
 }
 
--- the signature was not written, or the index not printed
-pub not_delivered : (old new : Known) (state random message out : Text) (before after : Option (List ℕ)) (randomizer text signature : List ℕ) (index : ℕ)
-    → (length randomizer ≡ 32) × (decode_of random ≡ Ok randomizer) → old.may_give message text → SignsNext old new state randomizer text signature index → (fault : Fault)
-    → (fault ≡ Output) × IsPrintedLast new out signature before after → FailsToSign old new state random message out before after fault
-not_delivered old new state random message out before after randomizer text signature index read given signed fault (is, last) =
-    subst (FailsToSign old new state random message out before after) (sym is) (record {
-      made = record {
-        randomizer = randomizer;
-        text = text;
-        signature = signature;
-        index = index;
-        randomizer_read = read;
-        text_may_be_given = given;
-        signed = signed;
-      };
-      printed_last = last;
-    })
+-- why a key was not made once its state may have been stored
+pub not_published : (old new : Known) (key : KeyOfCode) (state public : Text) (bytes line before printed : List ℕ) (then now : WorldCalls)
+    → MayBeNewKey old new key state → (fault : Fault) → IsUnpublished public bytes line before printed fault then now → FailsToMakeKey old new key state fault
+not_published old new key state public bytes line before printed then now made BadLevels never = absurd never
+not_published old new key state public bytes line before printed then now made TooManyLevels never = absurd never
+not_published old new key state public bytes line before printed then now made TooTall never = absurd never
+not_published old new key state public bytes line before printed then now made BadSeed never = absurd never
+not_published old new key state public bytes line before printed then now made BadId never = absurd never
+not_published old new key state public bytes line before printed then now made BadRandom never = absurd never
+not_published old new key state public bytes line before printed then now made BadWorkers never = absurd never
+not_published old new key state public bytes line before printed then now made (BadJob bad) never = absurd never
+not_published old new key state public bytes line before printed then now made TooManyJobs never = absurd never
+not_published old new key state public bytes line before printed then now made StateExists never = absurd never
+not_published old new key state public bytes line before printed then now made StateInUse never = absurd never
+not_published old new key state public bytes line before printed then now made ReadState never = absurd never
+not_published old new key state public bytes line before printed then now made (BadState bad) never = absurd never
+not_published old new key state public bytes line before printed then now made WriteState never = absurd never
+not_published old new key state public bytes line before printed then now made (WriteStateBurnt start len) never = absurd never
+not_published old new key state public bytes line before printed then now made (Exhausted left) never = absurd never
+not_published old new key state public bytes line before printed then now made OutOfMemory is = inr made
+not_published old new key state public bytes line before printed then now made (OutOfMemoryBurnt count) never = absurd never
+not_published old new key state public bytes line before printed then now made (Partial signed asked) never = absurd never
+not_published old new key state public bytes line before printed then now made Input never = absurd never
+not_published old new key state public bytes line before printed then now made Output is = made
+
+-- why a message that was read was not signed under a lock, or not delivered
+pub failed_under : (old new : Known) (state random message : Text) (randomizer text : List ℕ) → (length randomizer ≡ 32) × (decode_of random ≡ Ok randomizer)
+    → old.may_give message text → (fault : Fault) → FailsUnder old new state randomizer text fault → FailsToSign old new state random message fault
+failed_under old new state random message randomizer text read given BadLevels is = ((randomizer, read.0, read.1), (text, given), is)
+failed_under old new state random message randomizer text read given TooManyLevels is = ((randomizer, read.0, read.1), (text, given), is)
+failed_under old new state random message randomizer text read given TooTall is = ((randomizer, read.0, read.1), (text, given), is)
+failed_under old new state random message randomizer text read given BadSeed is = ((randomizer, read.0, read.1), (text, given), is)
+failed_under old new state random message randomizer text read given BadId is = ((randomizer, read.0, read.1), (text, given), is)
+failed_under old new state random message randomizer text read given BadRandom never = absurd never
+failed_under old new state random message randomizer text read given BadWorkers is = ((randomizer, read.0, read.1), (text, given), is)
+failed_under old new state random message randomizer text read given (BadJob line) is = ((randomizer, read.0, read.1), (text, given), is)
+failed_under old new state random message randomizer text read given TooManyJobs is = ((randomizer, read.0, read.1), (text, given), is)
+failed_under old new state random message randomizer text read given StateExists is = ((randomizer, read.0, read.1), (text, given), is)
+failed_under old new state random message randomizer text read given StateInUse never = absurd never
+failed_under old new state random message randomizer text read given ReadState is = ((randomizer, read.0, read.1), (text, given), is)
+failed_under old new state random message randomizer text read given (BadState bad) is = ((randomizer, read.0, read.1), (text, given), is)
+failed_under old new state random message randomizer text read given WriteState is = ((randomizer, read.0, read.1), (text, given), is)
+failed_under old new state random message randomizer text read given (WriteStateBurnt start len) is = ((randomizer, read.0, read.1), (text, given), is)
+failed_under old new state random message randomizer text read given (Exhausted left) is = ((randomizer, read.0, read.1), (text, given), is)
+failed_under old new state random message randomizer text read given OutOfMemory stays = ((randomizer, read.0, read.1), (inr (text, given), stays))
+failed_under old new state random message randomizer text read given (OutOfMemoryBurnt count) is = ((randomizer, read.0, read.1), (text, given), is)
+failed_under old new state random message randomizer text read given (Partial signed asked) is = ((randomizer, read.0, read.1), (text, given), is)
+failed_under old new state random message randomizer text read given Input never = absurd never
+failed_under old new state random message randomizer text read given Output is = record {
+  randomizer = randomizer;
+  text = text;
+  signature = is.0;
+  index = is.1;
+  randomizer_read = read;
+  text_may_be_given = given;
+  signed = is.2;
+}
+
+-- a fault that a `?` hands on
+pub handed_on : {T E : Type 0} (result : Result T E) (fault : E) (P : E → Type 0) → IsErrAnd result (λ other. other ≡ fault) → P fault → IfErr result P
+handed_on (Ok x) fault P is p = tt
+handed_on (Err other) fault P is p = subst P (sym is) p
+
+-- a read that is refused comes to one of two faults
+pub unread : (cause : WorldFault) → IsReadRefused (of_read cause)
+unread world.Device = tt
+unread world.OutOfMemory = tt
+
+pub refused_unread : (at : Known) (name : Text) (fault : Fault) → MayBeRefusedAt at name fault → IsReadRefused fault
+refused_unread at name BadLevels never = absurd never
+refused_unread at name TooManyLevels never = absurd never
+refused_unread at name TooTall never = absurd never
+refused_unread at name BadSeed never = absurd never
+refused_unread at name BadId never = absurd never
+refused_unread at name BadRandom never = absurd never
+refused_unread at name BadWorkers never = absurd never
+refused_unread at name (BadJob line) never = absurd never
+refused_unread at name TooManyJobs never = absurd never
+refused_unread at name StateExists never = absurd never
+refused_unread at name StateInUse never = absurd never
+refused_unread at name ReadState never = absurd never
+refused_unread at name (BadState bad) never = absurd never
+refused_unread at name WriteState never = absurd never
+refused_unread at name (WriteStateBurnt start len) never = absurd never
+refused_unread at name (Exhausted left) never = absurd never
+refused_unread at name OutOfMemory may = tt
+refused_unread at name (OutOfMemoryBurnt count) never = absurd never
+refused_unread at name (Partial signed asked) never = absurd never
+refused_unread at name Input may = tt
+refused_unread at name Output never = absurd never

@@ -1,7 +1,8 @@
 pub mod Batches
 pub mod Failing
 pub mod StayingRight
-pub mod LevelTexts
-pub mod SizedTexts
+pub mod Histories
+pub mod Logged
 pub mod Signings
-pub mod Workers
+pub mod Turns
+pub mod SigningTurns

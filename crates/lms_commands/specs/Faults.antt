@@ -21,15 +21,16 @@ use Rattle.lms_world.specs.declared.world.WorldFault.{WorldFault}
 use Rattle.lms_world.specs.declared.world.WorldFault.TheVariants as world
 use Rattle.lms_commands.specs.declared.fault.Fault.{Fault}
 use Rattle.lms_commands.specs.declared.fault.Fault.TheVariants.{BadLevels, TooManyLevels, TooTall, BadSeed, BadId, BadRandom, BadWorkers, BadJob, TooManyJobs, StateExists, StateInUse, ReadState, BadState, WriteState, WriteStateBurnt, Exhausted, OutOfMemory, OutOfMemoryBurnt, Partial, Input, Output}
-use Rattle.lms_commands.specs.declared.levels_fault.LevelsTextFault.{LevelsTextFault}
-use Rattle.lms_commands.specs.declared.levels_fault.LevelsTextFault.TheVariants as unread
+use Rattle.lms_texts.specs.Options.{levels_fault_text}
+use Rattle.lms_texts.specs.declared.levels_fault.LevelsTextFault.{LevelsTextFault}
+use Rattle.lms_texts.specs.declared.levels_fault.LevelsTextFault.TheVariants as unread
 use Rattle.lms_commands.specs.declared.signing.SignFault.{SignFault}
 use Rattle.lms_commands.specs.declared.signing.SignFault.TheVariants as signing
 use Rattle.lms_commands.specs.declared.status.Status.{Status}
 use Rattle.lms_commands.specs.declared.status.Status.TheVariants as status
 
 abbrev pub command_fault_text : Fault → List ℕ
-command_fault_text BadLevels = codes "bad levels"
+command_fault_text BadLevels = levels_fault_text unread.Bad
 command_fault_text TooManyLevels = key_text key.TooManyLevels
 command_fault_text TooTall = key_text key.TooTall
 command_fault_text BadSeed = codes "bad seed"
@@ -77,12 +78,6 @@ status_of (OutOfMemoryBurnt count) = status.Memory
 status_of (Partial signed asked) = status.Negative
 status_of Input = status.Stream
 status_of Output = status.Stream
-
--- the faults that come before any file is written, whatever the command
-abbrev pub IsBeforeFiles : Fault → Type 0
-IsBeforeFiles OutOfMemory = ⊥
-IsBeforeFiles Output = ⊥
-IsBeforeFiles _ = Unit {0}
 
 abbrev pub status_number : Status → ℕ
 status_number status.Done = 0

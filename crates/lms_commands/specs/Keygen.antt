@@ -12,10 +12,10 @@ use Rattle.lms_hss.specs.declared.key.HssKey.{HssKey as KeyOfCode}
 use Rattle.lms_hss.specs.declared.levels.KeyFault.{KeyFault}
 use Rattle.lms_hss.specs.declared.levels.KeyFault.TheVariants as refused
 use Rattle.lms_image.specs.Image.{id_size, image_of, seed_size}
-use Rattle.lms_commands.specs.Descriptions.{number_line}
+use Rattle.lms_texts.specs.Descriptions.{number_line}
 use Rattle.lms_commands.specs.Keeping.{StaysRight}
-use Rattle.lms_world.specs.Known.{IsOldOr, IsPrintedLast, Known, MayExist, SameNodes, Stays, Text}
-use Rattle.lms_commands.specs.Options.{IsLevelsText}
+use Rattle.lms_world.specs.Known.{IsOldOr, Known, MayExist, SameNodes, Stays, Text}
+use Rattle.lms_texts.specs.Options.{IsLevelsText}
 use Rattle.lms_commands.specs.declared.fault.Fault.{Fault}
 use Rattle.lms_commands.specs.declared.fault.Fault.TheVariants.{BadLevels, TooManyLevels, TooTall, BadSeed, BadId, StateExists, StateInUse, WriteState, OutOfMemory, Output}
 
@@ -78,12 +78,11 @@ abbrev pub KeepsWhereStored : Known → Known → KeyOfCode → Text → Type 0
 KeepsWhereStored old new key state = SameNodes old new ⊎ (MayBeNewKey old new key state × StaysRight old new state key)
 
 -- why no key was made, in the order in which it is found; memory may run out before the state is stored, and while the public key is
--- written. Where the output failed, nothing is printed before the file has the public key.
-abbrev pub FailsToMakeKey : Known → Known → KeyOfCode → Text → Text → Option (List ℕ) → Option (List ℕ) → Fault → Type 0
-FailsToMakeKey old new key state public before after StateInUse = old.may_be_in_use state × Stays old new state
-FailsToMakeKey old new key state public before after StateExists = MayExist old state × Stays old new state
-FailsToMakeKey old new key state public before after OutOfMemory = Stays old new state ⊎ MayBeNewKey old new key state
-FailsToMakeKey old new key state public before after WriteState = old.may_lack state × IsOldOr (image_of key 0 0 0) old new state
-FailsToMakeKey old new key state public before after Output =
-    MayBeNewKey old new key state × IsPrintedLast new public (hss_public_key (hss_key_of key)) before after
-FailsToMakeKey old new key state public before after _ = ⊥
+-- written
+abbrev pub FailsToMakeKey : Known → Known → KeyOfCode → Text → Fault → Type 0
+FailsToMakeKey old new key state StateInUse = old.may_be_in_use state × Stays old new state
+FailsToMakeKey old new key state StateExists = MayExist old state × Stays old new state
+FailsToMakeKey old new key state OutOfMemory = Stays old new state ⊎ MayBeNewKey old new key state
+FailsToMakeKey old new key state WriteState = old.may_lack state × IsOldOr (image_of key 0 0 0) old new state
+FailsToMakeKey old new key state Output = MayBeNewKey old new key state
+FailsToMakeKey old new key state _ = ⊥

@@ -1,11 +1,15 @@
-pub mod Descriptions
 pub mod Faults
 pub mod Keeping
 pub mod Keygen
-pub mod Options
 pub mod Signing
 pub mod Batches
 pub mod SharedBooks
 pub mod Judging
 pub mod Verdicts
 pub mod Verifying
+pub mod Logs
+pub mod KeygenLogs
+pub mod SignLogs
+pub mod ReadingLogs
+pub mod BatchLogs
+pub mod Histories

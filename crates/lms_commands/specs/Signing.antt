@@ -14,10 +14,10 @@ use Rattle.lms_image.specs.declared.image.ImageFault.{ImageFault}
 use Rattle.lms_book.specs.States.{BookState}
 use Rattle.lms_book.specs.Stops.{after_write}
 use Rattle.lms_book.specs.declared.history.Entry.TheVariants.{Given as Gave}
-use Rattle.lms_commands.specs.Descriptions.{info_text, number_line}
+use Rattle.lms_texts.specs.Descriptions.{info_text, number_line}
 use Rattle.lms_commands.specs.Keeping.{MayBeKept, StaysRight}
 use Rattle.lms_commands.specs.Keygen.{IsHexOf}
-use Rattle.lms_world.specs.Known.{IsOldOr, IsPrintedLast, Known, MayBeRead, SameNodes, Stays, Text}
+use Rattle.lms_world.specs.Known.{IsOldOr, Known, MayBeRead, SameNodes, Stays, Text}
 use Rattle.lms_commands.specs.declared.fault.Fault.{Fault}
 use Rattle.lms_commands.specs.declared.fault.Fault.TheVariants.{BadRandom, StateInUse, ReadState, BadState, WriteStateBurnt, Exhausted, OutOfMemory, OutOfMemoryBurnt, Input, Output}
 use Rattle.lms_commands.specs.declared.signing.SignFault.{SignFault}
@@ -146,23 +146,26 @@ pub record SignsFile (old new : Known) (state random message out : Text) (before
   pub signature_may_be_given : new.may_give out made.signature
   pub printed : Appends before after (number_line (codes "index") made.index)
 
--- it was, and the signature not written, or the index not printed: nothing is printed before the file has the signature
-pub record SignsInVain (old new : Known) (state random message out : Text) (before after : Option (List ℕ)) : Type 0 where
-  pub made : SignsMessage old new state random message
-  pub printed_last : IsPrintedLast new out made.signature before after
+-- a message was signed with the next index of the state's key, a file may have the signature, and the index is printed
+abbrev pub SignsUnder : Known → Known → Text → List ℕ → List ℕ → Text → Option (List ℕ) → Option (List ℕ) → Type 0
+SignsUnder old new state random text out before after = (signature : List ℕ) × (index : ℕ) × SignsNext old new state random text signature index
+    × new.may_give out signature × Appends before after (number_line (codes "index") index)
+
+-- why it was not, or not delivered, which uses an index
+abbrev pub FailsUnder : Known → Known → Text → List ℕ → List ℕ → Fault → Type 0
+FailsUnder old new state random text Output = (signature : List ℕ) × (index : ℕ) × SignsNext old new state random text signature index
+FailsUnder old new state random text fault = FailsToSignNext old new state fault
 
 -- memory ran out before an index was reserved: for the message, or once it was read
 abbrev pub LacksMemory : Known → Known → Text → Text → Type 0
 LacksMemory old new state message = (old.may_refuse message world.OutOfMemory ⊎ MayBeRead old message) × Stays old new state
 
 -- why no message was signed, in the order in which it is found; where only the output failed, an index is used
-abbrev pub FailsToSign : Known → Known → Text → Text → Text → Text → Option (List ℕ) → Option (List ℕ) → Fault → Type 0
-FailsToSign old new state random message out before after BadRandom = (¬ IsHexOf hash_length random) × Stays old new state
-FailsToSign old new state random message out before after Input =
-    IsHexOf hash_length random × old.may_refuse message world.Device × Stays old new state
-FailsToSign old new state random message out before after StateInUse =
+abbrev pub FailsToSign : Known → Known → Text → Text → Text → Fault → Type 0
+FailsToSign old new state random message BadRandom = (¬ IsHexOf hash_length random) × Stays old new state
+FailsToSign old new state random message Input = IsHexOf hash_length random × old.may_refuse message world.Device × Stays old new state
+FailsToSign old new state random message StateInUse =
     IsHexOf hash_length random × MayBeRead old message × old.may_be_in_use state × Stays old new state
-FailsToSign old new state random message out before after OutOfMemory = IsHexOf hash_length random × LacksMemory old new state message
-FailsToSign old new state random message out before after Output = SignsInVain old new state random message out before after
-FailsToSign old new state random message out before after fault =
-    IsHexOf hash_length random × MayBeRead old message × FailsToSignNext old new state fault
+FailsToSign old new state random message OutOfMemory = IsHexOf hash_length random × LacksMemory old new state message
+FailsToSign old new state random message Output = SignsMessage old new state random message
+FailsToSign old new state random message fault = IsHexOf hash_length random × MayBeRead old message × FailsToSignNext old new state fault

@@ -1,21 +1,25 @@
 //! `batch`: job lines signed by the next indices of a key's state.
-ghost use Rattle.std.specs.Prelude.{◌≡◌, ◌≤◌, ℕ, List, [], ◌∷◌, length, IfErr, IfOk, OnOk};
+ghost use Rattle.std.specs.Io.KnownBytes.{Appends};
+ghost use Rattle.std.specs.Prelude.{Some, ◌≡◌, ◌⊎◌, ◌≤◌, ℕ, List, [], ◌∷◌, length, IfErr, IfOk, OnOk};
 ghost use Rattle.lms_batch.specs.Jobs.{most_workers};
 ghost use Rattle.lms_shared_book.specs.Desks.{BlankFits, sums};
-ghost use Rattle.lms_commands.specs.Batches.{FailsToBatch, FailsToSignJobs, IsSilent, SignsAllJobs, SignsJobs, streams};
+ghost use Rattle.lms_lines.specs.AnswerLines.{answer_text};
+ghost use Rattle.lms_lines.specs.SignedLines.{signatures_in};
+ghost use Rattle.lms_commands.specs.BatchLogs.{LogsAnswers, LogsBatch, LogsJobs, LogsJobsFailed, LogsNoBatch, LogsUnanswered};
+ghost use Rattle.lms_commands.specs.Batches.{FailsToBatch, FailsToSignInput, FailsToSignJobs, IsSilent, IsUnprinted, SignsAllJobs, SignsAsked, streams};
 ghost use Rattle.lms_world.specs.Known.{SameFiles, SameNodes};
-ghost use Rattle.lms_commands.specs.Options.{AreWorkers};
-ghost use Rattle.lms_commands.specs.SharedBooks.{IsDoneAtDesk, IsDoneBy, IsRefusedAtDesk, IsRefusedBy};
+ghost use Rattle.lms_texts.specs.Options.{AreWorkers};
+ghost use Rattle.lms_commands.specs.SharedBooks.{IsRefusedAtDesk, IsRefusedBy, IsSignedAtDesk, IsSignedByBook};
 
 use crate::fault::Fault;
 use crate::files::{lock_state, open_state};
-use crate::options::workers_from;
 use lms_batch::SigningService;
 use lms_book::{Book, StateStore};
 use lms_hss::Progress;
-use lms_lines::{Done, sign_lines_watched};
+use lms_lines::{SignedJobs, count_signatures, read_and_sign, write_batch};
 use lms_shared_book::{Blanks, Desk, SharedBook, Tally};
-use lms_world::World;
+use lms_texts::workers_from;
+use lms_world::{Printer, World};
 use std::alloc::Global;
 use std::io::{Read, Write};
 use std::marker::Brand;
@@ -40,17 +44,20 @@ pub fn sign_jobs<W: World, I: Read, O: Write>(
     rt: &(impl Threads + Wait + Sync),
     alloc: Global,
     world: &mut W,
+    log: &mut W::Log,
     state: &str,
     workers: &str,
     input: &mut I,
-    output: &mut O,
+    output: &mut Printer<O>,
     progress: &impl Progress,
 ) -> Result<(), Fault>
+    ensures logged { OnOk result (LogsJobs state.now (I.remaining input.old) (I.remaining input.new) output.old output.new (W.events log.old) (W.events log.new)) }
+    ensures log_failed { IfErr result (λ fault. LogsJobsFailed state.now (I.remaining input.old) (I.remaining input.new) output.old output.new fault (W.events log.old) (W.events log.new)) }
     ensures workers { OnOk result (AreWorkers workers.now) }
     ensures signed { OnOk result (SignsAllJobs (W.known world.old) (W.known world.new) state.now
-        (streams (I.remaining input.old) (O.contents output.old)) (streams (I.remaining input.new) (O.contents output.new))) }
+        (streams (I.remaining input.old) (Some output.old)) (streams (I.remaining input.new) (Some output.new))) }
     ensures failed { IfErr result (FailsToBatch (W.known world.old) (W.known world.new) state.now workers.now
-        (streams (I.remaining input.old) (O.contents output.old)) (streams (I.remaining input.new) (O.contents output.new))) }
+        (streams (I.remaining input.old) (Some output.old)) (streams (I.remaining input.new) (Some output.new))) }
     ensures silent { IfErr result (λ fault. IsSilent fault → output.new ≡ output.old) }
     ensures files { SameFiles (W.known world.old) (W.known world.new) }
     ensures nodes { SameNodes (W.known world.old) (W.known world.new) }
@@ -58,109 +65,148 @@ pub fn sign_jobs<W: World, I: Read, O: Write>(
     let Some(workers) = workers_from(workers) else {
         return Err(Fault::BadWorkers);
     };
-    let lock = lock_state(alloc, world, state)?;
-    let done = sign_by_state(rt, alloc, world, &lock, workers, input, output, progress)?;
-    if output.flush().is_err() {
+    let lock = lock_state(alloc, world, log, state)?;
+    let done = sign_locked(
+        rt, alloc, world, log, &lock, workers, input, output, progress,
+    );
+    world.unlock(log, lock);
+    done
+}
+
+/// The same, once the lock is got. All answers are printed after the state's store was put back.
+fn sign_locked<W: World, I: Read, O: Write>(
+    rt: &(impl Threads + Wait + Sync),
+    alloc: Global,
+    world: &mut W,
+    log: &mut W::Log,
+    lock: &W::Lock,
+    workers: usize,
+    input: &mut I,
+    output: &mut Printer<O>,
+    progress: &impl Progress,
+) -> Result<(), Fault>
+    requires some { 1 ≤ workers }
+    requires at_most { workers ≤ most_workers }
+    ensures logged { OnOk result ((count : ℕ) × LogsAnswers (I.remaining input.old) (I.remaining input.new) output.old output.new count count
+        (W.events log.old) (W.events log.new)) }
+    ensures log_failed { IfErr result (λ fault.
+        (LogsNoBatch (I.remaining input.old) (I.remaining input.new) fault (W.events log.old) (W.events log.new) × (output.new ≡ output.old))
+        ⊎ LogsUnanswered (I.remaining input.old) (I.remaining input.new) output.old output.new fault (W.events log.old) (W.events log.new)) }
+    ensures signed { OnOk result ((state : List ℕ) → W.is_lock_of lock.now state
+        → SignsAllJobs (W.known world.old) (W.known world.new) state
+        (streams (I.remaining input.old) (Some output.old)) (streams (I.remaining input.new) (Some output.new))) }
+    ensures failed { IfErr result (λ fault. (state : List ℕ) → W.is_lock_of lock.now state
+        → FailsToSignJobs (W.known world.old) (W.known world.new) state
+        (streams (I.remaining input.old) (Some output.old)) (streams (I.remaining input.new) (Some output.new)) fault) }
+    ensures silent { IfErr result (λ fault. IsSilent fault → output.new ≡ output.old) }
+    ensures files { SameFiles (W.known world.old) (W.known world.new) }
+    ensures nodes { SameNodes (W.known world.old) (W.known world.new) }
+{
+    let signed = sign_by_state(rt, alloc, world, log, lock, workers, input, progress)?;
+    world.begin_printing(log, output);
+    print_answers(&signed, output)
+}
+
+/// Prints the lines of a batch. `Output` where that can't be done, maybe after a beginning of them; `Partial` where not all jobs were
+/// signed, after the lines of those that were.
+fn print_answers<O: Write>(signed: &SignedJobs, output: &mut O) -> Result<(), Fault>
+    ensures all { OnOk result ((signatures_in signed.now.batch ≡ signed.now.asked)
+        × Appends (O.contents output.old) (O.contents output.new) (answer_text signed.now.batch)) }
+    ensures failed { IfErr result (IsUnprinted signed.now (O.contents output.old) (O.contents output.new)) }
+{
+    let Ok(()) = write_batch(output, &signed.batch) else {
         return Err(Fault::Output);
-    }
-    if done.signed != done.asked {
+    };
+    let Ok(()) = output.flush() else {
+        return Err(Fault::Output);
+    };
+    let count = count_signatures(&signed.batch);
+    if count != signed.asked {
         return Err(Fault::Partial {
-            signed: done.signed,
-            asked: done.asked,
+            signed: count,
+            asked: signed.asked,
         });
     }
     Ok(())
 }
 
 /// Signs job lines with the next indices of the key of a lock's state.
-fn sign_by_state<W: World, I: Read, O: Write>(
+fn sign_by_state<W: World, I: Read>(
     rt: &(impl Threads + Wait + Sync),
     alloc: Global,
     world: &mut W,
+    log: &mut W::Log,
     lock: &W::Lock,
     workers: usize,
     input: &mut I,
-    output: &mut O,
     progress: &impl Progress,
-) -> Result<Done, Fault>
+) -> Result<SignedJobs, Fault>
     requires some { 1 ≤ workers }
     requires at_most { workers ≤ most_workers }
-    ensures signed { IfOk result (λ done. (state : List ℕ) → W.is_lock_of lock.now state
-        → SignsJobs (W.known world.old) (W.known world.new) state
-        (streams (I.remaining input.old) (O.contents output.old)) (streams (I.remaining input.new) (O.contents output.new))
-        done.signed done.asked) }
+    ensures logged { IfOk result (λ signed. (signs : LogsBatch (I.remaining input.old) (I.remaining input.new) signed.batch
+        (W.events log.old) (W.events log.new)) × (signed.asked ≡ length signs.jobs)) }
+    ensures log_failed { IfErr result (λ fault. LogsNoBatch (I.remaining input.old) (I.remaining input.new) fault
+        (W.events log.old) (W.events log.new)) }
+    ensures signed { IfOk result (λ signed. (state : List ℕ) → W.is_lock_of lock.now state
+        → SignsAsked (W.known world.old) (W.known world.new) state (I.remaining input.old) (I.remaining input.new) signed) }
     ensures failed { IfErr result (λ fault. (state : List ℕ) → W.is_lock_of lock.now state
-        → FailsToSignJobs (W.known world.old) (W.known world.new) state
-        (streams (I.remaining input.old) (O.contents output.old)) (streams (I.remaining input.new) (O.contents output.new)) fault) }
-    ensures silent { IfErr result (λ fault. IsSilent fault → output.new ≡ output.old) }
+        → FailsToSignInput (W.known world.old) (W.known world.new) state (I.remaining input.old) (I.remaining input.new) fault) }
     ensures files { SameFiles (W.known world.old) (W.known world.new) }
     ensures nodes { SameNodes (W.known world.old) (W.known world.new) }
 {
-    let book = open_state(alloc, world, lock)?;
-    let (answer, left) = sign_by_book(rt, alloc, book, workers, input, output, progress);
-    world.put_back(lock, left.close());
+    let book = open_state(alloc, world, log, lock)?;
+    let (answer, left) = sign_by_book(rt, alloc, book, workers, input, progress);
+    world.put_back(log, lock, left.close());
     answer
 }
 
 /// Signs job lines by a book that is shared meanwhile, with one desk, and hands the book back.
-fn sign_by_book<S: StateStore, I: Read, O: Write>(
+fn sign_by_book<S: StateStore, I: Read>(
     rt: &(impl Threads + Wait + Sync),
     alloc: Global,
     book: Book<S>,
     workers: usize,
     input: &mut I,
-    output: &mut O,
     progress: &impl Progress,
-) -> (Result<Done, Fault>, Book<S>)
+) -> (Result<SignedJobs, Fault>, Book<S>)
     requires some { 1 ≤ workers }
     requires at_most { workers ≤ most_workers }
-    ensures done { IfOk result.0 (λ done. IsDoneBy book (streams (I.remaining input.old) (O.contents output.old))
-        (streams (I.remaining input.new) (O.contents output.new)) done result.1) }
-    ensures refused { IfErr result.0 (λ fault. IsRefusedBy book (streams (I.remaining input.old) (O.contents output.old))
-        (streams (I.remaining input.new) (O.contents output.new)) fault result.1) }
-    ensures silent { IfErr result.0 (λ fault. IsSilent fault → output.new ≡ output.old) }
+    ensures signed { IfOk result.0 (λ signed. IsSignedByBook book (I.remaining input.old) (I.remaining input.new) signed result.1) }
+    ensures refused { IfErr result.0 (λ fault. IsRefusedBy book (I.remaining input.old) (I.remaining input.new) fault result.1) }
 {
     let blanks = Blanks {
         entries: Blank::new(2),
         given: Blank::new(2),
         burnt: Blank::new(2),
     };
-    sign_shared::<Brand, Brand, Brand, S, I, O>(
-        rt, alloc, book, blanks, workers, input, output, progress,
-    )
+    sign_shared::<Brand, Brand, Brand, S, I>(rt, alloc, book, blanks, workers, input, progress)
 }
 
 /// The same, with the ledgers of the desk. Where memory for the desk is refused, no line is read.
-fn sign_shared<E: Tally, G: Tally, B: Tally, S: StateStore, I: Read, O: Write>(
+fn sign_shared<E: Tally, G: Tally, B: Tally, S: StateStore, I: Read>(
     rt: &(impl Threads + Wait + Sync),
     alloc: Global,
     book: Book<S>,
     blanks: Blanks,
     workers: usize,
     input: &mut I,
-    output: &mut O,
     progress: &impl Progress,
-) -> (Result<Done, Fault>, Book<S>)
+) -> (Result<SignedJobs, Fault>, Book<S>)
     requires some { 1 ≤ workers }
     requires at_most { workers ≤ most_workers }
     requires same { book ≡ E.book }
     requires entries { BlankFits blanks.entries E.name E.parts 2 }
     requires given { BlankFits blanks.given G.name G.parts 2 }
     requires burnt { BlankFits blanks.burnt B.name B.parts 2 }
-    ensures done { IfOk result.0 (λ done. IsDoneBy book (streams (I.remaining input.old) (O.contents output.old))
-        (streams (I.remaining input.new) (O.contents output.new)) done result.1) }
-    ensures refused { IfErr result.0 (λ fault. IsRefusedBy book (streams (I.remaining input.old) (O.contents output.old))
-        (streams (I.remaining input.new) (O.contents output.new)) fault result.1) }
-    ensures silent { IfErr result.0 (λ fault. IsSilent fault → output.new ≡ output.old) }
+    ensures signed { IfOk result.0 (λ signed. IsSignedByBook book (I.remaining input.old) (I.remaining input.new) signed result.1) }
+    ensures refused { IfErr result.0 (λ fault. IsRefusedBy book (I.remaining input.old) (I.remaining input.new) fault result.1) }
 {
     let (shared, mut desks) = match SharedBook::<S, E, G, B>::share(alloc, book, blanks, 1) {
         Ok(shared) => shared,
         Err((_, book, _)) => return (Err(Fault::OutOfMemory), book),
     };
     let service = SigningService::over(shared);
-    let answer = sign_at_desk(
-        rt, alloc, &service, &mut desks, workers, input, output, progress,
-    );
+    let answer = sign_at_desk(rt, alloc, &service, &mut desks, workers, input, progress);
     match service.into_book().settle(desks) {
         Ok(left) => (answer, left),
         // All desks have come, so that nothing is let go here.
@@ -169,37 +215,24 @@ fn sign_shared<E: Tally, G: Tally, B: Tally, S: StateStore, I: Read, O: Write>(
 }
 
 /// Signs job lines at the only desk of a service, which has counted nothing.
-fn sign_at_desk<E: Tally, G: Tally, B: Tally, S: StateStore, I: Read, O: Write>(
+fn sign_at_desk<E: Tally, G: Tally, B: Tally, S: StateStore, I: Read>(
     rt: &(impl Threads + Wait + Sync),
     alloc: Global,
     service: &SigningService<S, E, G, B>,
     desks: &mut [Desk<E, G, B>],
     workers: usize,
     input: &mut I,
-    output: &mut O,
     progress: &impl Progress,
-) -> Result<Done, Fault>
+) -> Result<SignedJobs, Fault>
     requires some { 1 ≤ workers }
     requires at_most { workers ≤ most_workers }
     requires one { desks.old ≡ sums 0 0 0 ∷ [] }
-    ensures done { IfOk result (λ done. IsDoneAtDesk service.now (streams (I.remaining input.old) (O.contents output.old))
-        (streams (I.remaining input.new) (O.contents output.new)) done desks.new) }
-    ensures refused { IfErr result (λ fault. IsRefusedAtDesk service.now (streams (I.remaining input.old) (O.contents output.old))
-        (streams (I.remaining input.new) (O.contents output.new)) fault desks.new) }
-    ensures silent { IfErr result (λ fault. IsSilent fault → output.new ≡ output.old) }
+    ensures signed { IfOk result (λ signed. IsSignedAtDesk service.now (I.remaining input.old) (I.remaining input.new) signed desks.new) }
+    ensures refused { IfErr result (λ fault. IsRefusedAtDesk service.now (I.remaining input.old) (I.remaining input.new) fault desks.new) }
     ensures still { length desks.new ≡ 1 }
 {
-    match sign_lines_watched(
-        rt,
-        alloc,
-        service,
-        input,
-        output,
-        &mut desks[0],
-        workers,
-        progress,
-    ) {
-        Ok(done) => Ok(done),
+    match read_and_sign(rt, alloc, service, input, &mut desks[0], workers, progress) {
+        Ok(signed) => Ok(signed),
         Err(fault) => Err(Fault::from(fault)),
     }
 }

@@ -1,10 +1,9 @@
 //! Why the program ends with a fault, and its printed line.
-ghost use Rattle.std.specs.Prelude.{◌≡◌, OnOk, Some};
+ghost use Rattle.std.specs.Prelude.{◌≡◌, OnErr, OnOk, Some};
 ghost use Rattle.std.specs.Io.KnownBytes.{Appends};
+ghost use Rattle.lms_lines.specs.AnswerLines.{AppendsFront};
 ghost use Rattle.lms_commands.specs.Faults.{fault_line, of_book, of_key, of_opening, of_text, status_of, command_fault_text};
 
-use crate::levels_fault::LevelsTextFault;
-use crate::line::print_line;
 use crate::status::Status;
 use lms_batch::BatchFault;
 use lms_book::{BookFault, OpenFault, StoreFault};
@@ -12,9 +11,10 @@ use lms_hss::KeyFault;
 use lms_image::ImageFault;
 use lms_lines::{JobsFault, LinesFault, WriteFault};
 use lms_params::OutOfMemory;
+use lms_texts::{LevelsTextFault, print_line};
 use std::error::Error;
+use std::fmt;
 use std::io::Write;
-use std::{fmt, io};
 
 /// Why the program ends with a fault.
 #[derive(Clone, Copy, Debug, PartialEq, Eq)]
@@ -230,9 +230,10 @@ impl From<BookFault> for Fault {
 
 /// Prints the fault's line, `error: ` and its text.
 ///
-/// An error is the writer's own. On error, part of the line may have been written.
-pub fn print_fault<W: Write>(errors: &mut W, fault: Fault) -> io::Result<()>
-    ensures { OnOk result (Appends (W.contents errors.old) (W.contents errors.new) (fault_line fault)) }
+/// Where the writer fails, a beginning of it was written.
+pub fn print_fault<W: Write>(errors: &mut W, fault: Fault) -> Result<(), WriteFault>
+    ensures printed { OnOk result (Appends (W.contents errors.old) (W.contents errors.new) (fault_line fault)) }
+    ensures broken { OnErr result (AppendsFront (W.contents errors.old) (W.contents errors.new) (fault_line fault)) }
 {
     print_line(errors, format_args!("error: {fault}"))
 }

@@ -1,9 +1,11 @@
 //! What every command does with files and states.
-ghost use Rattle.std.specs.Prelude.{[], ◌≡◌, ◌⊎◌, ◌↔◌, ℕ, List, IfErr, IfOk, OnOk};
+ghost use Rattle.std.specs.Prelude.{[], ◌∷◌, ◌≡◌, ◌⊎◌, ◌↔◌, ℕ, List, IfErr, IfOk, OnOk};
 ghost use Rattle.lms_image.specs.Image.{HasImage};
 ghost use Rattle.lms_book.specs.Stops.{MayLeave};
 ghost use Rattle.lms_world.specs.Known.{MayBeRead, SameFiles, SameFilesBut, SameNodes, Stays};
+ghost use Rattle.lms_world.specs.Events.{Read, Opened, Written, Locked, bytes_of, is_done};
 ghost use Rattle.lms_commands.specs.Faults.{of_read};
+ghost use Rattle.lms_commands.specs.Logs.{LogsUnopened, OpensState};
 ghost use Rattle.lms_commands.specs.Signing.{FailsToOpen, MayBeImageOf};
 ghost use Rattle.lms_commands.specs.Verifying.{MayBeRefusedAt};
 
@@ -24,12 +26,18 @@ fn fault_of_read(fault: WorldFault) -> Fault
 }
 
 /// The bytes of a file. Faults as `fault_of_read`.
-pub(crate) fn read_file<W: World>(alloc: Global, world: &W, name: &str) -> Result<Vec<u8>, Fault>
+pub(crate) fn read_file<W: World>(
+    alloc: Global,
+    world: &W,
+    log: &mut W::Log,
+    name: &str,
+) -> Result<Vec<u8>, Fault>
+    ensures logged { W.events log.new ≡ Read name.now (bytes_of result) ∷ W.events log.old }
     ensures given { IfOk result (λ bytes. (W.known world.now).may_give name.now bytes.items) }
     ensures refused { IfErr result
         (MayBeRefusedAt (W.known world.now) name.now) }
 {
-    match world.read(alloc, name) {
+    match world.read(alloc, log, name) {
         Ok(bytes) => Ok(bytes),
         Err(fault) => Err(fault_of_read(fault)),
     }
@@ -39,8 +47,10 @@ pub(crate) fn read_file<W: World>(alloc: Global, world: &W, name: &str) -> Resul
 pub(crate) fn open_file<W: World>(
     alloc: Global,
     world: &W,
+    log: &mut W::Log,
     name: &str,
 ) -> Result<W::Contents, Fault>
+    ensures logged { W.events log.new ≡ Opened name.now (is_done result) ∷ W.events log.old }
     ensures there { IfOk result (λ _. MayBeRead (W.known world.now) name.now) }
     ensures given { IfOk result (λ contents. (bytes : List ℕ)
         → W.Contents.may_give contents bytes → (W.known world.now).may_give name.now bytes) }
@@ -49,7 +59,7 @@ pub(crate) fn open_file<W: World>(
     ensures refused { IfErr result
         (MayBeRefusedAt (W.known world.now) name.now) }
 {
-    match world.open(alloc, name) {
+    match world.open(alloc, log, name) {
         Ok(contents) => Ok(contents),
         Err(fault) => Err(fault_of_read(fault)),
     }
@@ -68,14 +78,20 @@ pub(crate) fn hand_over<C: Contents, T: Taker>(contents: C, taker: &mut T) -> Re
 
 /// Makes these the bytes of a file, and changes no other. `Output` where it can't be written, `OutOfMemory` where memory for
 /// that was refused.
-pub(crate) fn write_file<W: World>(world: &mut W, name: &str, bytes: &[u8]) -> Result<(), Fault>
+pub(crate) fn write_file<W: World>(
+    world: &mut W,
+    log: &mut W::Log,
+    name: &str,
+    bytes: &[u8],
+) -> Result<(), Fault>
+    ensures logged { W.events log.new ≡ Written name.now bytes.now (is_done result) ∷ W.events log.old }
     ensures given { OnOk result ((W.known world.new).may_give name.now bytes.now) }
     ensures failed { IfErr result (λ fault. (fault ≡ Fault.Output) ⊎ (fault ≡ Fault.OutOfMemory)) }
     ensures others { SameFilesBut name.now (W.known world.old) (W.known world.new) }
     ensures states { (state : List ℕ) → Stays (W.known world.old) (W.known world.new) state }
     ensures nodes { SameNodes (W.known world.old) (W.known world.new) }
 {
-    match world.write(name, bytes) {
+    match world.write(log, name, bytes) {
         Ok(()) => Ok(()),
         Err(WorldFault::Device) => Err(Fault::Output),
         Err(WorldFault::OutOfMemory) => Err(Fault::OutOfMemory),
@@ -83,12 +99,18 @@ pub(crate) fn write_file<W: World>(world: &mut W, name: &str, bytes: &[u8]) -> R
 }
 
 /// The lock of a state. `StateInUse` where it is not got, `OutOfMemory` where memory for its name was refused.
-pub(crate) fn lock_state<W: World>(alloc: Global, world: &W, state: &str) -> Result<W::Lock, Fault>
+pub(crate) fn lock_state<W: World>(
+    alloc: Global,
+    world: &W,
+    log: &mut W::Log,
+    state: &str,
+) -> Result<W::Lock, Fault>
+    ensures logged { W.events log.new ≡ Locked state.now (is_done result) ∷ W.events log.old }
     ensures locked { IfOk result (λ lock. W.is_lock_of lock state.now) }
     ensures refused { IfErr result (λ fault.
         ((fault ≡ Fault.StateInUse) × (W.known world.now).may_be_in_use state.now) ⊎ (fault ≡ Fault.OutOfMemory)) }
 {
-    match world.lock(alloc, state) {
+    match world.lock(alloc, log, state) {
         Ok(Some(lock)) => Ok(lock),
         Ok(None) => Err(Fault::StateInUse),
         Err(OutOfMemory) => Err(Fault::OutOfMemory),
@@ -100,8 +122,11 @@ pub(crate) fn lock_state<W: World>(alloc: Global, world: &W, state: &str) -> Res
 pub(crate) fn open_state<W: World>(
     alloc: Global,
     world: &mut W,
+    log: &mut W::Log,
     lock: &W::Lock,
 ) -> Result<Book<W::Store>, Fault>
+    ensures logged { IfOk result (λ book. OpensState book (W.events log.old) (W.events log.new)) }
+    ensures unopened { IfErr result (λ fault. LogsUnopened fault (W.events log.old) (W.events log.new)) }
     ensures opened { IfOk result (λ book. (state : List ℕ) → W.is_lock_of lock.now state
         → MayBeImageOf (W.known world.old) state book.key book.base book.openings book.burnt) }
     ensures counted { IfOk result (λ book. HasImage book.key book.base book.openings book.burnt) }
@@ -115,11 +140,11 @@ pub(crate) fn open_state<W: World>(
     ensures files { SameFiles (W.known world.old) (W.known world.new) }
     ensures nodes { SameNodes (W.known world.old) (W.known world.new) }
 {
-    let store = world.take_store(alloc, lock)?;
+    let store = world.take_store(alloc, log, lock)?;
     match Book::open(alloc, store) {
         Ok(book) => Ok(book),
         Err((fault, store)) => {
-            world.put_back(lock, store);
+            world.put_back(log, lock, store);
             Err(Fault::from(fault))
         }
     }

@@ -1,23 +1,23 @@
 //! `keygen`: a new key's state, and its public key.
-ghost use Rattle.std.specs.Prelude.{◌≡◌, ◌≢◌, ◌⊎◌, ℕ, List, IfErr, IfOk, OnErr, OnOk, codes};
+ghost use Rattle.std.specs.Prelude.{Some, [], ◌∷◌, ◌++◌, ◌≡◌, ◌≢◌, ◌⊎◌, ℕ, List, IfErr, IfOk, OnErr, OnOk, codes, false, true};
 ghost use Rattle.std.specs.Io.KnownBytes.{Appends};
 ghost use Rattle.lms_image.specs.Image.{image_of};
 ghost use Rattle.lms_book.specs.Stops.{WritesStore};
-ghost use Rattle.lms_commands.specs.Faults.{IsBeforeFiles};
 ghost use Rattle.lms_commands.specs.Keygen.{FailsToMakeKey, FailsToStore, IsKeyOf, IsNoKey, IsTaken, KeepsWhereStored, MakesKey};
-ghost use Rattle.lms_commands.specs.Descriptions.{number_line};
-ghost use Rattle.lms_world.specs.Known.{IsPrintedLast, SameFiles, SameFilesBut, SameNodes, Stays};
+ghost use Rattle.lms_texts.specs.Descriptions.{number_line};
+ghost use Rattle.lms_commands.specs.KeygenLogs.{IsUnpublished, capacity_line, LogsKeygen, LogsKeygenFailed, LogsUnmade, LogsUnstored, PublishesKey, StoresKey};
+ghost use Rattle.lms_world.specs.Events.{Printing, Written, after};
+ghost use Rattle.lms_world.specs.Known.{SameFiles, SameFilesBut, SameNodes, Stays};
 
-use crate::description::print_capacity;
 use crate::fault::Fault;
 use crate::files::{lock_state, write_file};
 use crate::keeping::keep_trees;
-use crate::options::{read_bytes, read_levels};
 use lms_book::{StateStore, StoreFault};
 use lms_hss::{HssKey, Levels, Progress};
 use lms_image::{Image, encode_image};
 use lms_kept::KeptTrees;
-use lms_world::World;
+use lms_texts::{print_capacity, read_bytes, read_levels};
+use lms_world::{Printer, World};
 use std::alloc::Global;
 use std::io::Write;
 use std::thread::Threads;
@@ -54,7 +54,7 @@ fn key_of(levels: Levels, seed: [u8; 32], id: [u8; 16]) -> HssKey
 /// In this order: `StateInUse` where the state's lock is not got, `StateExists` where the state is there, `WriteState`
 /// where it may not have been stored, and `Output` where the public key can't be written or the capacity not printed: the
 /// state is the new key's then. `OutOfMemory` may come before the state is written, which stays as it was, or while the
-/// public key is written, and then the state is the new key's. No file is written before the state is stored.
+/// public key is written, and then the state is the new key's. No file is written before the state is stored, and the lock is held to the end.
 ///
 /// The top tree's nodes are kept beside the state, once that is stored, for the first signature. Where that can't be done nothing is said.
 ///
@@ -63,53 +63,87 @@ pub fn make_key<W: World, O: Write>(
     rt: &(impl Threads + Sync),
     alloc: Global,
     world: &mut W,
+    log: &mut W::Log,
     key: HssKey,
     state: &str,
     public: &str,
-    output: &mut O,
+    output: &mut Printer<O>,
     progress: &impl Progress,
 ) -> Result<(), Fault>
+    ensures logged { OnOk result (LogsKeygen key state.now public.now output.old output.new (W.events log.old) (W.events log.new)) }
+    ensures log_failed { IfErr result (λ fault. LogsKeygenFailed key state.now public.now output.old output.new fault
+        (W.events log.old) (W.events log.new)) }
     ensures made { OnOk result (MakesKey (W.known world.old)
         (W.known world.new) key state.now public.now
-        (O.contents output.old) (O.contents output.new)) }
-    ensures failed { IfErr result (FailsToMakeKey (W.known world.old)
-        (W.known world.new) key state.now public.now
-        (O.contents output.old) (O.contents output.new)) }
+        (Some output.old) (Some output.new)) }
+    ensures failed { IfErr result (FailsToMakeKey (W.known world.old) (W.known world.new) key state.now) }
     ensures silent { IfErr result (λ fault. fault ≢ Fault.Output → output.new ≡ output.old) }
-    ensures unwritten { IfErr result (λ fault. IsBeforeFiles fault → SameFiles (W.known world.old) (W.known world.new)) }
     ensures files { SameFilesBut public.now (W.known world.old) (W.known world.new) }
     ensures nodes { KeepsWhereStored (W.known world.old) (W.known world.new) key state.now }
 {
-    let lock = lock_state(alloc, world, state)?;
-    if world.exists(&lock) {
+    let lock = lock_state(alloc, world, log, state)?;
+    let made = make_locked(rt, alloc, world, log, &lock, key, public, output, progress);
+    world.unlock(log, lock);
+    made
+}
+
+/// The same, once the lock is got.
+fn make_locked<W: World, O: Write>(
+    rt: &(impl Threads + Sync),
+    alloc: Global,
+    world: &mut W,
+    log: &mut W::Log,
+    lock: &W::Lock,
+    key: HssKey,
+    public: &str,
+    output: &mut Printer<O>,
+    progress: &impl Progress,
+) -> Result<(), Fault>
+    ensures logged { OnOk result (PublishesKey key public.now output.old (W.events log.old) (W.events log.new)
+        × (output.new ≡ output.old ++ capacity_line key)) }
+    ensures log_failed { IfErr result (λ fault. LogsUnmade key public.now output.old output.new fault (W.events log.old) (W.events log.new)) }
+    ensures made { OnOk result ((state : List ℕ) → W.is_lock_of lock.now state → MakesKey (W.known world.old)
+        (W.known world.new) key state public.now
+        (Some output.old) (Some output.new)) }
+    ensures failed { IfErr result (λ fault. (state : List ℕ) → W.is_lock_of lock.now state
+        → FailsToMakeKey (W.known world.old) (W.known world.new) key state fault) }
+    ensures silent { IfErr result (λ fault. fault ≢ Fault.Output → output.new ≡ output.old) }
+    ensures files { SameFilesBut public.now (W.known world.old) (W.known world.new) }
+    ensures nodes { (state : List ℕ) → W.is_lock_of lock.now state → KeepsWhereStored (W.known world.old) (W.known world.new) key state }
+{
+    if world.exists(log, lock) {
         return Err(Fault::StateExists);
     }
     let trees = KeptTrees::top(rt, alloc, key, progress)?;
-    store_key(alloc, world, key, &lock)?;
-    keep_trees(alloc, world, &lock, &trees);
-    publish(world, public, &trees.public(), key.capacity(), output)
+    store_key(alloc, world, log, lock, key)?;
+    keep_trees(alloc, world, log, lock, &trees);
+    publish(world, log, public, &trees.public(), key.capacity(), output)
 }
 
 /// Writes a public key to a file, and then prints its capacity. `OutOfMemory` where memory for the file was refused,
 /// `Output` where it can't be written, or the capacity not printed.
 fn publish<W: World, O: Write>(
     world: &mut W,
+    log: &mut W::Log,
     name: &str,
     public_key: &[u8],
     capacity: u64,
-    output: &mut O,
+    output: &mut Printer<O>,
 ) -> Result<(), Fault>
+    ensures logged { OnOk result (W.events log.new
+        ≡ after (Written name.now public_key.now true ∷ Printing output.old ∷ []) (W.events log.old)) }
+    ensures failed { IfErr result (λ fault. IsUnpublished name.now public_key.now (number_line (codes "capacity") capacity) output.old output.new fault
+        (W.events log.old) (W.events log.new)) }
     ensures given { OnOk result ((W.known world.new).may_give name.now public_key.now) }
-    ensures printed { OnOk result (Appends (O.contents output.old) (O.contents output.new)
+    ensures printed { OnOk result (Appends (Some output.old) (Some output.new)
         (number_line (codes "capacity") capacity)) }
-    ensures failed { IfErr result (λ fault. (fault ≡ Fault.OutOfMemory) ⊎ ((fault ≡ Fault.Output)
-        × IsPrintedLast (W.known world.new) name.now public_key.now (O.contents output.old) (O.contents output.new))) }
     ensures silent { IfErr result (λ fault. fault ≢ Fault.Output → output.new ≡ output.old) }
     ensures others { SameFilesBut name.now (W.known world.old) (W.known world.new) }
     ensures states { (state : List ℕ) → Stays (W.known world.old) (W.known world.new) state }
     ensures nodes { SameNodes (W.known world.old) (W.known world.new) }
 {
-    write_file(world, name, public_key)?;
+    write_file(world, log, name, public_key)?;
+    world.begin_printing(log, output);
     match print_capacity(output, capacity) {
         Ok(()) => Ok(()),
         Err(_) => Err(Fault::Output),
@@ -120,9 +154,12 @@ fn publish<W: World, O: Write>(
 fn store_key<W: World>(
     alloc: Global,
     world: &mut W,
-    key: HssKey,
+    log: &mut W::Log,
     lock: &W::Lock,
+    key: HssKey,
 ) -> Result<(), Fault>
+    ensures logged { OnOk result (StoresKey key (W.events log.old) (W.events log.new)) }
+    ensures unstored { IfErr result (λ fault. LogsUnstored key fault (W.events log.old) (W.events log.new)) }
     ensures stored { OnOk result ((state : List ℕ) → W.is_lock_of lock.now state
         → (W.known world.new).may_hold state (image_of key 0 0 0)) }
     ensures failed { IfErr result (λ fault. (state : List ℕ) → W.is_lock_of lock.now state
@@ -130,9 +167,9 @@ fn store_key<W: World>(
     ensures files { SameFiles (W.known world.old) (W.known world.new) }
     ensures nodes { SameNodes (W.known world.old) (W.known world.new) }
 {
-    let mut store = world.take_store(alloc, lock)?;
+    let mut store = world.take_store(alloc, log, lock)?;
     let stored = store_unused(&mut store, key);
-    world.put_back(lock, store);
+    world.put_back(log, lock, store);
     match stored {
         Ok(()) => Ok(()),
         Err(_) => Err(Fault::WriteState),

@@ -4,15 +4,11 @@
 #![tactic(auto)]
 
 mod batch;
-mod description;
 mod fault;
 mod files;
 mod info;
 mod keeping;
 mod keygen;
-mod levels_fault;
-mod line;
-mod options;
 mod signing;
 mod status;
 mod verdict;
@@ -22,8 +18,6 @@ pub use crate::batch::sign_jobs;
 pub use crate::fault::{Fault, print_fault};
 pub use crate::info::describe;
 pub use crate::keygen::{key_from, make_key};
-pub use crate::levels_fault::LevelsTextFault;
-pub use crate::options::read_levels;
 pub use crate::signing::sign_file;
 pub use crate::status::Status;
 pub use crate::verdict::Verdict;

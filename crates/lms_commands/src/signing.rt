@@ -1,5 +1,5 @@
 //! `sign`: a message signed with the next index of a key's state.
-ghost use Rattle.std.specs.Prelude.{◌≡◌, ◌≢◌, ◌⊎◌, ◌+◌, ℕ, List, ◌<◌, IfErr, IfOk, IfSome, None, Ok, OnOk, Some, codes, length, option_map};
+ghost use Rattle.std.specs.Prelude.{[], ◌∷◌, ◌++◌, ◌≡◌, ◌≢◌, ◌⊎◌, ◌+◌, ℕ, List, ◌<◌, IfErr, IfOk, IfSome, None, Ok, OnOk, Some, codes, length, option_map, false, true};
 ghost use Rattle.std.specs.Io.KnownBytes.{Appends};
 ghost use Rattle.hex.specs.Hex.{decode_of};
 ghost use Rattle.lms_spec.specs.HashLength.{hash_length};
@@ -10,23 +10,26 @@ ghost use Rattle.lms_book.specs.Books.{counter};
 ghost use Rattle.lms_book.specs.States.{IsOpenedFrom};
 ghost use Rattle.lms_book.specs.Stops.{Texts};
 ghost use Rattle.lms_commands.specs.Faults.{of_signing};
-ghost use Rattle.lms_commands.specs.Descriptions.{number_line};
+ghost use Rattle.lms_texts.specs.Descriptions.{number_line};
 ghost use Rattle.lms_commands.specs.Keygen.{IsHexOf};
-ghost use Rattle.lms_world.specs.Known.{IsPrintedLast, SameFiles, SameFilesBut, SameNodes, Stays};
+ghost use Rattle.lms_lines.specs.AnswerLines.{AppendsFront};
+ghost use Rattle.lms_world.specs.Events.{Printing, Written, after};
+ghost use Rattle.lms_commands.specs.Logs.{LogsKeeping};
+ghost use Rattle.lms_commands.specs.SignLogs.{index_line, DeliversSignature, LogsNotSigned, LogsSign, LogsSignFailed, LogsSigned, LogsUndelivered};
+ghost use Rattle.lms_world.specs.Known.{SameFiles, SameFilesBut, SameNodes, Stays};
 ghost use Rattle.lms_commands.specs.Keeping.{KeepsOnly};
-ghost use Rattle.lms_commands.specs.Signing.{FailsToSign, FailsToSignNext, GivesOne, KeepsWhereUsed, SignsFile, SignsNext, SignsNothing};
+ghost use Rattle.lms_commands.specs.Signing.{FailsToSign, FailsToSignNext, FailsUnder, GivesOne, KeepsWhereUsed, SignsFile, SignsNext, SignsNothing, SignsUnder};
 
-use crate::description::print_index;
 use crate::fault::Fault;
 use crate::files::{lock_state, open_state, read_file, write_file};
 use crate::keeping::{keep_trees, kept_text};
-use crate::options::read_bytes;
 use lms_batch::Job;
 use lms_book::{Book, BookFault, Lease, StateStore};
 use lms_hss::Progress;
 use lms_kept::{KeptSignature, KeptTrees, sign_by_text};
 use lms_params::OutOfMemory;
-use lms_world::World;
+use lms_texts::{print_index, read_bytes};
+use lms_world::{Printer, World};
 use std::alloc::Global;
 use std::io::Write;
 use std::thread::Threads;
@@ -76,34 +79,67 @@ pub fn sign_file<W: World, O: Write>(
     rt: &(impl Threads + Sync),
     alloc: Global,
     world: &mut W,
+    log: &mut W::Log,
     state: &str,
     random: &str,
     message: &str,
     out: &str,
-    output: &mut O,
+    output: &mut Printer<O>,
     progress: &impl Progress,
 ) -> Result<(), Fault>
+    ensures logged { OnOk result (LogsSign random.now message.now state.now out.now output.old output.new
+        (W.events log.old) (W.events log.new)) }
+    ensures log_failed { IfErr result (λ fault. LogsSignFailed random.now message.now state.now out.now output.old output.new fault
+        (W.events log.old) (W.events log.new)) }
     ensures signed { OnOk result (SignsFile (W.known world.old)
         (W.known world.new) state.now random.now message.now out.now
-        (O.contents output.old) (O.contents output.new)) }
+        (Some output.old) (Some output.new)) }
     ensures failed { IfErr result (FailsToSign (W.known world.old)
-        (W.known world.new) state.now random.now message.now out.now
-        (O.contents output.old) (O.contents output.new)) }
+        (W.known world.new) state.now random.now message.now) }
     ensures silent { IfErr result (λ fault. fault ≢ Fault.Output → output.new ≡ output.old) }
-    ensures unwritten { IfErr result (λ fault. fault ≢ Fault.Output → SameFiles (W.known world.old) (W.known world.new)) }
     ensures files { SameFilesBut out.now (W.known world.old) (W.known world.new) }
     ensures nodes { KeepsWhereUsed (W.known world.old) (W.known world.new) state.now }
 {
     let randomizer = randomizer_from(random)?;
-    let message = read_file(alloc, world, message)?;
+    let message = read_file(alloc, world, log, message)?;
     let job = Job {
         c: randomizer,
         message,
     };
-    let lock = lock_state(alloc, world, state)?;
-    let kept = kept_text(alloc, world, &lock);
-    let signed = sign_by_state(rt, alloc, world, &lock, &job, kept.as_deref(), progress)?;
-    deliver(world, out, &signed, output)
+    let lock = lock_state(alloc, world, log, state)?;
+    let done = sign_locked(rt, alloc, world, log, &lock, &job, out, output, progress);
+    world.unlock(log, lock);
+    done
+}
+
+/// The same, once the message is read and the lock is got.
+fn sign_locked<W: World, O: Write>(
+    rt: &(impl Threads + Sync),
+    alloc: Global,
+    world: &mut W,
+    log: &mut W::Log,
+    lock: &W::Lock,
+    job: &Job,
+    out: &str,
+    output: &mut Printer<O>,
+    progress: &impl Progress,
+) -> Result<(), Fault>
+    ensures logged { OnOk result ((delivers : DeliversSignature job.now.c job.now.message.items out.now output.old
+        (W.events log.old) (W.events log.new)) × (output.new ≡ output.old ++ index_line delivers.writes)) }
+    ensures log_failed { IfErr result (λ fault. LogsUndelivered job.now.c job.now.message.items out.now output.old output.new fault
+        (W.events log.old) (W.events log.new)) }
+    ensures signed { OnOk result ((state : List ℕ) → W.is_lock_of lock.now state
+        → SignsUnder (W.known world.old) (W.known world.new) state job.now.c job.now.message.items out.now
+        (Some output.old) (Some output.new)) }
+    ensures failed { IfErr result (λ fault. (state : List ℕ) → W.is_lock_of lock.now state
+        → FailsUnder (W.known world.old) (W.known world.new) state job.now.c job.now.message.items fault) }
+    ensures silent { IfErr result (λ fault. fault ≢ Fault.Output → output.new ≡ output.old) }
+    ensures files { SameFilesBut out.now (W.known world.old) (W.known world.new) }
+    ensures nodes { (state : List ℕ) → W.is_lock_of lock.now state → KeepsWhereUsed (W.known world.old) (W.known world.new) state }
+{
+    let kept = kept_text(alloc, world, log, lock);
+    let signed = sign_by_state(rt, alloc, world, log, lock, job, kept.as_deref(), progress)?;
+    deliver(world, log, out, &signed, output)
 }
 
 /// The randomizer of a text of 64 hexadecimal digits, else `BadRandom`.
@@ -121,24 +157,33 @@ fn randomizer_from(text: &str) -> Result<[u8; 32], Fault>
 /// file was refused, since the index is used.
 fn deliver<W: World, O: Write>(
     world: &mut W,
+    log: &mut W::Log,
     out: &str,
     signed: &Signed,
-    output: &mut O,
+    output: &mut Printer<O>,
 ) -> Result<(), Fault>
+    ensures logged { OnOk result (W.events log.new
+        ≡ after (Written out.now signed.now.signature.items true ∷ Printing output.old ∷ []) (W.events log.old)) }
+    ensures failed { IfErr result (λ fault. (fault ≡ Fault.Output)
+        × (((W.events log.new ≡ after (Written out.now signed.now.signature.items false ∷ []) (W.events log.old)) × (output.new ≡ output.old))
+        ⊎ ((W.events log.new
+        ≡ after (Written out.now signed.now.signature.items true ∷ Printing output.old ∷ []) (W.events log.old))
+        × AppendsFront (Some output.old) (Some output.new) (number_line (codes "index") signed.now.index)))) }
     ensures given { OnOk result ((W.known world.new).may_give out.now signed.now.signature.items) }
-    ensures printed { OnOk result (Appends (O.contents output.old) (O.contents output.new)
+    ensures printed { OnOk result (Appends (Some output.old) (Some output.new)
         (number_line (codes "index") signed.now.index)) }
-    ensures failed { IfErr result (λ fault. (fault ≡ Fault.Output) × IsPrintedLast (W.known world.new) out.now
-        signed.now.signature.items (O.contents output.old) (O.contents output.new)) }
     ensures others { SameFilesBut out.now (W.known world.old) (W.known world.new) }
     ensures states { (state : List ℕ) → Stays (W.known world.old) (W.known world.new) state }
     ensures nodes { SameNodes (W.known world.old) (W.known world.new) }
 {
-    if write_file(world, out, &signed.signature).is_err() {
-        return Err(Fault::Output);
-    }
-    match print_index(output, signed.index) {
-        Ok(()) => Ok(()),
+    match write_file(world, log, out, &signed.signature) {
+        Ok(()) => {
+            world.begin_printing(log, output);
+            match print_index(output, signed.index) {
+                Ok(()) => Ok(()),
+                Err(_) => Err(Fault::Output),
+            }
+        }
         Err(_) => Err(Fault::Output),
     }
 }
@@ -148,12 +193,16 @@ fn sign_by_state<W: World>(
     rt: &(impl Threads + Sync),
     alloc: Global,
     world: &mut W,
+    log: &mut W::Log,
     lock: &W::Lock,
     job: &Job,
     kept: Option<&[u8]>,
     progress: &impl Progress,
 ) -> Result<Signed, Fault>
     requires { (state : List ℕ) → W.is_lock_of lock.now state → IfSome kept (λ text. (W.known world.old).may_keep state text.now) }
+    ensures logged { IfOk result (λ signed. LogsSigned (option_map (λ text. text.now) kept.entry) job.now.c job.now.message.items
+        signed.index signed.signature.items (W.events log.old) (W.events log.new)) }
+    ensures log_failed { IfErr result (λ fault. LogsNotSigned fault (W.events log.old) (W.events log.new)) }
     ensures signed { IfOk result (λ signed. (state : List ℕ) → W.is_lock_of lock.now state
         → SignsNext (W.known world.old) (W.known world.new) state job.now.c job.now.message.items
         signed.signature.items signed.index) }
@@ -162,12 +211,12 @@ fn sign_by_state<W: World>(
     ensures files { SameFiles (W.known world.old) (W.known world.new) }
     ensures nodes { (state : List ℕ) → W.is_lock_of lock.now state → KeepsWhereUsed (W.known world.old) (W.known world.new) state }
 {
-    let mut book = open_state(alloc, world, lock)?;
+    let mut book = open_state(alloc, world, log, lock)?;
     let signed = sign_next(rt, alloc, &mut book, job, kept, progress);
-    world.put_back(lock, book.close());
+    world.put_back(log, lock, book.close());
     match signed {
         Ok(signed) => {
-            keep_signers(alloc, world, lock, &signed);
+            keep_signers(alloc, world, log, lock, &signed);
             Ok(signed)
         }
         Err(fault) => Err(Fault::from(fault)),
@@ -175,13 +224,20 @@ fn sign_by_state<W: World>(
 }
 
 /// Keeps the trees that signed, where what was read did not serve the index as it was.
-fn keep_signers<W: World>(alloc: Global, world: &mut W, lock: &W::Lock, signed: &Signed)
+fn keep_signers<W: World>(
+    alloc: Global,
+    world: &mut W,
+    log: &mut W::Log,
+    lock: &W::Lock,
+    signed: &Signed,
+)
+    ensures logged { LogsKeeping signed.now.trees (W.events log.old) (W.events log.new) }
     ensures kept { KeepsOnly signed.now.trees (W.known world.old) (W.known world.new) }
     ensures states { (state : List ℕ) → Stays (W.known world.old) (W.known world.new) state }
     ensures files { SameFiles (W.known world.old) (W.known world.new) }
 {
     if let Some(trees) = &signed.trees {
-        keep_trees(alloc, world, lock, trees);
+        keep_trees(alloc, world, log, lock, trees);
     }
 }
 

@@ -1,12 +1,13 @@
 //! What verification says, and its printed line.
-ghost use Rattle.std.specs.Prelude.{◌≡◌, ◌<◌, OnOk};
+ghost use Rattle.std.specs.Prelude.{◌≡◌, ◌<◌, OnErr, OnOk};
 ghost use Rattle.std.specs.Io.KnownBytes.{Appends};
+ghost use Rattle.lms_lines.specs.AnswerLines.{AppendsFront};
 ghost use Rattle.lms_commands.specs.Faults.{status_number};
 ghost use Rattle.lms_commands.specs.Verdicts.{line_of, verdict_status};
 
-use crate::line::print_line;
 use crate::status::Status;
-use std::io;
+use lms_lines::WriteFault;
+use lms_texts::print_line;
 use std::io::Write;
 
 /// What verification says of a signature.
@@ -31,9 +32,10 @@ impl Verdict {
 
 /// Prints the verdict's line, `valid` or `invalid`.
 ///
-/// An error is the writer's own. On error, part of the line may have been written.
-pub(crate) fn print_verdict<W: Write>(output: &mut W, verdict: Verdict) -> io::Result<()>
-    ensures { OnOk result (Appends (W.contents output.old) (W.contents output.new) (line_of verdict)) }
+/// On a fault, a beginning of it was printed.
+pub(crate) fn print_verdict<W: Write>(output: &mut W, verdict: Verdict) -> Result<(), WriteFault>
+    ensures printed { OnOk result (Appends (W.contents output.old) (W.contents output.new) (line_of verdict)) }
+    ensures broken { OnErr result (AppendsFront (W.contents output.old) (W.contents output.new) (line_of verdict)) }
 {
     match verdict {
         Verdict::Valid => print_line(output, "valid"),

@@ -1,16 +1,17 @@
 //! `verify`: a signature judged.
-ghost use Rattle.std.specs.Prelude.{◌≡◌, ◌≢◌, ℕ, List, [], IfErr, IfOk};
+ghost use Rattle.std.specs.Prelude.{Some, ◌≡◌, ◌≢◌, ℕ, List, [], IfErr, IfOk};
 ghost use Rattle.std.specs.Io.KnownBytes.{Appends};
 ghost use Rattle.lms_hss.specs.Verifying.{HasTaken as HasTakenByVerifier};
 ghost use Rattle.lms_commands.specs.Judging.{HasTaken};
 ghost use Rattle.lms_commands.specs.Verdicts.{IsRightFor, line_of};
+ghost use Rattle.lms_commands.specs.ReadingLogs.{LogsVerify, LogsVerifyFailed};
 ghost use Rattle.lms_commands.specs.Verifying.{FailsToJudge, Judges};
 
 use crate::fault::Fault;
 use crate::files::{hand_over, open_file, read_file};
 use crate::verdict::{Verdict, print_verdict};
 use lms_hss::{ByEights, Verifier};
-use lms_world::{Taker, World};
+use lms_world::{Printer, Taker, World};
 use std::alloc::Global;
 use std::io::Write;
 
@@ -22,24 +23,30 @@ use std::io::Write;
 pub fn verify_files<W: World, O: Write>(
     alloc: Global,
     world: &W,
+    log: &mut W::Log,
     public: &str,
     message: &str,
     signature: &str,
-    output: &mut O,
+    output: &mut Printer<O>,
 ) -> Result<Verdict, Fault>
+    ensures logged { IfOk result (λ verdict. LogsVerify public.now message.now signature.now verdict output.old output.new
+        (W.events log.old) (W.events log.new)) }
+    ensures log_failed { IfErr result (λ fault. LogsVerifyFailed public.now message.now signature.now output.old output.new fault
+        (W.events log.old) (W.events log.new)) }
     ensures judged { IfOk result (Judges (W.known world.now) public.now message.now signature.now) }
     ensures printed { IfOk result (λ verdict.
-        Appends (O.contents output.old) (O.contents output.new) (line_of verdict)) }
+        Appends (Some output.old) (Some output.new) (line_of verdict)) }
     ensures failed { IfErr result (FailsToJudge (W.known world.now)
         public.now message.now signature.now) }
     ensures silent { IfErr result (λ fault. fault ≢ Fault.Output → output.new ≡ output.old) }
 {
-    let public = read_file(alloc, world, public)?;
-    let message = open_file(alloc, world, message)?;
-    let signature = read_file(alloc, world, signature)?;
+    let public = read_file(alloc, world, log, public)?;
+    let message = open_file(alloc, world, log, message)?;
+    let signature = read_file(alloc, world, log, signature)?;
     let mut judge = Judge::begin(&public, &signature);
     hand_over(message, &mut judge)?;
     let verdict = judge.finish();
+    world.begin_printing(log, output);
     match print_verdict(output, verdict) {
         Ok(()) => Ok(verdict),
         Err(_) => Err(Fault::Output),

@@ -6,6 +6,8 @@ pub record HeldTexts : Type 0 where
   -- what was held before each write
   pub past : List (Option (List ℕ))
   pub text : Option (List ℕ)
+  -- what the last read gave, none before one
+  pub given : Option (List ℕ)
   pub failures : ℕ
 
 -- a stop leaves the text that is held, and none where there is none
@@ -15,7 +17,7 @@ held (Some text) = only text
 
 -- what contracts see of it, as of any store
 abbrev pub view_of : HeldTexts → StoreView
-view_of store = record { now = held store.text; past = map held store.past; failures = store.failures }
+view_of store = record { now = held store.text; past = map held store.past; given = store.given; failures = store.failures }
 
 -- another text is held, and the one before recorded
 abbrev pub holding : HeldTexts → List ℕ → HeldTexts

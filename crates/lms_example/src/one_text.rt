@@ -2,7 +2,7 @@
 ghost use Rattle.std.specs.Prelude.{◌≡◌, None, OnOk, OnErr};
 ghost use Rattle.lms_example.specs.HeldTexts.{holding};
 
-use lms_book::{ReadFault, StateStore, StoreFault};
+use lms_book::{LastRead, ReadFault, StateStore, StoreFault};
 use lms_params::OutOfMemory;
 use std::alloc::Global;
 use std::marker::Model;
@@ -15,6 +15,7 @@ pub(crate) struct OneText {
     alloc: Global,
     past: Vec<Option<Vec<u8>>>,
     text: Option<Vec<u8>>,
+    given: LastRead,
     failures: u64,
 }
 
@@ -27,6 +28,7 @@ impl Model for OneText {
     ghost view = { λ store. record {
       past = map (option_map (λ text. text.items)) store.past.items;
       text = option_map (λ text. text.items) store.text;
+      given = store.given;
       failures = store.failures;
     } };
 }
@@ -40,6 +42,7 @@ impl OneText {
             alloc,
             past: Vec::new(alloc),
             text: None,
+            given: LastRead::none(),
             failures: 0,
         }
     }
@@ -67,7 +70,11 @@ impl StateStore for OneText {
     /// Fails while there is no text.
     fn read(&mut self, alloc: Global) -> Result<Vec<u8>, ReadFault> {
         match &self.text {
-            Some(text) => { Vec::from_slice(alloc, text).map_err(|_| ReadFault::OutOfMemory) }
+            Some(text) => {
+                let text = Vec::from_slice(alloc, text).map_err(|_| ReadFault::OutOfMemory)?;
+                self.given = LastRead::of(&text);
+                Ok(text)
+            }
             None => {
                 self.failures = self.failures.saturating_add(1);
                 Err(ReadFault::Device)

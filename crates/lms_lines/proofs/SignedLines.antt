@@ -1,5 +1,5 @@
 -- A batch that answers the jobs that were read.
-use Rattle.std.proofs.Common.{◌≡◌, ◌≢◌, ℕ, zero, suc, refl, ◌+◌, ◌<◌, ◌≤◌, List, length, map, Option, Result, Ok, Err, sym, ap, ◌∙◌, subst, arith}
+use Rattle.std.proofs.Common.{◌≡◌, ℕ, zero, suc, refl, ◌+◌, ◌<◌, ◌≤◌, List, length, map, Option, Ok, Err, sym, ap, ◌∙◌, subst, arith}
 use Rattle.std.proofs.lemmas.List.{length-map}
 use Rattle.lms_spec.specs.Hss.{capacity_of}
 use Rattle.lms_hss.specs.Keys.{hss_key_of}
@@ -11,7 +11,9 @@ use Rattle.lms_batch.specs.declared.job.Job.{Job}
 use Rattle.lms_batch.specs.declared.service.BatchFault.{BatchFault}
 use Rattle.lms_batch.specs.declared.service.BatchFault.TheVariants.{TooMany}
 use Rattle.lms_lines.specs.JobsTexts.{ReadsJobs}
-use Rattle.lms_lines.specs.SignedLines.{IsBatchRead, IsBatchRefused}
+use Rattle.lms_lines.specs.SignedLines.{IsBatchRead, IsBatchRefused, IsLinesFault, IsUnsigned}
+use Rattle.lms_lines.specs.declared.signing.LinesFault.{LinesFault}
+use Rattle.lms_lines.specs.declared.signing.LinesFault.TheVariants as lines
 
 module _ (shared : SharedState) (old_input new_input : Option (List ℕ)) (before after : Sums) (lent jobs : List Job) (same : lent ≡ jobs) (read : ReadsJobs old_input new_input (map text_of jobs)) where
   count : length lent ≡ length (map text_of jobs)
@@ -47,6 +49,13 @@ module _ (shared : SharedState) (old_input new_input : Option (List ℕ)) (befor
     reserved = subst (λ (n : ℕ). CouldBeReserved shared before n (Err fault)) count (reserved some few);
     few = λ is. (let h : ⊥ = omega (arith, many is, few) in h);
   }
+
+-- where the jobs were not signed, no lines are answered
+pub not_answered : (shared : SharedState) (old_input new_input old_output new_output : Option (List ℕ)) (before after : Sums) (fault : LinesFault)
+    → IsUnsigned shared old_input new_input before after fault → IsLinesFault shared old_input new_input old_output new_output before after fault
+not_answered shared old_input new_input old_output new_output before after (lines.Jobs fault) is = is
+not_answered shared old_input new_input old_output new_output before after (lines.Batch fault) is = is
+not_answered shared old_input new_input old_output new_output before after lines.Write is = absurd is
 
 -- a number that is not 0
 pub not_none : (n : ℕ) → ¬ (n ≡ 0) → 1 ≤ n

@@ -15,6 +15,7 @@ use Rattle.lms_lines.specs.JobsTexts.{IsFaultOf, ReadsJobs}
 use Rattle.lms_lines.specs.declared.signing.Done.{Done}
 use Rattle.lms_lines.specs.declared.signing.LinesFault.{LinesFault}
 use Rattle.lms_lines.specs.declared.signing.LinesFault.TheVariants as lines
+use Rattle.lms_lines.specs.declared.signing.SignedJobs.{SignedJobs}
 
 -- how many signatures a batch has
 abbrev pub signatures_in : Batch → ℕ
@@ -39,18 +40,28 @@ pub record IsBatchRefused (shared : SharedState) (old_input new_input : Option (
   pub reserved : CouldBeReserved shared before (length jobs) (Err fault)
   pub few : fault ≢ TooMany
 
+-- the jobs that the reader had were signed as such a batch, and this is their number
+abbrev pub IsSigned : SharedState → Option (List ℕ) → Option (List ℕ) → Sums → Sums → SignedJobs → Type 0
+IsSigned shared old_input new_input before after signed =
+    (is : IsBatchRead shared old_input new_input before after signed.batch) × (signed.asked ≡ length is.jobs)
+
+-- why they were not: the input has a fault, and nothing is reserved; or there is no batch, which is not for too many jobs
+abbrev pub IsUnsigned : SharedState → Option (List ℕ) → Option (List ℕ) → Sums → Sums → LinesFault → Type 0
+IsUnsigned shared old_input new_input before after (lines.Jobs fault) = IfSome old_input (λ text. IsFaultOf text fault) × (after ≡ before)
+IsUnsigned shared old_input new_input before after (lines.Batch fault) = IsBatchRefused shared old_input new_input before after fault
+IsUnsigned shared old_input new_input before after lines.Write = ⊥
+
 -- such a batch was written: so many lines, for so many jobs
 abbrev pub IsDone : SharedState → Option (List ℕ) → Option (List ℕ) → Option (List ℕ) → Option (List ℕ) → Sums → Sums → Done → Type 0
 IsDone shared old_input new_input old_output new_output before after done =
-    (batch : Batch) × (is : IsBatchRead shared old_input new_input before after batch) × Appends old_output new_output (answer_text batch)
-    × (done.signed ≡ signatures_in batch) × (done.asked ≡ length is.jobs)
+    (jobs : SignedJobs) × IsSigned shared old_input new_input before after jobs × Appends old_output new_output (answer_text jobs.batch)
+    × (done.signed ≡ signatures_in jobs.batch) × (done.asked ≡ jobs.asked)
 
--- why it was not: the input has a fault, and nothing is reserved; or there is no batch, which is not for too many jobs; or its lines
--- were not all written
+-- why it was not: the jobs were not signed; or the lines of the batch were not all written
 abbrev pub IsLinesFault : SharedState → Option (List ℕ) → Option (List ℕ) → Option (List ℕ) → Option (List ℕ) → Sums → Sums → LinesFault → Type 0
 IsLinesFault shared old_input new_input old_output new_output before after (lines.Jobs fault) =
-    IfSome old_input (λ text. IsFaultOf text fault) × (after ≡ before)
+    IsUnsigned shared old_input new_input before after (lines.Jobs fault)
 IsLinesFault shared old_input new_input old_output new_output before after (lines.Batch fault) =
-    IsBatchRefused shared old_input new_input before after fault
+    IsUnsigned shared old_input new_input before after (lines.Batch fault)
 IsLinesFault shared old_input new_input old_output new_output before after lines.Write =
     (batch : Batch) × IsBatchRead shared old_input new_input before after batch × AppendsFront old_output new_output (answer_text batch)

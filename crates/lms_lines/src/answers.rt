@@ -10,7 +10,7 @@ use lms_batch::Batch;
 use std::io::{ErrorKind, Write};
 use std::{error, fmt};
 
-/// The answer lines were not all written.
+/// Not all was written.
 #[derive(Clone, Copy, Debug, PartialEq, Eq)]
 pub struct WriteFault;
 
@@ -82,7 +82,8 @@ fn write_hex<W: Write>(writer: &mut W, bytes: &[u8]) -> Result<(), WriteFault>
     Ok(())
 }
 
-fn write_bytes<W: Write>(writer: &mut W, bytes: &[u8]) -> Result<(), WriteFault>
+/// Writes these bytes, by as many writes as it takes. On a fault, a beginning of them was written.
+pub fn write_bytes<W: Write>(writer: &mut W, bytes: &[u8]) -> Result<(), WriteFault>
     ensures ok { OnOk result (Appends (W.contents writer.old) (W.contents writer.new) bytes.now) }
     ensures err { OnErr result (AppendsFront (W.contents writer.old) (W.contents writer.new) bytes.now) }
 {

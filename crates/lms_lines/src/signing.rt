@@ -1,7 +1,7 @@
 //! Job lines signed by a service.
 ghost use Rattle.std.specs.Prelude.{◌≡◌, ◌≢◌, ◌≤◌, IfOk, IfErr, count_by, is_some};
 ghost use Rattle.lms_batch.specs.Jobs.{most_workers};
-ghost use Rattle.lms_lines.specs.SignedLines.{IsDone, IsLinesFault, signatures_in};
+ghost use Rattle.lms_lines.specs.SignedLines.{IsDone, IsLinesFault, IsSigned, IsUnsigned, signatures_in};
 
 use crate::answers::{WriteFault, write_batch};
 use crate::fault::JobsFault;
@@ -22,6 +22,15 @@ use thiserror::Error;
 pub struct Done {
     /// How many jobs were signed: as many answer lines were written.
     pub signed: usize,
+    /// How many jobs there were.
+    pub asked: usize,
+}
+
+/// Jobs that were read and signed.
+#[derive(Drop)]
+pub struct SignedJobs {
+    /// Their signatures, in the order of the jobs.
+    pub batch: Batch,
     /// How many jobs there were.
     pub asked: usize,
 }
@@ -104,6 +113,44 @@ where
         (O.contents writer.old) (O.contents writer.new) desk.old desk.new) }
     ensures silent { IfErr result (λ fault. fault ≢ LinesFault.Write → writer.new ≡ writer.old) }
 {
+    let jobs = read_and_sign(rt, alloc, service, reader, desk, workers, progress)?;
+    match write_batch(writer, &jobs.batch) {
+        Ok(()) => Ok(Done {
+            signed: count_signatures(&jobs.batch),
+            asked: jobs.asked,
+        }),
+        Err(_) => Err(LinesFault::Write),
+    }
+}
+
+/// Reads job lines to their end and signs them as one batch by 1 to `MOST_WORKERS` workers, and writes nothing: `write_batch`
+/// writes the lines of the answer's batch. Waits for the book's lock and for the workers. The batch has fewer signatures than
+/// `asked` where a worker was refused memory. `progress` is told how many leaves of the trees are worked out that it needs.
+///
+/// `Jobs` where the lines are not read, as `read_jobs` says, and then nothing was reserved; `Batch` as
+/// `SigningService::sign_batch` says, but for too many jobs, which `Jobs` tells. Never `Write`.
+pub fn read_and_sign<S, E, G, B, R, I, P>(
+    rt: &R,
+    alloc: Global,
+    service: &SigningService<S, E, G, B>,
+    reader: &mut I,
+    desk: &mut Desk<E, G, B>,
+    workers: usize,
+    progress: &P,
+) -> Result<SignedJobs, LinesFault>
+where
+    S: StateStore,
+    E: Tally,
+    G: Tally,
+    B: Tally,
+    R: Threads + Wait + Sync,
+    I: Read,
+    P: Progress,
+    requires some { 1 ≤ workers }
+    requires at_most { workers ≤ most_workers }
+    ensures signed { IfOk result (IsSigned service.now (I.remaining reader.old) (I.remaining reader.new) desk.old desk.new) }
+    ensures unsigned { IfErr result (IsUnsigned service.now (I.remaining reader.old) (I.remaining reader.new) desk.old desk.new) }
+{
     let jobs = match read_jobs(alloc, reader) {
         Ok(jobs) => jobs,
         Err(fault) => return Err(LinesFault::Jobs(fault)),
@@ -114,17 +161,14 @@ where
         Ok(batch) => batch,
         Err(fault) => return Err(LinesFault::Batch(fault)),
     };
-    match write_batch(writer, &batch) {
-        Ok(()) => Ok(Done {
-            signed: signatures(&batch),
-            asked: jobs.len(),
-        }),
-        Err(_) => Err(LinesFault::Write),
-    }
+    Ok(SignedJobs {
+        batch,
+        asked: jobs.len(),
+    })
 }
 
-/// How many signatures a batch has.
-fn signatures(batch: &Batch) -> usize
+/// How many signatures a batch has: one for each job of a `Complete` batch, and fewer in a `Partial` one.
+pub fn count_signatures(batch: &Batch) -> usize
     ensures { result ≡ signatures_in batch.now }
 {
     match batch {

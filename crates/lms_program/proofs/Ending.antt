@@ -1,10 +1,14 @@
 -- How a run ends, by the command and by the fault.
-use Rattle.std.proofs.Common.{◌≡◌, ◌≢◌, ◌<◌, ◌≤◌, ℕ, List, Result, Ok, Err, refl, subst, inl, inr, arith}
-use Rattle.std.specs.Prelude.{IfErr, IfOk, MatchResult}
+use Rattle.std.proofs.Common.{append-nil, sym, [], Option, ◌≡◌, ◌<◌, ◌≤◌, ℕ, List, Result, Ok, Err, refl, subst, inl, inr, arith}
+use Rattle.std.specs.Prelude.{IfErr, OnErr, OnOk}
+use Rattle.std.specs.Io.KnownBytes.{Appends}
+use Rattle.lms_lines.specs.AnswerLines.{AppendsFront}
 use Rattle.clap.specs.Words.{Text}
 use Rattle.lms_program.specs.Commands.{AreTakenAs}
-use Rattle.lms_commands.specs.Faults.{IsBeforeFiles, status_number, status_of}
+use Rattle.lms_commands.specs.Faults.{status_number, status_of}
 use Rattle.lms_commands.specs.Batches.{IsSilent}
+use Rattle.lms_commands.specs.Logs.{WorldCalls}
+use Rattle.lms_commands.specs.SignLogs.{LogsSign, LogsSignFailed}
 use Rattle.lms_program.specs.Runs.{AsksToRead, Ends, RunFails, FailsToObey, Moment, Obeys, ReadsInput}
 use Rattle.lms_program.specs.declared.command.types.Command.{Command}
 use Rattle.lms_program.specs.declared.command.types.Command.TheVariants.{Batch, Info, Keygen, Sign, Verify}
@@ -24,22 +28,6 @@ command_ends old new words command reads status.State is = absurd is
 command_ends old new words command reads status.Exhausted is = absurd is
 command_ends old new words command reads status.Memory is = absurd is
 command_ends old new words command reads status.Stream is = absurd is
-
--- a fault that comes before files is not that of the output
-pub not_output : (fault : Fault) → IsBeforeFiles fault → fault ≢ Output
-not_output fault before is = absurd (subst IsBeforeFiles is before)
-
--- what is obeyed has a status below 2, so what is kept at errors that come before files is kept at each status from 2 on
-pub kept_before_files : (old new : Moment) (command : Command) (result : Result Status Fault) (Kept : Type 0) → IfOk result (Obeys old new command)
-    → IfErr result (λ fault. IsBeforeFiles fault → Kept) → MatchResult result (λ end. 2 ≤ status_number end → Kept) (λ fault. IsBeforeFiles fault → Kept)
-kept_before_files old new command (Ok status.Done) Kept done failed = λ two. absurd (omega (arith, two))
-kept_before_files old new command (Ok status.Negative) Kept done failed = λ two. absurd (omega (arith, two))
-kept_before_files old new command (Ok status.Usage) Kept done failed = absurd done
-kept_before_files old new command (Ok status.State) Kept done failed = absurd done
-kept_before_files old new command (Ok status.Exhausted) Kept done failed = absurd done
-kept_before_files old new command (Ok status.Memory) Kept done failed = absurd done
-kept_before_files old new command (Ok status.Stream) Kept done failed = absurd done
-kept_before_files old new command (Err fault) Kept done failed = failed
 
 -- a run fails as its command does, which prints nothing but where the output fails
 pub command_fails : (old new : Moment) (words : List Text) (command : Command) → AreTakenAs words command
@@ -132,3 +120,51 @@ speaks old new words OutOfMemory low is = absurd (omega (arith, low))
 speaks old new words (OutOfMemoryBurnt count) low is = absurd (omega (arith, low))
 speaks old new words Input low is = absurd (omega (arith, low))
 speaks old new words Output low is = absurd (omega (arith, low))
+
+-- a fault with a status from 2 to 5 prints nothing
+pub prints_nothing : (fault : Fault) (P : Type 0) → (IsSilent fault → P) → 2 ≤ status_number (status_of fault) → status_number (status_of fault) < 6 → P
+prints_nothing (Partial signed asked) P silent low high = absurd (omega (arith, low))
+prints_nothing Output P silent low high = absurd (omega (arith, high))
+prints_nothing BadLevels P silent low high = silent tt
+prints_nothing TooManyLevels P silent low high = silent tt
+prints_nothing TooTall P silent low high = silent tt
+prints_nothing BadSeed P silent low high = silent tt
+prints_nothing BadId P silent low high = silent tt
+prints_nothing BadRandom P silent low high = silent tt
+prints_nothing BadWorkers P silent low high = silent tt
+prints_nothing (BadJob line) P silent low high = silent tt
+prints_nothing TooManyJobs P silent low high = silent tt
+prints_nothing StateExists P silent low high = silent tt
+prints_nothing StateInUse P silent low high = silent tt
+prints_nothing ReadState P silent low high = silent tt
+prints_nothing (BadState bad) P silent low high = silent tt
+prints_nothing WriteState P silent low high = silent tt
+prints_nothing (WriteStateBurnt start len) P silent low high = silent tt
+prints_nothing (Exhausted left) P silent low high = silent tt
+prints_nothing OutOfMemory P silent low high = silent tt
+prints_nothing (OutOfMemoryBurnt count) P silent low high = silent tt
+prints_nothing Input P silent low high = silent tt
+
+-- what is printed whole or cut short
+pub any_front : {T E : Type 0} (r : Result T E) (before after : Option (List ℕ)) (text : List ℕ) → OnOk r (Appends before after text)
+    → OnErr r (AppendsFront before after text) → AppendsFront before after text
+any_front (Ok x) before after text all front = record { front = text; rest = []; whole = sym (append-nil text); appended = all }
+any_front (Err e) before after text all front = front
+
+-- the calls of a message's signing, by texts that are equal
+pub signed_as : {random c message m state s out o : List ℕ} {before printed : List ℕ} {old new : WorldCalls} → random ≡ c → message ≡ m → state ≡ s → out ≡ o
+    → LogsSign random message state out before printed old new → LogsSign c m s o before printed old new
+signed_as {random} {c} {message} {m} {state} {s} {out} {o} {before} {printed} {old} {new} random_is message_is state_is out_is is =
+    subst (λ (t : List ℕ). LogsSign c m s t before printed old new) out_is
+    (subst (λ (t : List ℕ). LogsSign c m t out before printed old new) state_is
+    (subst (λ (t : List ℕ). LogsSign c t state out before printed old new) message_is
+    (subst (λ (t : List ℕ). LogsSign t message state out before printed old new) random_is is)))
+
+-- the same, where it fails
+pub failed_as : {random c message m state s out o : List ℕ} {before printed : List ℕ} {fault : Fault} {old new : WorldCalls} → random ≡ c → message ≡ m → state ≡ s → out ≡ o
+    → LogsSignFailed random message state out before printed fault old new → LogsSignFailed c m s o before printed fault old new
+failed_as {random} {c} {message} {m} {state} {s} {out} {o} {before} {printed} {fault} {old} {new} random_is message_is state_is out_is is =
+    subst (λ (t : List ℕ). LogsSignFailed c m s t before printed fault old new) out_is
+    (subst (λ (t : List ℕ). LogsSignFailed c m t out before printed fault old new) state_is
+    (subst (λ (t : List ℕ). LogsSignFailed c t state out before printed fault old new) message_is
+    (subst (λ (t : List ℕ). LogsSignFailed t message state out before printed fault old new) random_is is)))

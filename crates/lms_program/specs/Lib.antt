@@ -2,3 +2,5 @@ pub mod Application
 pub mod Commands
 pub mod Runs
 pub mod UsageWords
+pub mod RunLogs
+pub mod RunTurns

@@ -9,7 +9,7 @@ use Rattle.lms_commands.specs.Faults.{status_of}
 use Rattle.lms_commands.specs.Keeping.{StaysRight}
 use Rattle.lms_commands.specs.Keygen.{FailsToMakeKey, IsKeyOf, IsNoKey, MakesKey, MayBeNewKey}
 use Rattle.lms_world.specs.Known.{Known, SameNodes, Stays}
-use Rattle.lms_commands.specs.Options.{AreWorkers}
+use Rattle.lms_texts.specs.Options.{AreWorkers}
 use Rattle.lms_commands.specs.Signing.{Describes, FailsToDescribe, FailsToSign, KeepsAsUsed, SignsFile}
 use Rattle.lms_commands.specs.Verdicts.{line_of}
 use Rattle.lms_commands.specs.Verifying.{FailsToJudge, Judges}
@@ -64,10 +64,10 @@ abbrev pub FailsToObey : Moment → Moment → Command → Fault → Type 0
 FailsToObey old new (Keygen levels seed id state public) fault =
     (IsNoKey (string_bytes levels) (string_bytes seed) (string_bytes id) fault × Stays old.known new.known (string_bytes state))
     ⊎ ((key : KeyOfCode) × IsKeyOf (string_bytes levels) (string_bytes seed) (string_bytes id) key
-    × FailsToMakeKey old.known new.known key (string_bytes state) (string_bytes public) old.output new.output fault)
+    × FailsToMakeKey old.known new.known key (string_bytes state) fault)
 FailsToObey old new (Info state) fault = FailsToDescribe old.known (string_bytes state) fault × Stays old.known new.known (string_bytes state)
 FailsToObey old new (Sign state random message out) fault =
-    FailsToSign old.known new.known (string_bytes state) (string_bytes random) (string_bytes message) (string_bytes out) old.output new.output fault
+    FailsToSign old.known new.known (string_bytes state) (string_bytes random) (string_bytes message) fault
 FailsToObey old new (Batch state workers) fault =
     FailsToBatch old.known new.known (string_bytes state) (string_bytes workers) (streams_at old) (streams_at new) fault
 FailsToObey old new (Verify public message signature) fault =

@@ -4,4 +4,5 @@
 #![tactic(auto)]
 
 pub mod command;
+pub mod laws;
 pub mod run;

@@ -1,9 +1,11 @@
 //! The whole program, over its arguments, its files and its streams.
-ghost use Rattle.std.specs.Prelude.{◌≡◌, ◌⊎◌, ◌<◌, ◌≤◌, ℕ, List, IfErr, IfOk, MatchResult, OnOk, map};
+ghost use Rattle.std.specs.Prelude.{Some, ◌≡◌, ◌⊎◌, ◌<◌, ◌≤◌, ℕ, List, IfErr, IfOk, MatchResult, OnErr, OnOk, map};
 ghost use Rattle.std.specs.Io.KnownBytes.{Appends};
 ghost use Rattle.lms_commands.specs.Batches.{IsSilent};
-ghost use Rattle.lms_commands.specs.Faults.{IsBeforeFiles, status_number, status_of};
-ghost use Rattle.lms_world.specs.Known.{SameFile, SameFiles, SameNodes};
+ghost use Rattle.lms_lines.specs.AnswerLines.{AppendsFront};
+ghost use Rattle.lms_commands.specs.Faults.{fault_line, status_number, status_of};
+ghost use Rattle.lms_world.specs.Known.{SameFile, SameNodes};
+ghost use Rattle.lms_program.specs.RunLogs.{LogsAnswered, LogsFailed, LogsObeyed, LogsRefused, LogsRun};
 ghost use Rattle.lms_program.specs.Runs.{AsksToRead, AsksToTouch, Ends, RunFails, FailsToObey, Keeps, KeepsNodes, NoneWrites, Obeys, ReadsInput, Touches, Writes, moment};
 ghost use Rattle.lms_commands.specs.declared.status.Status.{Status};
 
@@ -12,7 +14,7 @@ use lms_commands::{
     Fault, Status, describe, key_from, make_key, print_fault, sign_file, sign_jobs, verify_files,
 };
 use lms_hss::{Progress, Unwatched};
-use lms_world::World;
+use lms_world::{Printer, World};
 use std::alloc::Global;
 use std::convert::AsStr;
 use std::io;
@@ -32,22 +34,26 @@ pub fn run<S: AsStr, W: World, I: Read, O: Write, E: Write>(
     alloc: Global,
     words: &[S],
     world: &mut W,
+    log: &mut W::Log,
     input: &mut I,
-    output: &mut O,
+    output: &mut Printer<O>,
     errors: &mut E,
 ) -> Status
-    ensures ends { Ends (moment (W.known world.old) (I.remaining input.old) (O.contents output.old))
-        (moment (W.known world.new) (I.remaining input.new) (O.contents output.new)) (map S.text words.now) result }
+    ensures logged { LogsRun (map S.text words.now) result (I.remaining input.old) (I.remaining input.new) output.old output.new
+        (E.contents errors.old) (E.contents errors.new) (W.events log.old) (W.events log.new) }
+    ensures ends { Ends (moment (W.known world.old) (I.remaining input.old) (Some output.old))
+        (moment (W.known world.new) (I.remaining input.new) (Some output.new)) (map S.text words.now) result }
     ensures quiet { status_number result < 2 → (errors.new ≡ errors.old) ⊎ ((result ≡ Status.Negative) × AsksToRead (map S.text words.now)) }
     ensures silent { 2 ≤ status_number result → status_number result < 6 → output.new ≡ output.old }
-    ensures unwritten { 2 ≤ status_number result → status_number result < 5 → SameFiles (W.known world.old) (W.known world.new) }
     ensures files { (world.new ≡ world.old) ⊎ AsksToTouch (map S.text words.now) }
     ensures others { (name : List ℕ) → NoneWrites (map S.text words.now) name
         → SameFile (W.known world.old) (W.known world.new) name }
     ensures nodes { KeepsNodes (W.known world.old) (W.known world.new) (map S.text words.now) }
     ensures unread { (input.new ≡ input.old) ⊎ AsksToRead (map S.text words.now) }
 {
-    run_watched(rt, alloc, words, world, input, output, errors, &Unwatched)
+    run_watched(
+        rt, alloc, words, world, log, input, output, errors, &Unwatched,
+    )
 }
 
 /// The same, and tells `progress` how far `keygen`, `sign` and `batch` are while they work out trees, which may take hours where
@@ -57,31 +63,36 @@ pub fn run_watched<S: AsStr, W: World, I: Read, O: Write, E: Write>(
     alloc: Global,
     words: &[S],
     world: &mut W,
+    log: &mut W::Log,
     input: &mut I,
-    output: &mut O,
+    output: &mut Printer<O>,
     errors: &mut E,
     progress: &impl Progress,
 ) -> Status
-    ensures ends { Ends (moment (W.known world.old) (I.remaining input.old) (O.contents output.old))
-        (moment (W.known world.new) (I.remaining input.new) (O.contents output.new)) (map S.text words.now) result }
+    ensures logged { LogsRun (map S.text words.now) result (I.remaining input.old) (I.remaining input.new) output.old output.new
+        (E.contents errors.old) (E.contents errors.new) (W.events log.old) (W.events log.new) }
+    ensures ends { Ends (moment (W.known world.old) (I.remaining input.old) (Some output.old))
+        (moment (W.known world.new) (I.remaining input.new) (Some output.new)) (map S.text words.now) result }
     ensures quiet { status_number result < 2 → (errors.new ≡ errors.old) ⊎ ((result ≡ Status.Negative) × AsksToRead (map S.text words.now)) }
     ensures silent { 2 ≤ status_number result → status_number result < 6 → output.new ≡ output.old }
-    ensures unwritten { 2 ≤ status_number result → status_number result < 5 → SameFiles (W.known world.old) (W.known world.new) }
     ensures files { (world.new ≡ world.old) ⊎ AsksToTouch (map S.text words.now) }
     ensures others { (name : List ℕ) → NoneWrites (map S.text words.now) name
         → SameFile (W.known world.old) (W.known world.new) name }
     ensures nodes { KeepsNodes (W.known world.old) (W.known world.new) (map S.text words.now) }
     ensures unread { (input.new ≡ input.old) ⊎ AsksToRead (map S.text words.now) }
 {
-    match answer(rt, alloc, words, world, input, output, errors, progress) {
+    match answer(
+        rt, alloc, words, world, log, input, output, errors, progress,
+    ) {
         Ok(status) => status,
         Err(fault) => report(fault, errors),
     }
 }
 
-/// Prints a fault's line and answers how the program ends.
+/// Prints a fault's line, or a beginning of it, and answers how the program ends.
 pub fn report<E: Write>(fault: Fault, errors: &mut E) -> Status
-    ensures { result ≡ status_of fault }
+    ensures status { result ≡ status_of fault }
+    ensures told { AppendsFront (E.contents errors.old) (E.contents errors.new) (fault_line fault) }
 {
     // Where even the line can't be printed, the exit status is all that is left to say.
     let _ = print_fault(errors, fault);
@@ -94,22 +105,28 @@ fn answer<S: AsStr, W: World, I: Read, O: Write, E: Write>(
     alloc: Global,
     words: &[S],
     world: &mut W,
+    log: &mut W::Log,
     input: &mut I,
-    output: &mut O,
+    output: &mut Printer<O>,
     errors: &mut E,
     progress: &impl Progress,
 ) -> Result<Status, Fault>
+    ensures logged { IfOk result (λ status. LogsAnswered (map S.text words.now) status
+        (I.remaining input.old) (I.remaining input.new) output.old output.new
+        (W.events log.old) (W.events log.new)) }
+    ensures log_failed { IfErr result (λ fault. LogsRefused (map S.text words.now) fault
+        (I.remaining input.old) (I.remaining input.new) output.old output.new
+        (W.events log.old) (W.events log.new)) }
     ensures ends { IfOk result
-        (Ends (moment (W.known world.old) (I.remaining input.old) (O.contents output.old))
-        (moment (W.known world.new) (I.remaining input.new) (O.contents output.new)) (map S.text words.now)) }
+        (Ends (moment (W.known world.old) (I.remaining input.old) (Some output.old))
+        (moment (W.known world.new) (I.remaining input.new) (Some output.new)) (map S.text words.now)) }
     ensures fails { IfErr result
-        (RunFails (moment (W.known world.old) (I.remaining input.old) (O.contents output.old))
-        (moment (W.known world.new) (I.remaining input.new) (O.contents output.new)) (map S.text words.now)) }
+        (RunFails (moment (W.known world.old) (I.remaining input.old) (Some output.old))
+        (moment (W.known world.new) (I.remaining input.new) (Some output.new)) (map S.text words.now)) }
     ensures quiet { IfOk result (λ status. status_number status < 2 → errors.new ≡ errors.old) }
+    ensures untold { OnErr result (errors.new ≡ errors.old) }
     ensures silent { MatchResult result (λ status. 2 ≤ status_number status → output.new ≡ output.old)
         (λ fault. IsSilent fault → output.new ≡ output.old) }
-    ensures unwritten { MatchResult result (λ status. 2 ≤ status_number status → SameFiles (W.known world.old) (W.known world.new))
-        (λ fault. IsBeforeFiles fault → SameFiles (W.known world.old) (W.known world.new)) }
     ensures files { (world.new ≡ world.old) ⊎ AsksToTouch (map S.text words.now) }
     ensures others { (name : List ℕ) → NoneWrites (map S.text words.now) name
         → SameFile (W.known world.old) (W.known world.new) name }
@@ -117,7 +134,7 @@ fn answer<S: AsStr, W: World, I: Read, O: Write, E: Write>(
     ensures unread { (input.new ≡ input.old) ⊎ AsksToRead (map S.text words.now) }
 {
     match command(alloc, words) {
-        Ok(command) => obey(rt, alloc, command, world, input, output, progress),
+        Ok(command) => obey(rt, alloc, command, world, log, input, output, progress),
         Err(CommandFault::Help { text }) => match print_text(output, &text) {
             Ok(()) => Ok(Status::Done),
             Err(_) => Err(Fault::Output),
@@ -136,18 +153,24 @@ fn obey<W: World, I: Read, O: Write>(
     alloc: Global,
     command: Command,
     world: &mut W,
+    log: &mut W::Log,
     input: &mut I,
-    output: &mut O,
+    output: &mut Printer<O>,
     progress: &impl Progress,
 ) -> Result<Status, Fault>
+    ensures logged { IfOk result (λ status. LogsObeyed command status
+        (I.remaining input.old) (I.remaining input.new) output.old output.new
+        (W.events log.old) (W.events log.new)) }
+    ensures log_failed { IfErr result (λ fault. LogsFailed command fault
+        (I.remaining input.old) (I.remaining input.new) output.old output.new
+        (W.events log.old) (W.events log.new)) }
     ensures done { IfOk result
-        (Obeys (moment (W.known world.old) (I.remaining input.old) (O.contents output.old))
-        (moment (W.known world.new) (I.remaining input.new) (O.contents output.new)) command) }
+        (Obeys (moment (W.known world.old) (I.remaining input.old) (Some output.old))
+        (moment (W.known world.new) (I.remaining input.new) (Some output.new)) command) }
     ensures failed { IfErr result
-        (FailsToObey (moment (W.known world.old) (I.remaining input.old) (O.contents output.old))
-        (moment (W.known world.new) (I.remaining input.new) (O.contents output.new)) command) }
+        (FailsToObey (moment (W.known world.old) (I.remaining input.old) (Some output.old))
+        (moment (W.known world.new) (I.remaining input.new) (Some output.new)) command) }
     ensures silent { IfErr result (λ fault. IsSilent fault → output.new ≡ output.old) }
-    ensures unwritten { IfErr result (λ fault. IsBeforeFiles fault → SameFiles (W.known world.old) (W.known world.new)) }
     ensures files { (world.new ≡ world.old) ⊎ Touches command }
     ensures others { (name : List ℕ) → ¬ Writes command name
         → SameFile (W.known world.old) (W.known world.new) name }
@@ -163,11 +186,13 @@ fn obey<W: World, I: Read, O: Write>(
             public,
         } => {
             let key = key_from(alloc, &levels, &seed, &id)?;
-            make_key(rt, alloc, world, key, &state, &public, output, progress)?;
+            make_key(
+                rt, alloc, world, log, key, &state, &public, output, progress,
+            )?;
             Ok(Status::Done)
         }
         Command::Info { state } => {
-            describe(alloc, world, &state, output)?;
+            describe(alloc, world, log, &state, output)?;
             Ok(Status::Done)
         }
         Command::Sign {
@@ -177,12 +202,14 @@ fn obey<W: World, I: Read, O: Write>(
             out,
         } => {
             sign_file(
-                rt, alloc, world, &state, &random, &message, &out, output, progress,
+                rt, alloc, world, log, &state, &random, &message, &out, output, progress,
             )?;
             Ok(Status::Done)
         }
         Command::Batch { state, workers } => {
-            sign_jobs(rt, alloc, world, &state, &workers, input, output, progress)?;
+            sign_jobs(
+                rt, alloc, world, log, &state, &workers, input, output, progress,
+            )?;
             Ok(Status::Done)
         }
         Command::Verify {
@@ -190,7 +217,7 @@ fn obey<W: World, I: Read, O: Write>(
             message,
             signature,
         } => {
-            let verdict = verify_files(alloc, world, &public, &message, &signature, output)?;
+            let verdict = verify_files(alloc, world, log, &public, &message, &signature, output)?;
             Ok(verdict.status())
         }
     }

@@ -24,7 +24,7 @@ impl Tally for Brand {
       openings = 0;
       burnt = 0;
       history = [];
-      store = record { now = None; past = []; failures = 0 };
+      store = record { now = None; past = []; given = None; failures = 0 };
     } };
 }
 

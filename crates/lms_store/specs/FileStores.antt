@@ -12,9 +12,10 @@ pub record FileWrite : Type 0 where
   pub text : List ℕ
   pub stored : Bool
 
--- the writes since the store was made, the newest first, and how many calls failed
+-- the writes since the store was made, the newest first, the text that the last read gave, none before one, and how many calls failed
 pub record FileState : Type 0 where
   pub writes : List FileWrite
+  pub given : Option (List ℕ)
   pub failures : ℕ
 
 -- the texts of which a stop leaves one after a write of this text, which was stored for certain or not, by those before it
@@ -34,19 +35,23 @@ texts_before (newest ∷ older) = texts_before older ++ texts_now older ∷ []
 
 -- what contracts see of it, as of any store
 abbrev pub view_of : FileState → StoreView
-view_of store = record { now = texts_now store.writes; past = texts_before store.writes; failures = store.failures }
+view_of store = record { now = texts_now store.writes; past = texts_before store.writes; given = store.given; failures = store.failures }
 
 -- a stop after these writes could leave this text
 abbrev pub Leaves : List FileWrite → List ℕ → Type 0
 Leaves writes text = IsAmong (texts_now writes) text
 
--- nothing written, no failure counted
+-- nothing written or given, no failure counted
 abbrev pub fresh : FileState
-fresh = record { writes = []; failures = 0 }
+fresh = record { writes = []; given = None; failures = 0 }
 
 -- one more write
 abbrev pub written : FileState → List ℕ → Bool → FileState
 written store text stored = record store { writes = record { text = text; stored = stored } ∷ store.writes }
+
+-- a read gave this text
+abbrev pub giving : FileState → List ℕ → FileState
+giving store text = record store { given = Some text }
 
 -- a failure is counted
 abbrev pub failed : FileState → FileState
@@ -87,7 +92,7 @@ RecordsWrite old text (Err fault) new =
 
 -- what a read answers and leaves
 abbrev pub ReadsKnown : FileState → Result (Vec ℕ) ReadFault → FileState → Type 0
-ReadsKnown old (Ok text) new = Knows old.writes text.items × (new ≡ old)
+ReadsKnown old (Ok text) new = Knows old.writes text.items × (new ≡ giving old text.items)
 ReadsKnown old (Err Device) new = new ≡ failed old
 ReadsKnown old (Err OutOfMemory) new = new ≡ old
 

@@ -1,12 +1,12 @@
 //! A store in a file.
 ghost use Rattle.std.specs.Prelude.{◌≡◌, IfOk};
-ghost use Rattle.lms_store.specs.FileStores.{fresh, failed};
+ghost use Rattle.lms_store.specs.FileStores.{fresh, giving, failed};
 
 use crate::drafts::{make_draft, place_draft};
 use crate::locking::StateLock;
 use crate::paths::{folder_of, sibling};
 use crate::record::Record;
-use lms_book::{ReadFault, StateStore, StoreFault, Text};
+use lms_book::{LastRead, ReadFault, StateStore, StoreFault, Text};
 use lms_params::OutOfMemory;
 use std::alloc::Global;
 use std::fs::OpenFile;
@@ -16,7 +16,8 @@ use std::rt::Files;
 use std::{fs, io};
 
 /// A store in a file. It keeps in place the text that it stored for certain last and up to three that it tried since, each
-/// with the seed in it, and does not wipe them. Contracts see all writes since it was made, and the count of failures.
+/// with the seed in it, and does not wipe them. Contracts see all writes since it was made, the bytes that
+/// the last read gave, and the count of failures.
 #[derive(Drop)]
 pub struct FileStore<'a, R: Files> {
     files: &'a R,
@@ -24,6 +25,7 @@ pub struct FileStore<'a, R: Files> {
     draft: String,
     folder: String,
     writes: Record,
+    given: LastRead,
     failures: u64,
 }
 
@@ -33,7 +35,7 @@ impl<'a, R: Files> Model for FileStore<'a, R> {
 
     ghost Value = { FileState };
 
-    ghost view = { λ store. record { writes = store.writes; failures = store.failures } };
+    ghost view = { λ store. record { writes = store.writes; given = store.given; failures = store.failures } };
 
     ghost invariant = { λ store.
         AreBeside (string_bytes store.state) (string_bytes store.draft) (string_bytes store.folder) };
@@ -58,6 +60,7 @@ impl<'a, R: Files> FileStore<'a, R> {
             draft,
             folder,
             writes: Record::new(),
+            given: LastRead::none(),
             failures: 0,
         })
     }
@@ -79,6 +82,13 @@ impl<'a, R: Files> FileStore<'a, R> {
         let file = make_draft(self.files, draft)?;
         place_draft(self.files, file, text, draft, state)?;
         folder.sync_all()
+    }
+
+    /// From now on these are the bytes that the last read gave.
+    fn give(&mut self, text: &Vec<u8>)
+        ensures { self.new ≡ giving self.old text.now.items }
+    {
+        self.given = LastRead::of(text);
     }
 
     /// Counts a failure.
@@ -106,7 +116,10 @@ impl<R: Files + Sync> StateStore for FileStore<'_, R> {
         ensures known { ReadsKnown self.old result self.new }
     {
         match self.fetch(alloc) {
-            Ok(text) if self.writes.knows(&text) => Ok(text),
+            Ok(text) if self.writes.knows(&text) => {
+                self.give(&text);
+                Ok(text)
+            }
             Err(error) if error.kind() == ErrorKind::OutOfMemory => Err(ReadFault::OutOfMemory),
             _ => {
                 self.fail();

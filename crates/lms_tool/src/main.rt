@@ -7,7 +7,7 @@ use crate::streams::hold_closed_streams;
 use lms_commands::Fault;
 use lms_meter::{Meter, Wiping};
 use lms_program::run::{report, run_watched};
-use lms_world::DiskWorld;
+use lms_world::{DiskWorld, Log, Printer};
 use std::env;
 use std::io::{ErrorKind, IsTerminal};
 use std::process::ExitCode;
@@ -29,8 +29,9 @@ fn main(rt: HostRuntime) -> ExitCode {
             rt.alloc(),
             words.as_slice(),
             &mut DiskWorld::new(&rt),
+            &mut Log::new(),
             &mut rt.reader(),
-            &mut Wiping::new(&meter, rt.stdout()),
+            &mut Printer::new(Wiping::new(&meter, rt.stdout())),
             &mut Wiping::new(&meter, rt.stderr()),
             &meter,
         ),

@@ -10,7 +10,7 @@ mod words;
 
 use lms_program::run::run;
 use lms_slow::vectors::ONE_5_8;
-use lms_world::{MemoryWorld, World, WorldFault};
+use lms_world::{Log, MemoryWorld, Printer, World, WorldFault};
 use std::alloc::Global;
 use std::io::Write;
 use std::sync::Wait;
@@ -62,7 +62,7 @@ fn text_of(bytes: &[u8]) -> &str {
 }
 
 /// Runs the program with no input. What `run` promises of the status and of what it is lent is left to its proof.
-fn status_of<W: World, O: Write, E: Write>(
+fn status_of<W: World<Log = Log>, O: Write, E: Write>(
     rt: &(impl Threads + Wait + AllocGlobal + Sync),
     words: &[&str],
     world: &mut W,
@@ -70,10 +70,20 @@ fn status_of<W: World, O: Write, E: Write>(
     errors: &mut E,
 ) -> u8 {
     let mut input: &[u8] = &[];
-    run(rt, rt.alloc(), words, world, &mut input, output, errors).code()
+    run(
+        rt,
+        rt.alloc(),
+        words,
+        world,
+        &mut Log::new(),
+        &mut input,
+        &mut Printer::new(output),
+        errors,
+    )
+    .code()
 }
 
-fn end_of<W: World>(
+fn end_of<W: World<Log = Log>>(
     rt: &(impl Threads + Wait + AllocGlobal + Sync),
     words: &[&str],
     world: &mut W,
@@ -89,7 +99,7 @@ fn end_of<W: World>(
 }
 
 /// Whether a run ends with this status, and prints this output and these errors.
-fn ends<W: World>(
+fn ends<W: World<Log = Log>>(
     rt: &(impl Threads + Wait + AllocGlobal + Sync),
     words: &[&str],
     world: &mut W,
@@ -125,7 +135,7 @@ fn fails_with(
 /// Writes the bytes of a text of hexadecimal digits.
 fn write_hex(alloc: Global, world: &mut MemoryWorld, name: &str, digits: &str) -> Result<(), Fail> {
     let bytes = hex::decode(alloc, digits)?;
-    world.write(name, &bytes)?;
+    world.write(&mut Log::new(), name, &bytes)?;
     Ok(())
 }
 
@@ -133,7 +143,7 @@ fn write_hex(alloc: Global, world: &mut MemoryWorld, name: &str, digits: &str) -
 fn signed(alloc: Global) -> Result<MemoryWorld, Fail> {
     let mut world = MemoryWorld::new(alloc);
     write_hex(alloc, &mut world, "key.pub", ONE_5_8.public)?;
-    world.write("text", ONE_5_8.message.as_bytes())?;
+    world.write(&mut Log::new(), "text", ONE_5_8.message.as_bytes())?;
     write_hex(alloc, &mut world, "text.sig", ONE_5_8.signature)?;
     Ok(world)
 }
@@ -147,7 +157,7 @@ fn is_judged(
     line: &str,
 ) -> Result<bool, Fail> {
     let mut world = signed(rt.alloc())?;
-    world.write(name, bytes)?;
+    world.write(&mut Log::new(), name, bytes)?;
     Ok(says(rt, &VERIFY, &mut world, status, line))
 }
 

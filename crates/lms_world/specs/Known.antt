@@ -1,5 +1,5 @@
 -- What is known of files and states.
-use Rattle.std.specs.Prelude.{ℕ, ◌≡◌, ◌≢◌, ◌⊎◌, ◌↔◌, List, Option}
+use Rattle.std.specs.Prelude.{ℕ, ◌≡◌, ◌≢◌, ◌⊎◌, ◌↔◌, List}
 use Rattle.lms_world.specs.declared.world.WorldFault.{WorldFault}
 
 -- the bytes of a name, of an option's text or of what is kept of nodes
@@ -53,10 +53,6 @@ MayExist at state = (text : List ℕ) × at.may_hold state text
 -- a read of the name may give some bytes
 abbrev pub MayBeRead : Known → Text → Type 0
 MayBeRead at name = (bytes : List ℕ) × at.may_give name bytes
-
--- the output is as it was, or the file of the name may have these bytes
-abbrev pub IsPrintedLast : Known → Text → List ℕ → Option (List ℕ) → Option (List ℕ) → Type 0
-IsPrintedLast at name bytes before after = (after ≡ before) ⊎ at.may_give name bytes
 
 -- a read of the name may give what it might give before, and nothing else
 abbrev pub SameFile : Known → Known → Text → Type 0

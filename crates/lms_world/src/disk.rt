@@ -3,6 +3,8 @@ ghost use Rattle.std.specs.Prelude.{◌≡◌, ◌≢◌, ℕ, List, IfOk, IfSom
 ghost use Rattle.std.specs.IoError.{error_kind};
 
 use crate::contents::{Contents, Taker};
+use crate::log::{Call, Log, PutIn, TakenOut};
+use crate::printer::{Beginning, Printer};
 use crate::world::{World, WorldFault};
 use lms_blocks::read_block;
 use lms_params::OutOfMemory;
@@ -41,58 +43,138 @@ where
 
     type Contents = DiskContents<R::File>;
 
+    type Log = Log;
+
     ghost use Rattle.lms_world.specs.Known.{nothing_known};
+
+    ghost events = { λ log. log.events };
 
     ghost known = { λ _. nothing_known };
 
     ghost is_lock_of = { λ _ _. Unit {0} };
 
-    fn read(&self, alloc: Global, name: &str) -> Result<Vec<u8>, WorldFault> {
-        read_whole(self.files, alloc, name).map_err(|error| fault_of(&error))
+    fn read(&self, alloc: Global, log: &mut Log, name: &str) -> Result<Vec<u8>, WorldFault> {
+        let answer = read_whole(self.files, alloc, name).map_err(|error| fault_of(&error));
+        match &answer {
+            Ok(bytes) => *log = log.and(&Call::Given { name, bytes }),
+            Err(_) => *log = log.and(&Call::Refused { name }),
+        }
+        answer
     }
 
-    fn open(&self, _alloc: Global, name: &str) -> Result<DiskContents<R::File>, WorldFault> {
+    fn open(
+        &self,
+        _alloc: Global,
+        log: &mut Log,
+        name: &str,
+    ) -> Result<DiskContents<R::File>, WorldFault> {
         match fs::open(self.files, name) {
-            Ok(file) => Ok(DiskContents { file }),
-            Err(error) => Err(fault_of(&error)),
+            Ok(file) => {
+                *log = log.and(&Call::Opened { name, done: true });
+                Ok(DiskContents { file })
+            }
+            Err(error) => {
+                *log = log.and(&Call::Opened { name, done: false });
+                Err(fault_of(&error))
+            }
         }
     }
 
-    fn write(&mut self, name: &str, bytes: &[u8]) -> Result<(), WorldFault> {
-        fs::write(self.files, name, bytes).map_err(|error| fault_of(&error))
+    fn write(&mut self, log: &mut Log, name: &str, bytes: &[u8]) -> Result<(), WorldFault> {
+        let answer = fs::write(self.files, name, bytes).map_err(|error| fault_of(&error));
+        let done = answer.is_ok();
+        *log = log.and(&Call::Written { name, bytes, done });
+        answer
     }
 
-    fn exists(&self, lock: &StateLock<R::File>) -> bool {
-        lock.is_of_a_state(self.files)
+    fn lock(
+        &self,
+        alloc: Global,
+        log: &mut Log,
+        name: &str,
+    ) -> Result<Option<StateLock<R::File>>, OutOfMemory> {
+        match lock(self.files, alloc, name) {
+            Ok(Some(found)) => {
+                *log = log.and(&Call::Locked { name, got: true });
+                Ok(Some(found))
+            }
+            Ok(None) => {
+                *log = log.and(&Call::Locked { name, got: false });
+                Ok(None)
+            }
+            Err(fault) => {
+                *log = log.and(&Call::Locked { name, got: false });
+                Err(fault)
+            }
+        }
     }
 
-    fn lock(&self, alloc: Global, name: &str) -> Result<Option<StateLock<R::File>>, OutOfMemory> {
-        lock(self.files, alloc, name)
+    /// The file is closed here, which lets the lock go.
+    fn unlock(&self, log: &mut Log, _lock: StateLock<R::File>) {
+        *log = log.and(&Call::Unlocked);
+    }
+
+    fn exists(&self, log: &mut Log, lock: &StateLock<R::File>) -> bool {
+        let there = lock.is_of_a_state(self.files);
+        *log = log.and(&Call::Asked { there });
+        there
     }
 
     fn take_store(
         &mut self,
         alloc: Global,
+        log: &mut Log,
         lock: &StateLock<R::File>,
     ) -> Result<FileStore<'a, R>, OutOfMemory> {
-        FileStore::locked(alloc, self.files, lock)
+        match FileStore::locked(alloc, self.files, lock) {
+            Ok(store) => {
+                *log = log.and(&TakenOut { store: &store });
+                Ok(store)
+            }
+            Err(fault) => {
+                *log = log.and(&Call::NotTaken);
+                Err(fault)
+            }
+        }
     }
 
     /// The state is in its file already.
-    fn put_back(&mut self, _lock: &StateLock<R::File>, _store: FileStore<'a, R>) {}
+    fn put_back(&mut self, log: &mut Log, _lock: &StateLock<R::File>, store: FileStore<'a, R>) {
+        *log = log.and(&PutIn { store: &store });
+    }
 
-    fn read_nodes(&self, alloc: Global, lock: &StateLock<R::File>, most: usize) -> Option<Vec<u8>> {
-        lock.read_nodes(self.files, alloc, most)
+    fn read_nodes(
+        &self,
+        alloc: Global,
+        log: &mut Log,
+        lock: &StateLock<R::File>,
+        most: usize,
+    ) -> Option<Vec<u8>> {
+        let found = lock.read_nodes(self.files, alloc, most);
+        match &found {
+            Some(text) => *log = log.and(&Call::NodesGiven { text }),
+            None => *log = log.and(&Call::NodesRefused),
+        }
+        found
     }
 
     fn write_nodes(
         &mut self,
         alloc: Global,
+        log: &mut Log,
         lock: &StateLock<R::File>,
         text: &[u8],
     ) -> Result<(), WorldFault> {
-        lock.write_nodes(self.files, alloc, text)
-            .map_err(|error| fault_of(&error))
+        let answer = lock
+            .write_nodes(self.files, alloc, text)
+            .map_err(|error| fault_of(&error));
+        let done = answer.is_ok();
+        *log = log.and(&Call::NodesWritten { text, done });
+        answer
+    }
+
+    fn begin_printing<O>(&self, log: &mut Log, output: &Printer<O>) {
+        *log = log.and(&Beginning { output });
     }
 }
 

@@ -5,10 +5,14 @@
 
 mod contents;
 mod disk;
+mod log;
 mod memory;
+mod printer;
 mod world;
 
 pub use crate::contents::{Contents, Taker};
 pub use crate::disk::{DiskContents, DiskWorld};
+pub use crate::log::Log;
 pub use crate::memory::{MemoryContents, MemoryLock, MemoryWorld};
+pub use crate::printer::Printer;
 pub use crate::world::{World, WorldFault};

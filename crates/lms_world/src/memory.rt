@@ -1,8 +1,11 @@
 //! Files and a state in memory.
-ghost use Rattle.std.specs.Prelude.{ℕ, ◌≡◌, ◌≢◌, List, OnOk, Ok, Err, None, false, option_map};
-ghost use Rattle.lms_world.specs.Files.{answer_of, bytes_or_fault, entry_of, is_used_elsewhere, known_in_memory, nodes_in, state_text, store_in, used_elsewhere, with_failing_nodes, with_nodes, with_store};
+ghost use Rattle.std.specs.Prelude.{ℕ, ◌≡◌, ◌≢◌, ◌≤◌, ◌⊎◌, List, IfErr, IfOk, IfSome, OnOk, Ok, Err, None, Some, false, true, length, option_map};
+ghost use Rattle.lms_book.specs.Memory.{MayFail};
+ghost use Rattle.lms_world.specs.Files.{answer_of, bytes_or_fault, entry_of, is_used_elsewhere, known_in_memory, MayFailToRead, MayRefuse, nodes_in, state_text, store_in, used_elsewhere, with_failing_nodes, with_nodes, with_store};
 
 use crate::contents::{Contents, Taker};
+use crate::log::{Call, Log, PutIn, TakenOut};
+use crate::printer::{Beginning, Printer};
 use crate::world::{World, WorldFault};
 use lms_book::MemoryStore;
 use lms_params::OutOfMemory;
@@ -136,20 +139,12 @@ impl MemoryWorld {
     {
         self.entries.iter().find(|entry| entry.0.as_str() == name)
     }
-}
 
-impl World for MemoryWorld {
-    type Lock = MemoryLock;
-
-    type Store = MemoryStore;
-
-    type Contents = MemoryContents;
-
-    ghost known = { known_in_memory };
-
-    ghost is_lock_of = { λ _ _. Unit {0} };
-
-    fn read(&self, alloc: Global, name: &str) -> Result<Vec<u8>, WorldFault> {
+    /// A copy of the bytes of a name.
+    fn copy_of(&self, alloc: Global, name: &str) -> Result<Vec<u8>, WorldFault>
+        ensures given { IfOk result (λ bytes. answer_of self.now name.now ≡ Ok bytes.items) }
+        ensures refused { IfErr result (MayRefuse self.now name.now) }
+    {
         match self.entry(name) {
             Some((_, Ok(bytes))) => {
                 Vec::from_slice(alloc, bytes).map_err(|_| WorldFault::OutOfMemory)
@@ -159,12 +154,13 @@ impl World for MemoryWorld {
         }
     }
 
-    fn open(&self, alloc: Global, name: &str) -> Result<MemoryContents, WorldFault> {
-        let bytes = self.read(alloc, name)?;
-        Ok(MemoryContents { bytes })
-    }
-
-    fn write(&mut self, name: &str, bytes: &[u8]) -> Result<(), WorldFault> {
+    /// Makes these the bytes of a name.
+    fn set(&mut self, name: &str, bytes: &[u8]) -> Result<(), WorldFault>
+        ensures given { OnOk result (answer_of self.new name.now ≡ Ok bytes.now) }
+        ensures others { (other : List ℕ) → other ≢ name.now → answer_of self.new other ≡ answer_of self.old other }
+        ensures state { store_in self.new ≡ store_in self.old }
+        ensures nodes { nodes_in self.new ≡ nodes_in self.old }
+    {
         if let Some((_, Err(fault))) = self.entry(name) {
             return Err(*fault);
         }
@@ -173,37 +169,36 @@ impl World for MemoryWorld {
             .map_err(|_| WorldFault::OutOfMemory)
     }
 
-    fn exists(&self, _lock: &MemoryLock) -> bool {
+    /// Whether there is a text of the state.
+    fn has_state(&self) -> bool
+        ensures missing { result ≡ false → state_text (store_in self.now) ≡ None }
+        ensures there { result ≡ true → (text : List ℕ) × (state_text (store_in self.now) ≡ Some text) }
+    {
         match &self.state {
             Some(store) => store.text().is_some(),
             None => false,
         }
     }
 
-    fn lock(&self, _alloc: Global, _name: &str) -> Result<Option<MemoryLock>, OutOfMemory> {
-        if self.in_use {
-            Ok(None)
-        } else {
-            Ok(Some(MemoryLock(())))
-        }
-    }
-
-    fn take_store(
-        &mut self,
-        alloc: Global,
-        _lock: &MemoryLock,
-    ) -> Result<MemoryStore, OutOfMemory> {
+    /// The store that keeps the state, or a new one.
+    fn lend(&mut self, alloc: Global) -> Result<MemoryStore, OutOfMemory>
+        ensures text { IfOk result (λ store. store.text ≡ state_text (store_in self.old)) }
+        ensures fails { IfOk result (λ store. MayFail store → MayFailToRead (store_in self.old)) }
+        ensures stays { IfErr result (λ _. self.new ≡ self.old) }
+        ensures files { self.new.entries ≡ self.old.entries }
+        ensures nodes { nodes_in self.new ≡ nodes_in self.old }
+    {
         match self.state.take() {
             Some(store) => Ok(store),
             None => MemoryStore::new(alloc, None, ROOM),
         }
     }
 
-    fn put_back(&mut self, _lock: &MemoryLock, store: MemoryStore) {
-        self.set_state(store);
-    }
-
-    fn read_nodes(&self, alloc: Global, _lock: &MemoryLock, most: usize) -> Option<Vec<u8>> {
+    /// A copy of what is kept of nodes, where it has at most so many bytes.
+    fn copy_of_nodes(&self, alloc: Global, most: usize) -> Option<Vec<u8>>
+        ensures given { IfSome result (λ text. nodes_in self.now ≡ Some text.items) }
+        ensures at_most { IfSome result (λ text. length text.items ≤ most) }
+    {
         let nodes = self.nodes()?;
         if nodes.len() > most {
             return None;
@@ -211,18 +206,143 @@ impl World for MemoryWorld {
         Vec::from_slice(alloc, nodes).ok()
     }
 
-    /// After an error what was kept is kept still.
-    fn write_nodes(
-        &mut self,
-        alloc: Global,
-        _lock: &MemoryLock,
-        text: &[u8],
-    ) -> Result<(), WorldFault> {
+    /// Keeps this text of nodes. After an error what was kept is kept still.
+    fn keep(&mut self, alloc: Global, text: &[u8]) -> Result<(), WorldFault>
+        ensures given { OnOk result (nodes_in self.new ≡ Some text.now) }
+        ensures kept { (nodes_in self.new ≡ Some text.now) ⊎ (nodes_in self.new ≡ nodes_in self.old) }
+        ensures state { store_in self.new ≡ store_in self.old }
+        ensures files { self.new.entries ≡ self.old.entries }
+    {
         if let Some(fault) = self.nodes_fault {
             return Err(fault);
         }
         let nodes = Vec::from_slice(alloc, text).map_err(|_| WorldFault::OutOfMemory)?;
         self.set_nodes(nodes);
         Ok(())
+    }
+}
+
+impl World for MemoryWorld {
+    type Lock = MemoryLock;
+
+    type Store = MemoryStore;
+
+    type Contents = MemoryContents;
+
+    type Log = Log;
+
+    ghost events = { λ log. log.events };
+
+    ghost known = { known_in_memory };
+
+    ghost is_lock_of = { λ _ _. Unit {0} };
+
+    fn read(&self, alloc: Global, log: &mut Log, name: &str) -> Result<Vec<u8>, WorldFault> {
+        let answer = self.copy_of(alloc, name);
+        match &answer {
+            Ok(bytes) => *log = log.and(&Call::Given { name, bytes }),
+            Err(_) => *log = log.and(&Call::Refused { name }),
+        }
+        answer
+    }
+
+    fn open(&self, alloc: Global, log: &mut Log, name: &str) -> Result<MemoryContents, WorldFault> {
+        match self.copy_of(alloc, name) {
+            Ok(bytes) => {
+                *log = log.and(&Call::Opened { name, done: true });
+                Ok(MemoryContents { bytes })
+            }
+            Err(fault) => {
+                *log = log.and(&Call::Opened { name, done: false });
+                Err(fault)
+            }
+        }
+    }
+
+    fn write(&mut self, log: &mut Log, name: &str, bytes: &[u8]) -> Result<(), WorldFault> {
+        let answer = self.set(name, bytes);
+        let done = answer.is_ok();
+        *log = log.and(&Call::Written { name, bytes, done });
+        answer
+    }
+
+    fn lock(
+        &self,
+        _alloc: Global,
+        log: &mut Log,
+        name: &str,
+    ) -> Result<Option<MemoryLock>, OutOfMemory> {
+        let got = !self.in_use;
+        *log = log.and(&Call::Locked { name, got });
+        if got {
+            Ok(Some(MemoryLock(())))
+        } else {
+            Ok(None)
+        }
+    }
+
+    fn unlock(&self, log: &mut Log, _lock: MemoryLock) {
+        *log = log.and(&Call::Unlocked);
+    }
+
+    fn exists(&self, log: &mut Log, _lock: &MemoryLock) -> bool {
+        let there = self.has_state();
+        *log = log.and(&Call::Asked { there });
+        there
+    }
+
+    fn take_store(
+        &mut self,
+        alloc: Global,
+        log: &mut Log,
+        _lock: &MemoryLock,
+    ) -> Result<MemoryStore, OutOfMemory> {
+        match self.lend(alloc) {
+            Ok(store) => {
+                *log = log.and(&TakenOut { store: &store });
+                Ok(store)
+            }
+            Err(fault) => {
+                *log = log.and(&Call::NotTaken);
+                Err(fault)
+            }
+        }
+    }
+
+    fn put_back(&mut self, log: &mut Log, _lock: &MemoryLock, store: MemoryStore) {
+        *log = log.and(&PutIn { store: &store });
+        self.set_state(store);
+    }
+
+    fn read_nodes(
+        &self,
+        alloc: Global,
+        log: &mut Log,
+        _lock: &MemoryLock,
+        most: usize,
+    ) -> Option<Vec<u8>> {
+        let found = self.copy_of_nodes(alloc, most);
+        match &found {
+            Some(text) => *log = log.and(&Call::NodesGiven { text }),
+            None => *log = log.and(&Call::NodesRefused),
+        }
+        found
+    }
+
+    fn write_nodes(
+        &mut self,
+        alloc: Global,
+        log: &mut Log,
+        _lock: &MemoryLock,
+        text: &[u8],
+    ) -> Result<(), WorldFault> {
+        let answer = self.keep(alloc, text);
+        let done = answer.is_ok();
+        *log = log.and(&Call::NodesWritten { text, done });
+        answer
+    }
+
+    fn begin_printing<O>(&self, log: &mut Log, output: &Printer<O>) {
+        *log = log.and(&Beginning { output });
     }
 }

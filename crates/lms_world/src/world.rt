@@ -1,9 +1,11 @@
 //! What a world of files and states owes.
-ghost use Rattle.std.specs.Prelude.{◌≡◌, ◌≤◌, ◌⊎◌, ◌↔◌, ℕ, List, None, true, false, length, IfErr, IfOk, IfSome, OnOk};
+ghost use Rattle.std.specs.Prelude.{◌≡◌, ◌≤◌, ◌⊎◌, ◌↔◌, ◌∷◌, ℕ, List, None, option_map, true, false, length, IfErr, IfOk, IfSome, OnOk};
 ghost use Rattle.lms_book.specs.Stops.{MayLeave};
+ghost use Rattle.lms_world.specs.Events.{Event, Read, Opened, Written, Locked, Unlocked, Asked, PutBack, NodesRead, NodesWritten, Printing, bytes_of, is_done, is_got, taking_of};
 ghost use Rattle.lms_world.specs.Known.{Known, MayBeRead, MayExist, SameFiles, SameFilesBut, SameNodes, Stays, Text};
 
 use crate::contents::Contents;
+use crate::printer::Printer;
 use lms_book::StateStore;
 use lms_params::OutOfMemory;
 use std::alloc::Global;
@@ -20,16 +22,23 @@ pub enum WorldFault {
     OutOfMemory,
 }
 
-/// Files and keys' states, by their names, and what is kept of nodes beside the states.
+/// Files and keys' states, by their names, and what is kept of nodes beside the states. Contracts see the calls that were made on it, in
+/// their order, in a log beside it.
 pub trait World {
-    /// Keeps other programs from a state for as long as it is held.
-    type Lock: Drop;
+    /// Keeps other programs from a state for as long as it is held. It can't be let go: who has it has to hand it back.
+    type Lock;
 
     /// What keeps a state. It can't be let go: who takes it has to put it back.
     type Store: StateStore;
 
     /// A file that was opened to be read.
     type Contents: Contents + Drop;
+
+    /// Is told of each call. It can be neither made nor let go: a command has the one that it is handed.
+    type Log;
+
+    // The calls that were made, the newest first.
+    ghost events: { Self.Log → List Event };
 
     // What is known of the files and the states.
     ghost known: { Self → Known };
@@ -41,14 +50,21 @@ pub trait World {
     ///
     /// `Device` where there is no such file or it can't be read, `OutOfMemory` where memory for its
     /// bytes was refused.
-    fn read(&self, alloc: Global, name: &str) -> Result<Vec<u8>, WorldFault>
+    fn read(&self, alloc: Global, log: &mut Self::Log, name: &str) -> Result<Vec<u8>, WorldFault>
+        ensures logged { events log.new ≡ Read name.now (bytes_of result) ∷ events log.old }
         ensures given { IfOk result (λ bytes. (known self.now).may_give name.now bytes.items) }
         ensures refused { IfErr result ((known self.now).may_refuse name.now) };
 
     /// Opens a file, whose bytes are then handed over piece by piece.
     ///
     /// `Device` where there is no such file or it can't be opened, `OutOfMemory` where memory for that was refused.
-    fn open(&self, alloc: Global, name: &str) -> Result<Self::Contents, WorldFault>
+    fn open(
+        &self,
+        alloc: Global,
+        log: &mut Self::Log,
+        name: &str,
+    ) -> Result<Self::Contents, WorldFault>
+        ensures logged { events log.new ≡ Opened name.now (is_done result) ∷ events log.old }
         ensures there { IfOk result (λ _. MayBeRead (known self.now) name.now) }
         ensures given { IfOk result (λ contents. (bytes : List ℕ)
             → Self.Contents.may_give contents bytes → (known self.now).may_give name.now bytes) }
@@ -61,7 +77,8 @@ pub trait World {
     ///
     /// `Device` where it can't be written, `OutOfMemory` where memory for that was refused. After an error the file may be
     /// missing or cut short.
-    fn write(&mut self, name: &str, bytes: &[u8]) -> Result<(), WorldFault>
+    fn write(&mut self, log: &mut Self::Log, name: &str, bytes: &[u8]) -> Result<(), WorldFault>
+        ensures logged { events log.new ≡ Written name.now bytes.now (is_done result) ∷ events log.old }
         ensures given { OnOk result ((known self.new).may_give name.now bytes.now) }
         ensures others { SameFilesBut name.now (known self.old) (known self.new) }
         ensures states { (state : List ℕ) → Stays (known self.old) (known self.new) state }
@@ -69,12 +86,23 @@ pub trait World {
 
     /// Locks the state of this name, without waiting. `None` where the lock is not available, `OutOfMemory` where memory for
     /// it was refused.
-    fn lock(&self, alloc: Global, name: &str) -> Result<Option<Self::Lock>, OutOfMemory>
+    fn lock(
+        &self,
+        alloc: Global,
+        log: &mut Self::Log,
+        name: &str,
+    ) -> Result<Option<Self::Lock>, OutOfMemory>
+        ensures logged { events log.new ≡ Locked name.now (is_got result) ∷ events log.old }
         ensures used { IfOk result (λ found. found ≡ None → (known self.now).may_be_in_use name.now) }
         ensures locked { IfOk result (λ found. IfSome found (λ lock. is_lock_of lock name.now)) };
 
+    /// Hands a lock back.
+    fn unlock(&self, log: &mut Self::Log, lock: Self::Lock)
+        ensures logged { events log.new ≡ Unlocked ∷ events log.old };
+
     /// True where there is the state of the lock, and where that can't be found out.
-    fn exists(&self, lock: &Self::Lock) -> bool
+    fn exists(&self, log: &mut Self::Log, lock: &Self::Lock) -> bool
+        ensures logged { events log.new ≡ Asked result ∷ events log.old }
         ensures missing { result ≡ false → (state : List ℕ) → is_lock_of lock.now state → (known self.now).may_lack state }
         ensures there { result ≡ true → (state : List ℕ) → is_lock_of lock.now state → MayExist (known self.now) state };
 
@@ -82,7 +110,13 @@ pub trait World {
     /// nothing that is kept of nodes.
     ///
     /// `OutOfMemory` where memory for it was refused.
-    fn take_store(&mut self, alloc: Global, lock: &Self::Lock) -> Result<Self::Store, OutOfMemory>
+    fn take_store(
+        &mut self,
+        alloc: Global,
+        log: &mut Self::Log,
+        lock: &Self::Lock,
+    ) -> Result<Self::Store, OutOfMemory>
+        ensures logged { events log.new ≡ taking_of Self.Store.seen result ∷ events log.old }
         ensures taken { IfOk result (λ store. (state : List ℕ) → is_lock_of lock.now state → (text : List ℕ)
             → MayLeave (Self.Store.seen store) text ↔ (known self.old).may_hold state text) }
         ensures fails { IfOk result (λ store. (state : List ℕ) → is_lock_of lock.now state
@@ -93,7 +127,8 @@ pub trait World {
         ensures nodes { SameNodes (known self.old) (known self.new) };
 
     /// Puts it back: the state of the lock is what it keeps. No file is changed, and nothing that is kept of nodes.
-    fn put_back(&mut self, lock: &Self::Lock, store: Self::Store)
+    fn put_back(&mut self, log: &mut Self::Log, lock: &Self::Lock, store: Self::Store)
+        ensures logged { events log.new ≡ PutBack (Self.Store.seen store) ∷ events log.old }
         ensures kept { (state : List ℕ) → is_lock_of lock.now state → (text : List ℕ)
             → MayLeave (Self.Store.seen store) text → (known self.new).may_hold state text }
         ensures only { (state : List ℕ) → is_lock_of lock.now state → (text : List ℕ)
@@ -105,7 +140,14 @@ pub trait World {
     ///
     /// `None` where nothing is kept, where it is longer than `most` bytes, where it can't be read, and where memory for it is
     /// refused: whoever reads it goes on without it in each case.
-    fn read_nodes(&self, alloc: Global, lock: &Self::Lock, most: usize) -> Option<Vec<u8>>
+    fn read_nodes(
+        &self,
+        alloc: Global,
+        log: &mut Self::Log,
+        lock: &Self::Lock,
+        most: usize,
+    ) -> Option<Vec<u8>>
+        ensures logged { events log.new ≡ NodesRead (option_map (λ text. text.items) result) ∷ events log.old }
         ensures given { IfSome result (λ text. (state : Text) → is_lock_of lock.now state → (known self.now).may_keep state text.items) }
         ensures at_most { IfSome result (λ text. length text.items ≤ most) };
 
@@ -117,12 +159,18 @@ pub trait World {
     fn write_nodes(
         &mut self,
         alloc: Global,
+        log: &mut Self::Log,
         lock: &Self::Lock,
         text: &[u8],
     ) -> Result<(), WorldFault>
+        ensures logged { events log.new ≡ NodesWritten text.now (is_done result) ∷ events log.old }
         ensures given { OnOk result ((state : Text) → is_lock_of lock.now state → (known self.new).may_keep state text.now) }
         ensures kept { (state kept : Text) → (known self.new).may_keep state kept
             → (is_lock_of lock.now state × (kept ≡ text.now)) ⊎ (known self.old).may_keep state kept }
         ensures states { (state : Text) → Stays (known self.old) (known self.new) state }
         ensures files { SameFiles (known self.old) (known self.new) };
+
+    /// Tells the log what was printed to an output by now, before something more is.
+    fn begin_printing<O>(&self, log: &mut Self::Log, output: &Printer<O>)
+        ensures logged { events log.new ≡ Printing output.now ∷ events log.old };
 }

@@ -1,7 +1,7 @@
 //! What no contract says of answer lines: the written text, and what a failed writer has of it.
 use crate::tests::sink_of;
 use lms_batch::Batch;
-use lms_lines::{WriteFault, write_batch};
+use lms_lines::{WriteFault, count_signatures, write_batch};
 use std::alloc::Global;
 use std::test::Fail;
 
@@ -58,6 +58,14 @@ fn answers_are_written(rt: HostRuntime) -> Result<(), Fail> {
     let partial = b"18446744073709551615 ab\n18446744073709551617 00\n";
     assert!(rt; writes(alloc, &partial_batch(alloc)?, partial));
     assert!(rt; writes_long(alloc, &long_batch(alloc)?, 5292, b"30 00"));
+    Ok(())
+}
+
+#[test]
+fn signatures_are_counted(rt: HostRuntime) -> Result<(), Fail> {
+    let alloc = rt.alloc();
+    assert!(rt; count_signatures(&batch(alloc)?) == 3);
+    assert!(rt; count_signatures(&partial_batch(alloc)?) == 2);
     Ok(())
 }
 

@@ -2,6 +2,7 @@ ghost use Rattle.std.specs.Prelude.{◌≡◌, ◌≤◌, [], IfOk};
 ghost use Rattle.lms_shared_book.specs.Desks.{BlankFits};
 
 mod memory;
+mod reading;
 
 use crate::tests::{Sink, Source, lines, sink_of};
 use lms_batch::{BatchFault, SigningService};
@@ -230,7 +231,8 @@ fn sign_batches<E: Tally, G: Tally, B: Tally>(
     assert!(rt; writes_a_beginning(rt, service, desk, 38, false)?);
     assert!(rt; answers_four(rt, service, desk, LINE, 42)?);
     assert!(rt; refuses_too_many(rt, service, desk)?);
-    assert!(rt; counts(desk) == (4, 16, 0));
+    assert!(rt; reading::reads_and_signs(rt, service, desk, 46)?);
+    assert!(rt; counts(desk) == (5, 20, 0));
     Ok(())
 }
 

@@ -3,7 +3,7 @@ use super::states::{is_with, keyed};
 use super::words::{CHEAP, TWO, keygen};
 use super::{Ended, VERIFY, says, text_of};
 use lms_program::run::run;
-use lms_world::{MemoryWorld, World};
+use lms_world::{Log, MemoryWorld, Printer, World};
 use std::sync::Wait;
 use std::test::Fail;
 use std::thread::Threads;
@@ -61,8 +61,9 @@ pub(super) fn end_of_batch_to(
         rt.alloc(),
         &words,
         world,
+        &mut Log::new(),
         &mut rest,
-        &mut output,
+        &mut Printer::new(&mut output),
         &mut errors,
     );
     Ended {
@@ -99,8 +100,8 @@ fn is_answer(
         return Ok(false);
     };
     let signature = hex::decode(rt.alloc(), digits)?;
-    world.write("text.sig", &signature)?;
-    world.write("text", message)?;
+    world.write(&mut Log::new(), "text.sig", &signature)?;
+    world.write(&mut Log::new(), "text", message)?;
     Ok(number == index && says(rt, &VERIFY, world, 0, "valid\n"))
 }
 

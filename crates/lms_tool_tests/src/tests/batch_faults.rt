@@ -6,7 +6,7 @@ use super::{Closed, Ended, Stuck};
 use lms_book::{Left, MemoryStore};
 use lms_commands::Status;
 use lms_program::run::run;
-use lms_world::{MemoryWorld, World};
+use lms_world::{Log, MemoryWorld, Printer, World};
 use std::alloc::Global;
 use std::io;
 use std::io::{ErrorKind, Read, Write};
@@ -65,7 +65,16 @@ fn fails_by<I: Read, O: Write>(
 ) -> bool {
     let mut said = Vec::new(rt.alloc());
     let words = batch("2");
-    let status = run(rt, rt.alloc(), &words, world, input, output, &mut said);
+    let status = run(
+        rt,
+        rt.alloc(),
+        &words,
+        world,
+        &mut Log::new(),
+        input,
+        &mut Printer::new(output),
+        &mut said,
+    );
     status == Status::Stream && said.as_slice() == line.as_bytes()
 }
 

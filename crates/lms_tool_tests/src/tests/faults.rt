@@ -3,7 +3,7 @@ use super::states::{is_with, keyed, store_at, store_of};
 use super::words::{INFO, ONE, SIGN, keygen};
 use super::{Closed, VERIFY, fails_with, is_unprinted, says};
 use lms_book::Left;
-use lms_world::{MemoryWorld, World, WorldFault};
+use lms_world::{Log, MemoryWorld, World, WorldFault};
 use std::alloc::Global;
 use std::sync::Wait;
 use std::test::Fail;
@@ -37,7 +37,7 @@ fn cannot_read_the_state(rt: HostRuntime) -> Result<(), Fail> {
 
 /// Whether the file of a name can't be read.
 fn is_missing(alloc: Global, world: &MemoryWorld, name: &str) -> bool {
-    world.read(alloc, name).is_err()
+    world.read(alloc, &mut Log::new(), name).is_err()
 }
 
 /// No state, and a store whose next write fails, and leaves the old text or the new one.
@@ -172,7 +172,7 @@ fn cannot_write_a_public_key(rt: HostRuntime) -> Result<(), Fail> {
 #[test]
 fn cannot_print(rt: HostRuntime) -> Result<(), Fail> {
     let mut world = MemoryWorld::new(rt.alloc());
-    world.write("text", b"abc")?;
+    world.write(&mut Log::new(), "text", b"abc")?;
     assert!(rt; is_unprinted(&rt, &keygen("5/8"), &mut world, &mut Closed));
     assert!(rt; is_with(&world, &ONE, 0, 0, 0));
     assert!(rt; is_unprinted(&rt, &SIGN, &mut world, &mut Closed));

@@ -4,7 +4,7 @@ use super::states::{is_with, keyed, store_at};
 use super::words::{CHEAP, CHEAP_TWICE, ONE, SIGN, TWO, keygen};
 use super::{Closed, VERIFY, fails_with, is_unprinted, says};
 use lms_book::Left;
-use lms_world::{MemoryWorld, World, WorldFault};
+use lms_world::{Log, MemoryWorld, World, WorldFault};
 use std::alloc::Global;
 use std::sync::Wait;
 use std::test::Fail;
@@ -23,7 +23,7 @@ fn made(
     capacity: &str,
 ) -> Result<MemoryWorld, Fail> {
     let mut world = MemoryWorld::new(rt.alloc());
-    world.write("text", b"abc")?;
+    world.write(&mut Log::new(), "text", b"abc")?;
     if !says(rt, &keygen(levels), &mut world, 0, capacity) {
         return Err(Fail::from("a new key"));
     }
@@ -43,7 +43,7 @@ fn signs(
 #[test]
 fn what_is_kept_is_not_worked_out_again(rt: HostRuntime) -> Result<(), Fail> {
     let mut world = MemoryWorld::new(rt.alloc());
-    world.write("text", b"abc")?;
+    world.write(&mut Log::new(), "text", b"abc")?;
     assert!(rt; tells_of(&rt, &keygen("5/2,5/2"), &mut world, b"", 32));
     let top = kept(rt.alloc(), &world)?;
     assert!(rt; tells_of(&rt, &SIGN, &mut world, b"", 32));
@@ -68,10 +68,10 @@ fn signs_with(
     let mut world = keyed(rt.alloc(), &ONE, 5)?;
     world.set_nodes(Vec::from_slice(rt.alloc(), nodes)?);
     let signed = says(rt, &SIGN, &mut world, 0, "index 5\n") && is_with(&world, &ONE, 6, 1, 0);
-    let signature = world.read(rt.alloc(), "text.sig")?;
+    let signature = world.read(rt.alloc(), &mut Log::new(), "text.sig")?;
     Ok(
         signed
-            && signature == expected.read(rt.alloc(), "text.sig")?
+            && signature == expected.read(rt.alloc(), &mut Log::new(), "text.sig")?
             && world.nodes() == expected.nodes(),
     )
 }
@@ -103,7 +103,7 @@ fn goes_without(
 ) -> Result<bool, Fail> {
     let mut world = MemoryWorld::new(rt.alloc());
     world.fail_nodes(fault);
-    world.write("text", b"abc")?;
+    world.write(&mut Log::new(), "text", b"abc")?;
     let done = says(rt, &keygen("5/2"), &mut world, 0, "capacity 32\n")
         && signs(rt, &mut world, "index 0\n")
         && signs(rt, &mut world, "index 1\n");
@@ -172,7 +172,7 @@ fn signed_by(
         return Err(Fail::from("a signature"));
     }
     Ok((
-        world.read(rt.alloc(), "text.sig")?,
+        world.read(rt.alloc(), &mut Log::new(), "text.sig")?,
         kept(rt.alloc(), &world)?,
     ))
 }

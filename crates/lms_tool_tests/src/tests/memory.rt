@@ -2,7 +2,7 @@
 use super::states::is_with;
 use super::words::{CHEAP_TWICE, INFO, SIGN, keygen};
 use super::{Ended, VERIFY, end_of};
-use lms_world::{MemoryWorld, World};
+use lms_world::{Log, MemoryWorld, World};
 use std::alloc::Global;
 use std::sync::Wait;
 use std::test::Fail;
@@ -84,14 +84,15 @@ fn ends_once(
 
 /// Whether the public key was written.
 fn is_published(alloc: Global, world: &MemoryWorld) -> bool {
-    world.read(alloc, "key.pub").is_ok() || world.read(alloc, "key.pub").is_ok()
+    world.read(alloc, &mut Log::new(), "key.pub").is_ok()
+        || world.read(alloc, &mut Log::new(), "key.pub").is_ok()
 }
 
 /// Files with a message, written at the first or at the second try.
 fn with_text(alloc: Global) -> Result<MemoryWorld, Fail> {
     let mut world = MemoryWorld::new(alloc);
-    if world.write("text", b"abc").is_err() {
-        world.write("text", b"abc")?;
+    if world.write(&mut Log::new(), "text", b"abc").is_err() {
+        world.write(&mut Log::new(), "text", b"abc")?;
     }
     Ok(world)
 }

@@ -5,7 +5,7 @@ use super::words::{INFO, SIGN, keygen};
 use lms_hss::Progress;
 use lms_meter::{Meter, Wiping};
 use lms_program::run::run_watched;
-use lms_world::{MemoryWorld, World};
+use lms_world::{Log, MemoryWorld, Printer, World};
 use std::fmt::Display;
 use std::io;
 use std::io::{Print, Write};
@@ -165,8 +165,9 @@ pub(super) fn tells_of(
         rt.alloc(),
         words,
         world,
+        &mut Log::new(),
         &mut rest,
-        &mut output,
+        &mut Printer::new(&mut output),
         &mut errors,
         &sums,
     );
@@ -178,7 +179,7 @@ pub(super) fn tells_of(
 #[test]
 fn keygen_sign_and_batch_tell_of_their_leaves(rt: HostRuntime) -> Result<(), Fail> {
     let mut world = MemoryWorld::new(rt.alloc());
-    world.write("text", b"abc")?;
+    world.write(&mut Log::new(), "text", b"abc")?;
     assert!(rt; tells_of(&rt, &keygen("5/2,5/2"), &mut world, b"", 32));
     assert!(rt; tells_of(&rt, &SIGN, &mut world, b"", 32));
     assert!(rt; tells_of(&rt, &batch("2"), &mut world, TWO_LINES.as_bytes(), 64));

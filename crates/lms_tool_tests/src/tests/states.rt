@@ -3,7 +3,7 @@ use lms_book::MemoryStore;
 use lms_hss::{HssKey, Levels};
 use lms_image::{Image, ImageBytes, encode_image};
 use lms_params::{LmsType, OtsType};
-use lms_world::{MemoryWorld, World};
+use lms_world::{Log, MemoryWorld, World};
 use std::alloc::Global;
 use std::test::Fail;
 
@@ -57,7 +57,7 @@ pub(super) fn store_at(
 /// A message, and a state of this text.
 pub(super) fn stated(alloc: Global, text: &[u8]) -> Result<MemoryWorld, Fail> {
     let mut world = MemoryWorld::new(alloc);
-    world.write("text", b"abc")?;
+    world.write(&mut Log::new(), "text", b"abc")?;
     world.set_state(store_of(alloc, Some(text))?);
     Ok(world)
 }

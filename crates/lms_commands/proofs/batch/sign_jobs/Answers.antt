@@ -1,27 +1,29 @@
-use Rattle.lms_commands.specs.Batches.{streams}
-use Rattle.lms_commands.proofs.Batches.{all_passed_on, not_passed_on, passed_on}
+use Rattle.std.proofs.Common.{Some, subst}
+use Rattle.std.proofs.lemmas.Result.{on_ok_weaker}
+use Rattle.lms_commands.specs.BatchLogs.{LogsAnswers}
+use Rattle.lms_commands.specs.Logs.{WorldCalls}
+use Rattle.lms_commands.specs.Batches.{SignsAllJobs, streams}
+use Rattle.lms_commands.proofs.Failing.{made_with}
 use Rattle.lms_commands.proofs.batch.sign_jobs.Goals as goal
-
-pub returns-then-is_err-clause-failed : goal.returns-then-is_err-clause-failed
-returns-then-is_err-clause-failed g c =
-    let before = streams (g.I.Read.remaining c.args.input.now) (g.O.Write.contents c.args.output.now) in
-    let mid = streams (g.I.Read.remaining c.sign_by_state.new.input) (g.O.Write.contents c.sign_by_state.new.output) in (
-      (c.in-Some.workers, c.in-Some.ensures.some),
-      not_passed_on (g.W.World.known c.args.world.now) (g.W.World.known c.sign_by_state.new.world) c.args.state.now before mid
-          _ c.in_ok-done.done.signed c.in_ok-done.done.asked c.flush.ensures.bytes (c.in_ok-done.ensures.signed _ c.in_ok-lock.ensures.locked),
-    )
-
-pub returns-then-done-clause-failed : goal.returns-then-done-clause-failed
-returns-then-done-clause-failed g c =
-    let before = streams (g.I.Read.remaining c.args.input.now) (g.O.Write.contents c.args.output.now) in
-    let mid = streams (g.I.Read.remaining c.sign_by_state.new.input) (g.O.Write.contents c.sign_by_state.new.output) in
-    let signs = passed_on (g.W.World.known c.args.world.now) (g.W.World.known c.sign_by_state.new.world) c.args.state.now before mid
-    _ c.in_ok-done.done.signed c.in_ok-done.done.asked c.flush.ensures.bytes (c.in_ok-done.ensures.signed _ c.in_ok-lock.ensures.locked) in
-    ((c.in-Some.workers, c.in-Some.ensures.some), (c.if-done.true, signs))
 
 pub returns-clause-signed : goal.returns-clause-signed
 returns-clause-signed g c =
-    let before = streams (g.I.Read.remaining c.args.input.now) (g.O.Write.contents c.args.output.now) in
-    let mid = streams (g.I.Read.remaining c.sign_by_state.new.input) (g.O.Write.contents c.sign_by_state.new.output) in
-    all_passed_on (g.W.World.known c.args.world.now) (g.W.World.known c.sign_by_state.new.world) c.args.state.now before mid
-    _ c.in_ok-done.done.signed c.in_ok-done.done.asked c.flush.ensures.bytes (c.in_ok-done.ensures.signed _ c.in_ok-lock.ensures.locked) c.if-done.false
+    let before = streams (g.I.Read.remaining c.args.input.now) (Some c.args.output.now) in
+    let after = streams (g.I.Read.remaining c.sign_locked-done.new.input) (Some c.sign_locked-done.new.output) in
+    made_with c.sign_locked-done.result (g.W.World.is_lock_of c.in_ok-lock.lock)
+    (λ state. SignsAllJobs (g.W.World.known c.args.world.now) (g.W.World.known c.sign_locked-done.new.world) state before after)
+    c.args.state.now c.in_ok-lock.ensures.locked c.sign_locked-done.ensures.signed
+
+pub returns-clause-logged : goal.returns-clause-logged
+returns-clause-logged g c =
+    let input = g.I.Read.remaining c.args.input.now in
+    let rest = g.I.Read.remaining c.sign_locked-done.new.input in
+    let last = g.W.World.events c.sign_locked-done.new.log in
+    on_ok_weaker c.sign_locked-done.result
+    (λ is. (
+      last,
+      is.0,
+      subst (λ (log : WorldCalls). LogsAnswers input rest c.args.output.now c.sign_locked-done.new.output is.0 is.0 log last) c.in_ok-lock.ensures.logged is.1,
+      c.unlock.ensures.logged,
+    ))
+    c.sign_locked-done.ensures.logged

@@ -3,8 +3,7 @@ use Rattle.std.proofs.lemmas.Result.{IfErr-weaker, IfOk-weaker}
 use Rattle.lms_shared_book.specs.Desks.{SharedState, sums}
 use Rattle.lms_lines.specs.declared.fault.JobsFault.TheVariants as jobs
 use Rattle.lms_lines.specs.declared.signing.LinesFault.TheVariants as lines
-use Rattle.lms_commands.specs.Batches.{streams}
-use Rattle.lms_commands.specs.SharedBooks.{IsDoneAt, IsRefusedAt}
+use Rattle.lms_commands.specs.SharedBooks.{IsRefusedAt, IsSignedAt}
 use Rattle.lms_commands.proofs.Batches.{lent_one, settled_one, says_nothing}
 use Rattle.lms_commands.proofs.batch.sign_shared.Goals as goal
 
@@ -15,25 +14,25 @@ returns-in-Err-clause-refused g c = (
   record { entries = []; after = c.in-Err.ensures.err.0; all = refl },
 )
 
-pub returns-clause-done : goal.returns-clause-done
-returns-clause-done g c =
-    let before = streams (g.I.Read.remaining c.args.input.now) (g.O.Write.contents c.args.output.now) in
-    let after = streams (g.I.Read.remaining c.sign_at_desk-answer.new.input) (g.O.Write.contents c.sign_at_desk-answer.new.output) in
+pub returns-clause-signed : goal.returns-clause-signed
+returns-clause-signed g c =
+    let before = g.I.Read.remaining c.args.input.now in
+    let after = g.I.Read.remaining c.sign_at_desk-answer.new.input in
     let service = c.over-service.ensures ∙ c.in-Ok.ensures.shared in
     let book = ap (λ (s : SharedState). s.book) (c.into_book.ensures ∙ service) in
     let len : c.in-Ok.shared.1.len ≡ 1 = c.in-Ok.shared.1.ok.0 ∙ ap length c.in-Ok.ensures.desks in
     IfOk-weaker c.sign_at_desk-answer.result _ _
-    (λ done is. (
+    (λ signed is. (
       is.0,
-      subst (λ (s : SharedState). IsDoneAt s before after done is.0) service is.2,
+      subst (λ (s : SharedState). IsSignedAt s before after signed is.0) service is.2,
       settled_one c.args.book c.into_book.result.book c.in-Ok-settle.left _ is.0 book (lent_one _ _ _ _ is.0 len c.in-Ok.ensures.desks is.1) c.in-Ok-settle.ensures.settled,
     ))
-    c.sign_at_desk-answer.ensures.done
+    c.sign_at_desk-answer.ensures.signed
 
 pub returns-clause-refused : goal.returns-clause-refused
 returns-clause-refused g c =
-    let before = streams (g.I.Read.remaining c.args.input.now) (g.O.Write.contents c.args.output.now) in
-    let after = streams (g.I.Read.remaining c.sign_at_desk-answer.new.input) (g.O.Write.contents c.sign_at_desk-answer.new.output) in
+    let before = g.I.Read.remaining c.args.input.now in
+    let after = g.I.Read.remaining c.sign_at_desk-answer.new.input in
     let service = c.over-service.ensures ∙ c.in-Ok.ensures.shared in
     let book = ap (λ (s : SharedState). s.book) (c.into_book.ensures ∙ service) in
     let len : c.in-Ok.shared.1.len ≡ 1 = c.in-Ok.shared.1.ok.0 ∙ ap length c.in-Ok.ensures.desks in

@@ -1,7 +1,10 @@
 use Rattle.std.proofs.Common.{inr, subst, sym}
+use Rattle.lms_commands.specs.Logs.{state_of}
+use Rattle.lms_commands.specs.SignLogs.{LogsNotSigned}
 use Rattle.lms_commands.specs.Signing.{FailsToSignNext}
 use Rattle.lms_commands.proofs.Failing.{may_use_still, signed_still}
 use Rattle.lms_commands.proofs.StayingRight.{nodes_stay, only_from, stays_right}
+use Rattle.lms_commands.proofs.Logged.{log_signed, log_unsigned}
 use Rattle.lms_commands.proofs.Signings.{just_opened, next_failed, next_signed, next_used, nodes_kept, some_now}
 use Rattle.lms_commands.proofs.signing.sign_by_state.Goals as goal
 
@@ -58,3 +61,17 @@ returns-in-Err-clause-failed g c =
     subst (FailsToSignNext old new state) (sym c.from.ensures)
     (next_failed old new state book c.sign_next-signed.new.book _ opened.counted (opened.opened state locked) (just_opened book opened.fresh) c.close.ensures.store
     (opened.taken state locked) (c.put_back.ensures.kept state locked) (c.put_back.ensures.only state locked) c.in-Err.fault c.in-Err.ensures.failed)
+
+pub returns-in-Ok-clause-logged : goal.returns-in-Ok-clause-logged
+returns-in-Ok-clause-logged g c =
+    let book = c.in_ok-book.book in
+    let is = c.in-Ok.ensures in
+    log_signed book c.sign_next-signed.new.book _ _ _ _ c.in_ok-book.ensures.logged (just_opened book c.in_ok-book.ensures.fresh) c.close.ensures.store
+    c.put_back.ensures.logged _ _ _ _ _ _ _ is.reserved is.index c.keep_signers.ensures.logged is.signature
+
+pub returns-in-Err-clause-log_failed : goal.returns-in-Err-clause-log_failed
+returns-in-Err-clause-log_failed g c =
+    let book = c.in_ok-book.book in
+    let unsigned = log_unsigned book c.sign_next-signed.new.book _ _ _ _ c.in_ok-book.ensures.logged (just_opened book c.in_ok-book.ensures.fresh) c.close.ensures.store
+    c.put_back.ensures.logged c.in-Err.fault c.in-Err.ensures.failed in
+    subst (λ fault. LogsNotSigned fault (g.W.World.events c.args.log.now) (g.W.World.events c.put_back.new.log)) (sym c.from.ensures) (inr (state_of book, unsigned))

@@ -1,28 +1,15 @@
-use Rattle.std.proofs.Common.{ap, arith, sym, true≢false}
-use Rattle.std.specs.Prelude.{Err}
-use Rattle.lms_lines.proofs.SignedLines.{batch_read, batch_refused, not_none}
+use Rattle.std.proofs.Common.{refl}
+use Rattle.lms_lines.proofs.SignedLines.{not_answered}
+use Rattle.lms_lines.proofs.Steps.{IfErr-same}
 use Rattle.lms_lines.proofs.signing.sign_lines_watched.Goals as goal
 
-pub returns-in-Ok-write_batch-clause-done : goal.returns-in-Ok-write_batch-clause-done
-returns-in-Ok-write_batch-clause-done g c =
-    let batch = c.in-Ok-sign_batch_watched.batch in
-    let signed = c.in-Ok-sign_batch_watched.ensures in
-    let read = batch_read c.args.service.now (g.I.Read.remaining c.args.reader.now) (g.I.Read.remaining c.read_jobs.new.reader)
-    c.args.desk.now c.sign_batch_watched.new.desk c.deref.result.now c.in-Ok.jobs.items c.deref.ensures.value c.in-Ok.ensures.ok batch signed.answer signed.within signed.desk signed.lawful in
-    (batch, read.0, c.in-Ok-write_batch.ensures.ok, c.signatures.ensures, omega (arith, c.len.ensures, read.1))
+pub returns-in_err-jobs-clause-fault : goal.returns-in_err-jobs-clause-fault
+returns-in_err-jobs-clause-fault g c =
+    let fault = c.in_err-jobs.field-0.0 in
+    IfErr-same _ c.from_residual.result fault c.from_residual.ensures.1 (not_answered _ _ _ _ _ _ _ fault c.in_err-jobs.ensures.unsigned)
+
+pub returns-in-Ok-clause-done : goal.returns-in-Ok-clause-done
+returns-in-Ok-clause-done g c = (c.in_ok-jobs.jobs, c.in_ok-jobs.ensures.signed, c.in-Ok.ensures.ok, c.count_signatures.ensures, refl)
 
 pub returns-clause-fault : goal.returns-clause-fault
-returns-clause-fault g c =
-    let batch = c.in-Ok-sign_batch_watched.batch in
-    let signed = c.in-Ok-sign_batch_watched.ensures in
-    let read = batch_read c.args.service.now (g.I.Read.remaining c.args.reader.now) (g.I.Read.remaining c.read_jobs.new.reader)
-    c.args.desk.now c.sign_batch_watched.new.desk c.deref.result.now c.in-Ok.jobs.items c.deref.ensures.value c.in-Ok.ensures.ok batch signed.answer signed.within signed.desk signed.lawful in
-    (batch, read.0, c.in-Err-write_batch.ensures.err)
-
-pub returns-in-Err-sign_batch_watched-clause-fault : goal.returns-in-Err-sign_batch_watched-clause-fault
-returns-in-Err-sign_batch_watched-clause-fault g c =
-    let refused = c.in-Err-sign_batch_watched.ensures in
-    let some = not_none _ (λ zero. true≢false (sym (refused.none zero).0)) in
-    batch_refused c.args.service.now (g.I.Read.remaining c.args.reader.now) (g.I.Read.remaining c.read_jobs.new.reader)
-    c.args.desk.now c.sign_batch_watched.new.desk c.deref.result.now c.in-Ok.jobs.items c.deref.ensures.value c.in-Ok.ensures.ok c.in-Err-sign_batch_watched.fault some refused.desk
-    (λ is. refused.too_many.0 (ap Err is)) refused.lawful
+returns-clause-fault g c = (c.in_ok-jobs.jobs.batch, c.in_ok-jobs.ensures.signed.0, c.in-Err.ensures.err)

@@ -3,5 +3,5 @@ use Rattle.lms_world.proofs.memory.MemoryWorldWorld.write.Goals as goal
 
 pub returns-clause-others : goal.returns-clause-others
 returns-clause-others c name another bytes =
-    let same = c.put.ensures.others name another in
+    let same = c.set-answer.ensures.others name another in
     (λ gave. same ∙ gave, λ gives. sym same ∙ gives)

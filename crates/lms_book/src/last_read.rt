@@ -1,0 +1,38 @@
+//! What a store's last read gave, as contracts see it. At run time nothing is kept of it.
+ghost use Rattle.std.specs.Prelude.{◌≡◌, None, Some};
+
+use std::marker::Model;
+use std::snapshot::Snapshot;
+
+/// The bytes that the last read of a store gave, or that there was none. A store has one among its fields, for its `StoreView`.
+/// Contracts see the bytes; it takes no memory.
+#[derive(Drop)]
+pub struct LastRead {
+    bytes: Option<Snapshot<Vec<u8>>>,
+}
+
+impl Model for LastRead {
+    ghost use Rattle.std.specs.Prelude.{List, ℕ, Option, option_map};
+
+    ghost Value = { Option (List ℕ) };
+
+    ghost view = { λ read. option_map (λ bytes. bytes.value.items) read.bytes };
+}
+
+impl LastRead {
+    /// No read gave bytes yet.
+    pub fn none() -> Self
+        ensures { result ≡ None }
+    {
+        LastRead { bytes: None }
+    }
+
+    /// A read gives these bytes.
+    pub fn of(bytes: &Vec<u8>) -> Self
+        ensures { result ≡ Some bytes.now.items }
+    {
+        LastRead {
+            bytes: Some(Snapshot::of(bytes)),
+        }
+    }
+}

@@ -1,0 +1,131 @@
+-- What a command logged, by what its steps did.
+use Rattle.std.proofs.Common.{◌≡◌, ◌∙◌, inl, inr, Bool, true, false, sym, ℕ, ◌+◌, ◌≤◌, List, ◌∷◌, Option, Some, refl, ap, subst, arith}
+use Rattle.lms_image.specs.Image.{HasImage}
+use Rattle.lms_book.specs.declared.refusals.OpenFault.{OpenFault}
+use Rattle.lms_book.specs.declared.refusals.OpenFault.TheVariants as opening
+use Rattle.lms_book.specs.declared.refusals.BookFault.TheVariants as book
+use Rattle.lms_book.specs.Books.{HasCause, IsReadFrom, capacity, counter, next_image}
+use Rattle.lms_book.specs.States.{BookState}
+use Rattle.lms_book.specs.Stops.{StoreView, FailsToWrite, after_write}
+use Rattle.lms_kept.specs.Signed.{IsSignedByText}
+use Rattle.lms_kept.specs.Ways.{Way}
+use Rattle.lms_world.specs.Events.{Event, PutBack, Taken, Written}
+use Rattle.lms_world.specs.Known.{Text}
+use Rattle.lms_spec.specs.Profile.{hss_public_key}
+use Rattle.lms_hss.specs.Keys.{hss_key_of}
+use Rattle.lms_hss.specs.declared.key.HssKey.{HssKey as KeyOfCode}
+use Rattle.lms_commands.specs.KeygenLogs.{IsUnpublished, LogsUnmade, WritesKey, capacity_line}
+use Rattle.lms_commands.specs.declared.fault.Fault.{Fault}
+use Rattle.lms_commands.specs.declared.fault.Fault.TheVariants.{BadLevels, TooManyLevels, TooTall, BadSeed, BadId, BadRandom, BadWorkers, BadJob, TooManyJobs, StateExists, StateInUse, ReadState, BadState, WriteState, WriteStateBurnt, Exhausted, OutOfMemory, OutOfMemoryBurnt, Partial, Input, Output}
+use Rattle.lms_commands.specs.Faults.{of_opening, of_signing}
+use Rattle.lms_commands.specs.Logs.{LeavesState, WorldCalls, LogsKeeping, LogsUnopened, LogsUnsigned, OpensState, ReadsState, StoresUse, TriesUse, state_of}
+use Rattle.lms_commands.specs.SignLogs.{LogsSigned}
+use Rattle.lms_commands.specs.Signing.{GivesOne, SignsNothing}
+use Rattle.lms_commands.specs.declared.signing.SignFault.{SignFault}
+use Rattle.lms_commands.specs.declared.signing.SignFault.TheVariants as unsigned
+use Rattle.lms_commands.proofs.Signings.{IsJustOpened, image_is}
+
+-- two calls, and three
+pub two_calls : (x y z : WorldCalls) (a b : Event) → y ≡ a ∷ x → z ≡ b ∷ y → z ≡ b ∷ a ∷ x
+two_calls x y z a b first then = then ∙ ap (λ (log : WorldCalls). b ∷ log) first
+
+pub three_calls : (w x y z : WorldCalls) (a b c : Event) → x ≡ a ∷ w → y ≡ b ∷ x → z ≡ c ∷ y → z ≡ c ∷ b ∷ a ∷ w
+three_calls w x y z a b c first then last = last ∙ ap (λ (log : WorldCalls). c ∷ log) (two_calls w x y a b first then)
+
+-- a store that was not opened is put back
+pub unopened : (may_fail : Type 0) (fault : OpenFault) (taken left : StoreView) (old new : WorldCalls) → HasCause may_fail taken fault left
+    → new ≡ PutBack left ∷ Taken (Some taken) ∷ old → LogsUnopened (of_opening fault) old new
+unopened may_fail opening.Store taken left old new (may, is) calls = (taken, calls ∙ ap (λ (v : StoreView). PutBack v ∷ Taken (Some taken) ∷ old) is)
+unopened may_fail (opening.Image bad) taken left old new (text, may, has, is) calls =
+    (taken, text, may, has, calls ∙ ap (λ (v : StoreView). PutBack v ∷ Taken (Some taken) ∷ old) is)
+unopened may_fail opening.OutOfMemory taken left old new is calls =
+    inr (taken, calls ∙ ap (λ (v : StoreView). PutBack v ∷ Taken (Some taken) ∷ old) is)
+
+-- what a book read, as told of its state
+pub state_read : (taken : StoreView) (book : BookState) → IsReadFrom taken book → HasImage book.key book.base book.openings book.burnt
+    → ReadsState (state_of book) taken book.store
+state_read taken book is counted = record { text = is.text; left = is.left; counted = counted; image = is.image; given = is.given }
+
+-- a book was opened, and its store put back
+module _ (before after_it : BookState) (view : StoreView) (old opened back : WorldCalls) (opens : OpensState before old opened)
+    (is_fresh : IsJustOpened before) (view_is : view ≡ after_it.store) (back_is : back ≡ PutBack view ∷ opened) where
+  abbrev taken : StoreView
+  taken = opens.0
+
+  all : back ≡ PutBack view ∷ Taken (Some taken) ∷ old
+  all = back_is ∙ ap (λ (log : WorldCalls). PutBack view ∷ log) opens.2
+
+  put : (left : StoreView) → after_it.store ≡ left → back ≡ PutBack left ∷ Taken (Some taken) ∷ old
+  put left is = all ∙ ap (λ (v : StoreView). PutBack v ∷ Taken (Some taken) ∷ old) (view_is ∙ is)
+
+  pub stored : (n : ℕ) → counter before + n ≤ capacity before → after_it.store ≡ after_write (next_image n before) before.store
+      → StoresUse n (state_of before) old back
+  stored n within is = (
+    taken,
+    before.store,
+    opens.1,
+    omega (arith, within, is_fresh.used),
+    put _ (is ∙ ap (λ (image : List ℕ). after_write image before.store) (image_is n before is_fresh)),
+  )
+
+  pub tried : (n : ℕ) → counter before + n ≤ capacity before → FailsToWrite (next_image n before) before.store after_it.store
+      → TriesUse n (state_of before) old back
+  tried n within failed = (
+    taken,
+    before.store,
+    after_it.store,
+    opens.1,
+    omega (arith, within, is_fresh.used),
+    subst (λ (image : List ℕ). FailsToWrite image before.store after_it.store) (image_is n before is_fresh) failed,
+    put _ refl,
+  )
+
+  pub left_so : after_it ≡ before → LeavesState (state_of before) old back
+  left_so same = (taken, before.store, opens.1, put _ (ap (λ (b : BookState). b.store) same))
+
+  pub log_signed : (nodes : Option (List ℕ)) (random message : List ℕ) (index : ℕ) (signature : List ℕ) (trees : Option Way) (new : WorldCalls)
+      → GivesOne before after_it → index ≡ counter before → LogsKeeping trees back new
+      → IsSignedByText nodes before.key index random message signature trees → LogsSigned nodes random message index signature old new
+  log_signed nodes random message index signature trees new gives at keeps signed = record {
+    state = state_of before;
+    trees = trees;
+    until_stored = back;
+    next = at ∙ is_fresh.used;
+    stores = stored 1 gives.within gives.stored;
+    keeps = keeps;
+    signed = signed;
+  }
+
+  pub log_unsigned : (fault : SignFault) → SignsNothing before fault after_it → LogsUnsigned 1 (of_signing fault) (state_of before) old back
+  log_unsigned (unsigned.Book (book.Exhausted left)) (full, is, same) =
+      (omega (arith, full, is_fresh.used), omega (arith, is, is_fresh.used), left_so same)
+  log_unsigned (unsigned.Book book.OutOfMemory) (room, same) = left_so same
+  log_unsigned (unsigned.Book (book.Store start len)) (room, s, l, history, failed) = (s ∙ is_fresh.used, l, tried 1 room failed)
+  log_unsigned unsigned.OutOfMemory gives = (refl, stored 1 gives.within gives.stored)
+
+-- a key's state was stored, and its public key or capacity not published
+pub unmade : (key : KeyOfCode) (public : Text) (before printed : List ℕ) (old kept new : WorldCalls)
+    → ((written : Bool) → WritesKey key public written old (Written public (hss_public_key (hss_key_of key)) written ∷ kept)) → (fault : Fault)
+    → IsUnpublished public (hss_public_key (hss_key_of key)) (capacity_line key) before printed fault kept new → LogsUnmade key public before printed fault old new
+unmade key public before printed old kept new writes BadLevels never = absurd never
+unmade key public before printed old kept new writes TooManyLevels never = absurd never
+unmade key public before printed old kept new writes TooTall never = absurd never
+unmade key public before printed old kept new writes BadSeed never = absurd never
+unmade key public before printed old kept new writes BadId never = absurd never
+unmade key public before printed old kept new writes BadRandom never = absurd never
+unmade key public before printed old kept new writes BadWorkers never = absurd never
+unmade key public before printed old kept new writes (BadJob line) never = absurd never
+unmade key public before printed old kept new writes TooManyJobs never = absurd never
+unmade key public before printed old kept new writes StateExists never = absurd never
+unmade key public before printed old kept new writes StateInUse never = absurd never
+unmade key public before printed old kept new writes ReadState never = absurd never
+unmade key public before printed old kept new writes (BadState bad) never = absurd never
+unmade key public before printed old kept new writes WriteState never = absurd never
+unmade key public before printed old kept new writes (WriteStateBurnt start len) never = absurd never
+unmade key public before printed old kept new writes (Exhausted left) never = absurd never
+unmade key public before printed old kept new writes OutOfMemory is = (inr (inr (subst (λ (log : WorldCalls). WritesKey key public false old log) (sym is.0) (writes false))), is.1)
+unmade key public before printed old kept new writes (OutOfMemoryBurnt count) never = absurd never
+unmade key public before printed old kept new writes (Partial signed asked) never = absurd never
+unmade key public before printed old kept new writes Input never = absurd never
+unmade key public before printed old kept new writes Output (inl is) = inl (subst (λ (log : WorldCalls). WritesKey key public false old log) (sym is.0) (writes false), is.1)
+unmade key public before printed old kept new writes Output (inr is) = inr (record { until_written = _; writes = writes true; prints = is.0 }, is.1)

@@ -1,0 +1,14 @@
+use Rattle.std.proofs.Common.{◌∙◌, ◌∷◌, List, ℕ, ap, inr, refl}
+use Rattle.lms_world.specs.Events.{NodesWritten, is_done}
+use Rattle.lms_commands.proofs.keeping.keep_trees.Goals as goal
+
+pub returns-in-Ok-clause-logged : goal.returns-in-Ok-clause-logged
+returns-in-Ok-clause-logged g c =
+    let done = is_done c.write_nodes.result in
+    let text = c.deref.ensures.value ∙ c.in-Ok.ensures.text in
+    inr (
+      c.args.trees.now,
+      done,
+      refl,
+      c.write_nodes.ensures.logged ∙ ap (λ (t : List ℕ). NodesWritten t done ∷ g.W.World.events c.args.log.now) text,
+    )

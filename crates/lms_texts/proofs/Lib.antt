@@ -1,0 +1,3 @@
+pub mod LevelTexts
+pub mod SizedTexts
+pub mod Workers

@@ -1,0 +1,10 @@
+use denote.Param.Send.{sendable}
+use Rattle.std.proofs.Crossing.{crosses}
+use Rattle.lms_world.proofs.Sent.{store_is_sent}
+use Rattle.lms_world_tests.proofs.tests.a_folder_breaks_off.Goals as goal
+
+pub breaks_off-requires-send-W-Store : goal.breaks_off-requires-send-W-Store
+breaks_off-requires-send-W-Store g c κs within = search (store_is_sent, sendable, crosses) depth 20
+
+pub hands_over-requires-send-W-Store : goal.hands_over-requires-send-W-Store
+hands_over-requires-send-W-Store g c κs within = search (store_is_sent, sendable, crosses) depth 20
