@@ -1,5 +1,5 @@
-"""A signer by hashlib, after docs/PROFILE.md, from whole trees, and what `tests/states` and `tests/nodes` share, which hold the program
-against it. Each of their tests has a folder of its own with a message, is printed, and counts as one; the last line is `N passed, M failed`.
+"""A signer by hashlib, after docs/PROFILE.md, from whole trees, and what `tests/states`, `tests/nodes` and `tests/power_cuts` share, which hold
+the program against it. Each of their tests has a folder of its own with a message, is printed, and counts as one; the last line is `N passed, M failed`.
 The program is built first where there is none. A test that can't be run here is skipped, and is counted neither as passed nor as failed.
 They want Python 3.9 or later. Run by root, they run the program as another user where that one is to be refused something."""
 
