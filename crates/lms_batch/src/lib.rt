@@ -17,3 +17,4 @@ pub use crate::job::{Job, MOST_JOBS};
 pub use crate::open_lease::{OpenLease, SignFault};
 pub use crate::receipt::Receipt;
 pub use crate::service::{BatchFault, MOST_WORKERS, SigningService};
+pub use lms_params::OutOfMemory;

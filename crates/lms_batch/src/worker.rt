@@ -93,7 +93,9 @@ impl<'a> Worker<'a> {
     }
 
     /// The receipts of the jobs that it signed.
-    pub(crate) fn into_receipts(self) -> Vec<Receipt<'a>> {
+    pub(crate) fn into_receipts(self) -> Vec<Receipt<'a>>
+        ensures { result ≡ self.entry.receipts }
+    {
         self.receipts
     }
 }

@@ -24,3 +24,4 @@ pub use crate::refusals::{BookFault, OpenFault};
 pub use crate::reservations::Reservations;
 pub use crate::store::{ReadFault, StateStore, StoreFault};
 pub use crate::text::Text;
+pub use lms_params::OutOfMemory;

@@ -10,7 +10,7 @@ use crate::key::HssKey;
 use crate::level_trees::LevelTrees;
 use crate::signed_tree::SignedTree;
 use lms_params::OutOfMemory;
-use lms_tree::{Progress, Unwatched};
+use lms_tree::{Begun, Progress, Unwatched};
 use std::alloc::Global;
 use std::marker::Model;
 use std::thread::Threads;
@@ -78,11 +78,11 @@ impl Forest {
     {
         let below_top = key.levels.as_slice().len() - 1;
         let last = start + (len - 1);
-        progress.begin(leaves_of_all_trees(&key, start, last));
-        let mut trees = LevelTrees::top(rt, alloc, &key, start, last, progress)?;
+        let begun = Begun::new(progress, leaves_of_all_trees(&key, start, last));
+        let mut trees = LevelTrees::top(rt, alloc, &key, start, last, &begun)?;
         let public = trees.tree(0).public_key(&key);
         for k in 0..below_top {
-            trees = trees.below(rt, alloc, &key, k, start, last, progress)?;
+            trees = trees.below(rt, alloc, &key, k, start, last, &begun)?;
         }
         Ok(Forest {
             key,

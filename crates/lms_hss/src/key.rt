@@ -14,7 +14,7 @@ use crate::levels::{Levels, MOST_LEVELS};
 use crate::verification::LMS_KEY_LEN;
 use byteorder::{BigEndian, ByteOrder};
 use lms_params::{OutOfMemory, lms_sig_len};
-use lms_tree::{BandTree, Progress, TreeKey, Unwatched, public_bytes};
+use lms_tree::{BandTree, Begun, Progress, TreeKey, Unwatched, public_bytes};
 use std::alloc::Global;
 use std::thread::Threads;
 
@@ -100,8 +100,8 @@ impl HssKey {
         ensures { IfOk result (λ text. text ≡ hss_public_key (hss_key_of self.now)) }
     {
         let (lms, _) = self.levels.as_slice()[0];
-        progress.begin(1 << lms.height());
-        let tree = BandTree::build_watched(rt, alloc, self.top_tree(), 0, 0, progress)?;
+        let begun = Begun::new(progress, 1 << lms.height());
+        let tree = BandTree::build_watched(rt, alloc, self.top_tree(), 0, 0, &begun)?;
         Ok(self.public_key_over(&tree))
     }
 

@@ -8,7 +8,7 @@ ghost use Rattle.lms_hss.specs.Forests.{HoldsLevel};
 use crate::key::HssKey;
 use crate::signed_tree::SignedTree;
 use lms_params::OutOfMemory;
-use lms_tree::Progress;
+use lms_tree::{Begun, Progress};
 use std::alloc::Global;
 use std::thread::Threads;
 
@@ -27,7 +27,7 @@ impl LevelTrees {
         key: &HssKey,
         start: u64,
         last: u64,
-        progress: &impl Progress,
+        begun: &Begun<impl Progress>,
     ) -> Result<Self, OutOfMemory>
         requires some { 1 ≤ length key.now.levels }
         requires order { start ≤ last }
@@ -37,7 +37,7 @@ impl LevelTrees {
     {
         let leaves = key.leaves(start, last, 0, 0);
         let mut trees = Vec::new(alloc);
-        trees.push(SignedTree::top(rt, alloc, key, leaves, progress)?)?;
+        trees.push(SignedTree::top(rt, alloc, key, leaves, begun)?)?;
         Ok(LevelTrees { first: 0, trees })
     }
 
@@ -60,7 +60,7 @@ impl LevelTrees {
         k: usize,
         start: u64,
         last: u64,
-        progress: &impl Progress,
+        begun: &Begun<impl Progress>,
     ) -> Result<Self, OutOfMemory>
         requires below { k + 1 < length key.now.levels }
         requires order { start ≤ last }
@@ -77,7 +77,7 @@ impl LevelTrees {
             let leaves = key.leaves(start, last, k + 1, number);
             trees.push(
                 self.tree(parent)
-                    .child(rt, alloc, leaf, sets, leaves, progress)?,
+                    .child(rt, alloc, leaf, sets, leaves, begun)?,
             )?;
         }
         Ok(LevelTrees { first, trees })

@@ -13,7 +13,7 @@ use crate::child_key::{child_key, randomizer};
 use crate::key::{HssKey, Leaves};
 use crate::verification::LMS_KEY_LEN;
 use lms_params::{LmsType, OtsType, OutOfMemory, lms_sig_len};
-use lms_tree::{BandTree, NodeSource, Progress, public_bytes, sign_into};
+use lms_tree::{BandTree, Begun, NodeSource, Progress, public_bytes, sign_into};
 use std::alloc::Global;
 use std::thread::Threads;
 
@@ -32,7 +32,7 @@ impl SignedTree {
         alloc: Global,
         key: &HssKey,
         leaves: Leaves,
-        progress: &impl Progress,
+        begun: &Begun<impl Progress>,
     ) -> Result<Self, OutOfMemory>
         requires { AreLeaves (level (hss_key_of key.now) 0).lms.h leaves }
         ensures { IfOk result (λ tree. (g : ℕ) → leaves.first ≤ leaf_at (hss_key_of key.now) g 0 → leaf_at (hss_key_of key.now) g 0 ≤ leaves.last
@@ -46,7 +46,7 @@ impl SignedTree {
             key.top_tree(),
             leaves.first,
             leaves.last,
-            progress,
+            begun,
         )?;
         Ok(SignedTree { tree, head })
     }
@@ -60,7 +60,7 @@ impl SignedTree {
         q: u32,
         sets: (LmsType, OtsType),
         leaves: Leaves,
-        progress: &impl Progress,
+        begun: &Begun<impl Progress>,
     ) -> Result<Self, OutOfMemory>
         requires from { self.now.tree.first ≤ q }
         requires to { q ≤ self.now.tree.last }
@@ -76,7 +76,7 @@ impl SignedTree {
             child_key(&key, q, sets),
             leaves.first,
             leaves.last,
-            progress,
+            begun,
         )?;
         self.sign_key_into(q, &randomizer(&key, q), &public_bytes(&tree), &mut head);
         Ok(SignedTree { tree, head })

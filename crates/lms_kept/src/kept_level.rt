@@ -11,7 +11,7 @@ ghost use Rattle.lms_kept.specs.Ways.{IsKeptChild, IsMoved, level_text};
 
 use lms_hss::{LMS_KEY_LEN, randomizer};
 use lms_params::{OutOfMemory, lms_sig_len};
-use lms_tree::{BandTree, KeptTree, Progress, TreeKey, bottom_height};
+use lms_tree::{BandTree, Begun, KeptTree, Progress, TreeKey, bottom_height};
 use std::alloc::Global;
 use std::thread::Threads;
 
@@ -30,7 +30,7 @@ impl KeptLevel {
         alloc: Global,
         key: TreeKey,
         leaf: u32,
-        progress: &impl Progress,
+        begun: &Begun<impl Progress>,
     ) -> Result<Self, OutOfMemory>
         requires { leaf < 2 ^ (tree_of key).lms.h }
         ensures key { IfOk result (λ level. level.tree.key ≡ key) }
@@ -39,7 +39,7 @@ impl KeptLevel {
         ensures nodes { IfOk result (λ level. AreNodes level.tree) }
         ensures signed { IfOk result (λ level. level.signed.items ≡ []) }
     {
-        let tree = worked_out(rt, alloc, key, leaf, progress)?;
+        let tree = worked_out(rt, alloc, key, leaf, begun)?;
         let signed = Vec::new(alloc);
         Ok(KeptLevel { tree, signed })
     }
@@ -53,7 +53,7 @@ impl KeptLevel {
         q: u32,
         key: TreeKey,
         below: u32,
-        progress: &impl Progress,
+        begun: &Begun<impl Progress>,
     ) -> Result<Self, OutOfMemory>
         requires served { ServesLeaf self.now.tree q }
         requires below { below < 2 ^ (tree_of key).lms.h }
@@ -61,7 +61,7 @@ impl KeptLevel {
     {
         let above = self.tree.key();
         let mut signed = vec![in alloc; 0; lms_sig_len(above.lms, above.ots) + LMS_KEY_LEN]?;
-        let tree = worked_out(rt, alloc, key, below, progress)?;
+        let tree = worked_out(rt, alloc, key, below, begun)?;
         self.sign_key_into(q, &randomizer(&above, q), &tree.public_bytes(), &mut signed);
         Ok(KeptLevel { tree, signed })
     }
@@ -73,7 +73,7 @@ impl KeptLevel {
         rt: &(impl Threads + Sync),
         alloc: Global,
         q: u32,
-        progress: &impl Progress,
+        begun: &Begun<impl Progress>,
     ) -> Result<Option<Self>, OutOfMemory>
         requires leaf { q < 2 ^ (tree_of self.tree.key).lms.h }
         requires shape { HasShape self.tree }
@@ -85,7 +85,7 @@ impl KeptLevel {
         if tree.subtree() == subtree {
             return Ok(Some(KeptLevel { tree, signed }));
         }
-        match tree.moved_to(rt, alloc, subtree, progress)? {
+        match tree.moved_to(rt, alloc, subtree, begun)? {
             Some(tree) => Ok(Some(KeptLevel { tree, signed })),
             None => Ok(None),
         }
@@ -192,7 +192,7 @@ fn worked_out(
     alloc: Global,
     key: TreeKey,
     leaf: u32,
-    progress: &impl Progress,
+    begun: &Begun<impl Progress>,
 ) -> Result<KeptTree, OutOfMemory>
     requires { leaf < 2 ^ (tree_of key).lms.h }
     ensures key { IfOk result (λ tree. tree.key ≡ key) }
@@ -200,7 +200,7 @@ fn worked_out(
     ensures shape { IfOk result HasShape }
     ensures nodes { IfOk result AreNodes }
 {
-    let tree = BandTree::build_watched(rt, alloc, key, leaf, leaf, progress)?;
+    let tree = BandTree::build_watched(rt, alloc, key, leaf, leaf, begun)?;
     Ok(tree.into_kept())
 }
 

@@ -13,7 +13,7 @@ use crate::kept_text::{CHECK_LEN, HEADER_LEN, check_value, checked_rest, header}
 use crate::levels::{leaves_from, level_len, shared_levels, signed_len};
 use lms_hss::{HssKey, Progress, public_key_bytes, verify};
 use lms_params::OutOfMemory;
-use lms_tree::bottom_height;
+use lms_tree::{Begun, bottom_height};
 use std::alloc::Global;
 use std::marker::Model;
 use std::thread::Threads;
@@ -55,8 +55,8 @@ impl KeptTrees {
         ensures genuine { IfOk result AreGenuine }
     {
         let (lms, _) = key.levels.as_slice()[0];
-        progress.begin(1 << lms.height());
-        KeptTrees::top_of(rt, alloc, key, 0, progress)
+        let begun = Begun::new(progress, 1 << lms.height());
+        KeptTrees::top_of(rt, alloc, key, 0, &begun)
     }
 
     /// Works out the trees on the way of an index, level by level from the top, and tells `progress` how many leaves of all these trees.
@@ -75,8 +75,8 @@ impl KeptTrees {
         ensures way { IfOk result IsWay }
         ensures genuine { IfOk result AreGenuine }
     {
-        progress.begin(leaves_from(&key, 0));
-        KeptTrees::top_of(rt, alloc, key, at, progress)?.completed(rt, alloc, progress)
+        let begun = Begun::new(progress, leaves_from(&key, 0));
+        KeptTrees::top_of(rt, alloc, key, at, &begun)?.completed(rt, alloc, &begun)
     }
 
     /// Whether all levels are there, and index g is signed by the nodes that are there.
@@ -120,13 +120,13 @@ impl KeptTrees {
             unreachable!()
         };
         let leaf = key.place(g, shared - 1);
-        progress.begin(last.leaves_to(leaf) + leaves_from(&key, shared));
-        let Some(last) = last.moved_to(rt, alloc, leaf, progress)? else {
+        let begun = Begun::new(progress, last.leaves_to(leaf) + leaves_from(&key, shared));
+        let Some(last) = last.moved_to(rt, alloc, leaf, &begun)? else {
             return Ok(None);
         };
         levels.push(last)?;
         let trees = KeptTrees { key, at: g, levels };
-        Ok(Some(trees.completed(rt, alloc, progress)?))
+        Ok(Some(trees.completed(rt, alloc, &begun)?))
     }
 
     /// The signature of a message by index g, which must be served, under the randomizer `c` (RFC 8554, 6.2), where it is accepted under
@@ -212,7 +212,7 @@ impl KeptTrees {
         alloc: Global,
         key: HssKey,
         at: u64,
-        progress: &impl Progress,
+        begun: &Begun<impl Progress>,
     ) -> Result<Self, OutOfMemory>
         requires { at < capacity_of (hss_key_of key) }
         ensures key { IfOk result (λ trees. trees.key ≡ key) }
@@ -221,7 +221,7 @@ impl KeptTrees {
         ensures way { IfOk result IsWay }
         ensures genuine { IfOk result AreGenuine }
     {
-        let level = KeptLevel::top(rt, alloc, key.tree_key(at, 0), key.place(at, 0), progress)?;
+        let level = KeptLevel::top(rt, alloc, key.tree_key(at, 0), key.place(at, 0), begun)?;
         let mut levels = Vec::new(alloc);
         levels.push(level)?;
         Ok(KeptTrees { key, at, levels })
@@ -232,7 +232,7 @@ impl KeptTrees {
         self,
         rt: &(impl Threads + Sync),
         alloc: Global,
-        progress: &impl Progress,
+        begun: &Begun<impl Progress>,
     ) -> Result<Self, OutOfMemory>
         ensures key { IfOk result (λ trees. trees.key ≡ self.key) }
         ensures at { IfOk result (λ trees. trees.at ≡ self.at) }
@@ -255,7 +255,7 @@ impl KeptTrees {
                 key.place(at, k - 1),
                 key.tree_key(at, k),
                 key.place(at, k),
-                progress,
+                begun,
             )?;
             levels.push(child)?;
         }

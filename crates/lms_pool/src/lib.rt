@@ -20,3 +20,4 @@ pub use crate::finish::{MissingSeats, Tally};
 pub use crate::pass::{Ended, IndexPass};
 pub use crate::pool::IndexPool;
 pub use crate::seat::DrawSeat;
+pub use lms_params::OutOfMemory;

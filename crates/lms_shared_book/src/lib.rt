@@ -12,3 +12,4 @@ pub use crate::desk::Desk;
 pub use crate::missing::MissingDesks;
 pub use crate::shared::SharedBook;
 pub use crate::tally::{Blanks, Tally};
+pub use lms_params::OutOfMemory;

@@ -18,3 +18,4 @@ mod writes;
 
 pub use crate::file_store::FileStore;
 pub use crate::locking::{StateLock, TryLock, lock};
+pub use lms_params::OutOfMemory;

@@ -8,7 +8,7 @@ ghost use Rattle.lms_tree.specs.Kept.{AreNodes, HasShape, ServesLeaf, upper_rows
 use crate::band::{Band, Rows};
 use crate::kept_tree::KeptTree;
 use crate::node_source::NodeSource;
-use crate::progress::{Progress, Unwatched};
+use crate::progress::{Begun, Progress, Unwatched};
 use crate::tree_key::TreeKey;
 use lms_params::{LmsType, OutOfMemory};
 use std::alloc::Global;
@@ -56,18 +56,17 @@ impl BandTree {
         requires at_most { last - first < most_served }
         ensures { IfOk result (λ tree. tree ≡ record { key = key; first = first; last = last }) }
     {
-        BandTree::build_watched(rt, alloc, key, first, last, &Unwatched)
+        BandTree::build_watched(rt, alloc, key, first, last, &Begun::new(&Unwatched, 0))
     }
 
-    /// The same, and tells `progress` of the leaves that are worked out, 2^h in all. Who calls it says how many are to be worked
-    /// out.
+    /// The same, and tells who heard of the beginning of the leaves that are worked out, 2^h in all.
     pub fn build_watched(
         rt: &(impl Threads + Sync),
         alloc: Global,
         key: TreeKey,
         first: u32,
         last: u32,
-        progress: &impl Progress,
+        begun: &Begun<impl Progress>,
     ) -> Result<Self, OutOfMemory>
         requires order { first ≤ last }
         requires in_tree { last < 2 ^ (tree_of key).lms.h }
@@ -78,6 +77,7 @@ impl BandTree {
         let upper_rows = upper_rows(key.lms);
         let lower_room = lower_rows.room(alloc)?;
         let upper_room = upper_rows.room(alloc)?;
+        let progress = begun.progress();
         let lower = Band::build(rt, key, lower_rows, lower_room, None, progress);
         let upper = Band::build(rt, key, upper_rows, upper_room, Some(&lower), progress);
         Ok(BandTree {

@@ -12,7 +12,7 @@ ghost use Rattle.lms_tree.specs.Served.{IsNeeded};
 use crate::band::{Band, Rows, node_in};
 use crate::band_tree::{bottom_height, upper_rows};
 use crate::nodes::leaf_count;
-use crate::progress::Progress;
+use crate::progress::{Begun, Progress};
 use crate::signing::{public_key_bytes, sibling, write_head};
 use crate::tree_key::TreeKey;
 use lms_params::{LmsType, OutOfMemory};
@@ -126,14 +126,14 @@ impl KeptTree {
         self.write_path(q, &mut out[path_start..]);
     }
 
-    /// Goes on to the leaves of another bottom subtree, which is worked out, and tells `progress` of its leaves, 2^10 in a tree of height
-    /// 10 or more. Who calls it says how many are to be worked out. `None` where its root isn't the node that was given for it.
+    /// Goes on to the leaves of another bottom subtree, which is worked out, and tells who heard of the beginning of its leaves, 2^10
+    /// in a tree of height 10 or more. `None` where its root isn't the node that was given for it.
     pub fn moved_to(
         self,
         rt: &(impl Threads + Sync),
         alloc: Global,
         subtree: u32,
-        progress: &impl Progress,
+        begun: &Begun<impl Progress>,
     ) -> Result<Option<Self>, OutOfMemory>
         requires { subtree < 2 ^ upper_height (tree_of self.key).lms.h }
         ensures moved { IfOk result (λ moved. IfSome moved (MovesTo self subtree)) }
@@ -148,7 +148,7 @@ impl KeptTree {
         } = self;
         let rows = subtree_rows(key.lms, subtree);
         let room = rows.room(alloc)?;
-        let band = Band::build(rt, key, rows, room, None, progress);
+        let band = Band::build(rt, key, rows, room, None, begun.progress());
         if !has_root(&upper, subtree, &band) {
             return Ok(None);
         }

@@ -11,6 +11,25 @@ pub trait Progress: Sync {
     fn done(&self, leaves: u64);
 }
 
+/// A call that told how many leaves it is to work out. What works out leaves tells of them by this alone, so none is told of before.
+#[derive(Drop)]
+pub struct Begun<'a, P> {
+    progress: &'a P,
+}
+
+impl<'a, P: Progress> Begun<'a, P> {
+    /// Tells `progress` that so many leaves are to be worked out.
+    pub fn new(progress: &'a P, leaves: u64) -> Self {
+        progress.begin(leaves);
+        Begun { progress }
+    }
+
+    /// Who is told of the leaves.
+    pub(crate) fn progress(&self) -> &'a P {
+        self.progress
+    }
+}
+
 /// Tells nobody.
 #[derive(Clone, Copy)]
 pub struct Unwatched;

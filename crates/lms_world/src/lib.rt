@@ -16,3 +16,4 @@ pub use crate::log::Log;
 pub use crate::memory::{MemoryContents, MemoryLock, MemoryWorld};
 pub use crate::printer::Printer;
 pub use crate::world::{World, WorldFault};
+pub use lms_params::OutOfMemory;

@@ -336,14 +336,25 @@ fn batches_at_once(rt: HostRuntime) -> Result<(), Fail> {
     Ok(())
 }
 
-/// 1024 jobs are signed by 64 workers.
+/// Whether so many workers sign as many jobs as the key has indices.
+fn all_are_signed(
+    rt: &(impl AllocGlobal + Threads + Wait + Sync),
+    jobs: &[Job],
+    workers: usize,
+) -> Result<bool, Fail> {
+    let outcome = signed_from(rt, 0, jobs, &[1024], workers)?;
+    let public = public_key(rt, outcome.key)?;
+    let is_valid = outcome.start_of(0, &public, jobs) == Some(0);
+    Ok(is_valid && outcome.has_ended(&[Entry::Given { len: 1024 }], 1024))
+}
+
+/// 1024 jobs are signed by 64 workers, and by one, which has all the receipts.
 #[test]
-fn all_indices_are_signed_by_as_many_workers_as_may_be(rt: HostRuntime) -> Result<(), Fail> {
+fn all_indices_are_signed_by_most_workers_and_by_one(rt: HostRuntime) -> Result<(), Fail> {
     let jobs = jobs_of(rt.alloc(), 1024)?;
-    let outcome = signed_from(&rt, 0, &jobs, &[1024], 64)?;
-    let public = public_key(&rt, outcome.key)?;
-    assert!(rt; outcome.start_of(0, &public, &jobs) == Some(0));
-    assert!(rt; outcome.has_ended(&[Entry::Given { len: 1024 }], 1024));
+    for workers in [64, 1] {
+        assert!(rt; all_are_signed(&rt, &jobs, workers)?, "{workers}");
+    }
     Ok(())
 }
 

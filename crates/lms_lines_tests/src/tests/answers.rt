@@ -3,6 +3,7 @@ use crate::tests::sink_of;
 use lms_batch::Batch;
 use lms_lines::{WriteFault, count_signatures, write_batch};
 use std::alloc::Global;
+use std::io::{self, Write};
 use std::test::Fail;
 
 /// A batch of three signatures.
@@ -89,6 +90,52 @@ fn a_failed_writer_has_a_beginning(rt: HostRuntime) -> Result<(), Fail> {
         for writes in 0..30 {
             assert!(rt; writes_a_beginning(alloc, writes, fails)?, "{writes}");
         }
+    }
+    Ok(())
+}
+
+/// Takes a byte a write, but that one write fails, once it has so many bytes.
+#[derive(Drop)]
+struct FailsOnce {
+    taken: Vec<u8>,
+    before: usize,
+    has_failed: bool,
+}
+
+impl Write for FailsOnce {
+    fn write(&mut self, buf: &[u8]) -> io::Result<usize> {
+        if self.taken.len() == self.before && !self.has_failed {
+            self.has_failed = true;
+            return Err(io::Error::from(io::ErrorKind::Other));
+        }
+        let count = buf.len().min(1);
+        self.taken.extend_from_slice(&buf[..count])?;
+        Ok(count)
+    }
+
+    fn flush(&mut self) -> io::Result<()> {
+        Ok(())
+    }
+}
+
+/// Whether nothing more is written after a write that fails, though the writer would take it.
+fn ends_with_a_failed_write(alloc: Global, batch: &Batch, before: usize) -> bool {
+    let mut writer = FailsOnce {
+        taken: Vec::new(alloc),
+        before,
+        has_failed: false,
+    };
+    write_batch(&mut writer, batch) == Err(WriteFault) && writer.taken.len() == before
+}
+
+#[test]
+fn a_failed_write_is_not_tried_again(rt: HostRuntime) -> Result<(), Fail> {
+    let batch = batch(rt.alloc())?;
+    for before in 0..17 {
+        assert!(rt;
+            ends_with_a_failed_write(rt.alloc(), &batch, before),
+            "{before}"
+        );
     }
     Ok(())
 }

@@ -1,6 +1,6 @@
 //! `batch`: job lines signed by the whole program.
 use super::states::{is_with, keyed};
-use super::words::{CHEAP, TWO, keygen};
+use super::words::{CHEAP, ONE, TWO, keygen};
 use super::{Ended, VERIFY, says, text_of};
 use lms_program::run::run;
 use lms_world::{Log, MemoryWorld, Printer, World};
@@ -142,6 +142,27 @@ const EMPTY: &str = "00000000000000000000000000000000000000000000000000000000000
 /// The same, and a line whose randomizer has a digit less.
 const BAD: &str = "0000000000000000000000000000000000000000000000000000000000000000 \n\
     000000000000000000000000000000000000000000000000000000000000000 ";
+
+/// Whether a batch of a line with an empty message by the key of 5/8 has this one answer, of index 5.
+fn signs_no_bytes(rt: &(impl Threads + Wait + AllocGlobal + Sync)) -> Result<bool, Fail> {
+    let mut world = keyed(rt.alloc(), &ONE, 5)?;
+    let end = end_of_batch(rt, &mut world, "1", EMPTY);
+    let mut files = MemoryWorld::new(rt.alloc());
+    let is_made = says(rt, &keygen("5/8"), &mut files, 0, "capacity 32\n");
+    let mut lines = end.output().lines();
+    let is_signed = match lines.next() {
+        Some(line) => is_answer(rt, &mut files, line, "5", b"")?,
+        None => false,
+    };
+    Ok(end.status == 0 && is_made && is_signed && lines.next().is_none())
+}
+
+/// 64 digits and a space are a job, whose message is empty.
+#[test]
+fn signs_the_empty_message(rt: HostRuntime) -> Result<(), Fail> {
+    assert!(rt; signs_no_bytes(&rt)?);
+    Ok(())
+}
 
 /// Whether a batch of these lines, from a state with nothing used, ends with this status and these errors, answers so many lines
 /// and uses as many indices.

@@ -2,7 +2,7 @@
 use super::batch::{FOUR_LINES, TWO_LINES, batch, end_of_batch, end_of_batch_to};
 use super::states::{image_of, is_with, keyed, store_at, store_of};
 use super::words::{CHEAP, ONE, TWO};
-use super::{Closed, Ended, Stuck};
+use super::{Closed, Ended, Stuck, text_of};
 use lms_book::{Left, MemoryStore};
 use lms_commands::Status;
 use lms_program::run::run;
@@ -220,13 +220,14 @@ fn uses(end: &Ended) -> Option<(u64, usize)> {
     }
 }
 
-/// How many answer lines of 5/2 a text has, or `None` where one is not whole. An index has one digit or two.
-fn answers_in(text: &str) -> Option<usize> {
-    let mut is_whole = text.is_empty() || text.ends_with("\n");
+/// How many answer lines a text has, or `None` where it is not some of these lines, in their order.
+fn answers_in(text: &str, expected: &str) -> Option<usize> {
+    let mut is_right = text.is_empty() || text.ends_with("\n");
+    let mut rest = expected.lines();
     for line in text.lines() {
-        is_whole = is_whole && (line.len() == 8930 || line.len() == 8931);
+        is_right = is_right && rest.any(|other| other == line);
     }
-    if is_whole {
+    if is_right {
         Some(text.lines().count())
     } else {
         None
@@ -244,14 +245,45 @@ fn used(world: &MemoryWorld) -> Result<u64, Fail> {
     Err(Fail::from("the state is the key's"))
 }
 
-/// Whether a batch that ended so used as many indices as it says, from so many used to so many, and printed its lines.
-fn is_true(end: &Ended, before: u64, after: u64) -> bool {
+/// Whether a batch that ended so used as many indices as it says, from so many used to so many, and printed its lines, which are some of
+/// the answers from its first index on.
+fn is_true(end: &Ended, answers: &[Vec<u8>; 2], before: u64, after: u64) -> bool {
+    let [first, second] = answers;
+    let expected = if before == 0 { first } else { second };
     match uses(end) {
         Some((indices, printed)) => {
-            after.checked_sub(before) == Some(indices) && answers_in(end.output()) == Some(printed)
+            after.checked_sub(before) == Some(indices)
+                && answers_in(end.output(), text_of(expected)) == Some(printed)
         }
         None => false,
     }
+}
+
+/// What a batch of the four jobs prints, or `None` where it was refused memory.
+fn four_answers(
+    rt: &(impl Threads + Wait + AllocGlobal + Sync),
+    world: &mut MemoryWorld,
+) -> Result<Option<Vec<u8>>, Fail> {
+    let end = end_of_batch_to(rt, world, "1", FOUR_LINES, roomy(rt.alloc())?);
+    Ok(if end.status == 0 {
+        Some(end.output)
+    } else {
+        None
+    })
+}
+
+/// The answers to the four jobs by indices 5 to 8, and by 9 to 12, or `None` where memory was refused.
+fn eight_answers(
+    rt: &(impl Threads + Wait + AllocGlobal + Sync),
+) -> Result<Option<[Vec<u8>; 2]>, Fail> {
+    let mut world = world_at_last(rt.alloc())?;
+    let Some(first) = four_answers(rt, &mut world)? else {
+        return Ok(None);
+    };
+    let Some(second) = four_answers(rt, &mut world)? else {
+        return Ok(None);
+    };
+    Ok(Some([first, second]))
 }
 
 /// An empty list with room for four answer lines, made at the first or at the second try. So writing them takes no memory.
@@ -282,6 +314,10 @@ fn world_at_last(alloc: Global) -> Result<MemoryWorld, Fail> {
 /// `tests/refused lms_tool_tests tests::batch_faults::a_batch_says_what_it_used` refuses each request in turn.
 #[test]
 fn a_batch_says_what_it_used(rt: HostRuntime) -> Result<(), Fail> {
+    let answers = match eight_answers(&rt)? {
+        Some(answers) => answers,
+        None => eight_answers(&rt)?.ok_or("a second try")?,
+    };
     let mut world = world_at_last(rt.alloc())?;
     let output = roomy(rt.alloc())?;
     let first = end_of_batch_to(&rt, &mut world, "4", FOUR_LINES, output);
@@ -289,8 +325,8 @@ fn a_batch_says_what_it_used(rt: HostRuntime) -> Result<(), Fail> {
     let output = roomy(rt.alloc())?;
     let second = end_of_batch_to(&rt, &mut world, "4", FOUR_LINES, output);
     let after = used(&world)?;
-    assert!(rt; is_true(&first, 0, between));
-    assert!(rt; is_true(&second, between, after));
+    assert!(rt; is_true(&first, &answers, 0, between));
+    assert!(rt; is_true(&second, &answers, between, after));
     assert!(rt; first.status == 0 || second.status == 0);
     Ok(())
 }

@@ -9,7 +9,7 @@ use lms_world::{Log, MemoryWorld, Printer, World};
 use std::fmt::Display;
 use std::io;
 use std::io::{Print, Write};
-use std::sync::atomic::{AtomicU64, Ordering};
+use std::sync::atomic::{AtomicBool, AtomicU64, Ordering};
 use std::sync::{Mutex, Wait};
 use std::test::Fail;
 use std::thread::Threads;
@@ -128,11 +128,12 @@ fn on_a_terminal_a_line_goes_before_others_come(rt: HostRuntime) -> Result<(), F
     Ok(())
 }
 
-/// Adds up what it is told.
+/// Adds up what it is told, and keeps whether it was told of more leaves than were to be worked out by then.
 #[derive(Drop)]
 struct Sums {
     to_do: AtomicU64,
     done: AtomicU64,
+    is_early: AtomicBool,
 }
 
 impl Progress for Sums {
@@ -141,11 +142,17 @@ impl Progress for Sums {
     }
 
     fn done(&self, leaves: u64) {
-        self.done.fetch_add(leaves, Ordering::SeqCst);
+        let done = self
+            .done
+            .fetch_add(leaves, Ordering::SeqCst)
+            .saturating_add(leaves);
+        if done > self.to_do.load(Ordering::SeqCst) {
+            self.is_early.store(true, Ordering::SeqCst);
+        }
     }
 }
 
-/// Whether a run is done, and tells that it is to work out so many leaves, and of each.
+/// Whether a run is done, and tells that it is to work out so many leaves, and then of each.
 pub(super) fn tells_of(
     rt: &(impl Threads + Wait + AllocGlobal + Sync),
     words: &[&str],
@@ -156,6 +163,7 @@ pub(super) fn tells_of(
     let sums = Sums {
         to_do: AtomicU64::new(0),
         done: AtomicU64::new(0),
+        is_early: AtomicBool::new(false),
     };
     let mut rest = input;
     let mut output = Vec::new(rt.alloc());
@@ -174,6 +182,7 @@ pub(super) fn tells_of(
     status.code() == 0
         && sums.to_do.load(Ordering::SeqCst) == leaves
         && sums.done.load(Ordering::SeqCst) == leaves
+        && !sums.is_early.load(Ordering::SeqCst)
 }
 
 #[test]

@@ -3,14 +3,14 @@ ghost use Rattle.std.specs.Prelude.{◌^◌, ◌<◌, IsTrue};
 ghost use Rattle.lms_tree.specs.Kept.{upper_height};
 ghost use Rattle.lms_tree.specs.TreeKey.{tree_of};
 
+use super::progress::Sums;
 use crate::tests::{RANDOMIZER, band, key_of, signature};
 use lms_params::{LmsType, OtsType, OutOfMemory, lms_sig_len};
 use lms_tree::{
-    BandTree, KeptTree, Progress, TreeKey, Unwatched, WholeTree, bottom_height, public_bytes,
+    BandTree, Begun, KeptTree, Progress, TreeKey, Unwatched, WholeTree, bottom_height, public_bytes,
 };
 use std::alloc::AllocError;
 use std::process::Abort;
-use std::sync::atomic::{AtomicU64, Ordering};
 use std::test::Fail;
 use std::thread::Threads;
 
@@ -62,10 +62,10 @@ fn moved(
     rt: &(impl Abort + AllocGlobal + Threads + Sync),
     tree: KeptTree,
     subtree: u32,
-    progress: &impl Progress,
+    begun: &Begun<impl Progress>,
 ) -> Result<Option<KeptTree>, Fail> {
     assert!(rt; has_subtree(tree.key(), subtree));
-    Ok(tree.moved_to(rt, rt.alloc(), subtree, progress)?)
+    Ok(tree.moved_to(rt, rt.alloc(), subtree, begun)?)
 }
 
 /// The same nodes, given, with the lowest bit of one byte of node `upper` and of node `lower` of the two lists changed, where there is such a
@@ -103,9 +103,10 @@ fn signs_in_each_subtree(rt: HostRuntime) -> Result<(), Fail> {
     assert!(rt; first.public_bytes() == public_bytes(&whole));
     check_leaf(&rt, &whole, &first, 0)?;
     check_leaf(&rt, &whole, &first, 1023)?;
-    let next = moved(&rt, first, 1, &Unwatched)?.ok_or("a subtree beside it")?;
+    let begun = Begun::new(&Unwatched, 2048);
+    let next = moved(&rt, first, 1, &begun)?.ok_or("a subtree beside it")?;
     check_leaf(&rt, &whole, &next, 1024)?;
-    let last = moved(&rt, next, 31, &Unwatched)?.ok_or("the last subtree")?;
+    let last = moved(&rt, next, 31, &begun)?.ok_or("the last subtree")?;
     check_leaf(&rt, &whole, &last, 32767)?;
     assert!(rt; last.public_bytes() == public_bytes(&whole));
     Ok(())
@@ -151,34 +152,19 @@ fn refuses_another_number_of_nodes(rt: HostRuntime) -> Result<(), Fail> {
     Ok(())
 }
 
-/// Adds up the leaves of which it is told.
-#[derive(Drop)]
-struct Sum {
-    done: AtomicU64,
-}
-
-impl Progress for Sum {
-    fn begin(&self, _leaves: u64) {}
-
-    fn done(&self, leaves: u64) {
-        self.done.fetch_add(leaves, Ordering::SeqCst);
-    }
-}
-
 /// Only the root of the bottom subtree to which it moves is looked at; each leaf of that subtree is told of once.
 #[test]
 fn moves_on_where_the_root_is_right(rt: HostRuntime) -> Result<(), Fail> {
-    let sum = Sum {
-        done: AtomicU64::new(0),
-    };
+    let sums = Sums::new();
+    let begun = Begun::new(&sums, 2048);
     let tree = kept(&rt, key_of(LmsType::H15, OtsType::W1), 0)?;
     // Nodes 32 to 63 are the roots of the 32 bottom subtrees, and node r stands at place r - 1.
     let other_root = given(&rt, &tree, 31 + 2, NONE)?.ok_or("as many nodes")?;
-    assert!(rt; moved(&rt, other_root, 2, &sum)?.is_none());
-    assert_eq!(rt; sum.done.load(Ordering::SeqCst), 1024);
+    assert!(rt; moved(&rt, other_root, 2, &begun)?.is_none());
+    assert!(rt; sums.are(2048, 1024));
     let beside = given(&rt, &tree, 31 + 3, 7)?.ok_or("as many nodes")?;
-    let there = moved(&rt, beside, 2, &sum)?.ok_or("the root is right")?;
-    assert_eq!(rt; sum.done.load(Ordering::SeqCst), 2048);
+    let there = moved(&rt, beside, 2, &begun)?.ok_or("the root is right")?;
+    assert!(rt; sums.are(2048, 2048));
     assert!(rt; there.subtree() == 2 && there.key() == tree.key());
     let right = kept(&rt, tree.key(), 2048)?;
     assert!(rt; there.lower() == right.lower());
@@ -195,12 +181,17 @@ fn moves_after_refused_memory(rt: HostRuntime) -> Result<(), Fail> {
         Ok(tree) => tree,
         Err(OutOfMemory) => BandTree::build(&rt, rt.alloc(), key, 0, 0)?,
     };
-    let there = match tree.into_kept().moved_to(&rt, rt.alloc(), 1, &Unwatched) {
+    let sums = Sums::new();
+    let begun = Begun::new(&sums, 1024);
+    let there = match tree.into_kept().moved_to(&rt, rt.alloc(), 1, &begun) {
         Ok(there) => there,
-        Err(OutOfMemory) => BandTree::build(&rt, rt.alloc(), key, 0, 0)?
-            .into_kept()
-            .moved_to(&rt, rt.alloc(), 1, &Unwatched)?,
+        Err(OutOfMemory) => {
+            assert!(rt; sums.are(1024, 0));
+            let again = BandTree::build(&rt, rt.alloc(), key, 0, 0)?;
+            again.into_kept().moved_to(&rt, rt.alloc(), 1, &begun)?
+        }
     };
+    assert!(rt; sums.are(1024, 1024));
     assert!(rt; there.is_some_and(|there| there.subtree() == 1));
     Ok(())
 }

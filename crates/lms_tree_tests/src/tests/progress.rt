@@ -1,39 +1,75 @@
 //! What a build tells of the leaves that it works out.
+use super::key_of;
 use lms_params::{LmsType, OtsType};
-use lms_tree::{BandTree, Progress, TreeKey};
+use lms_tree::{BandTree, Begun, OutOfMemory, Progress};
+use std::process::Abort;
 use std::sync::atomic::{AtomicU64, Ordering};
 use std::test::Fail;
+use std::thread::Threads;
 
-/// Adds up the leaves of which it is told.
+/// Adds up the leaves that are to be worked out, and those that are.
 #[derive(Drop)]
-struct Sum {
+pub(super) struct Sums {
+    to_do: AtomicU64,
     done: AtomicU64,
 }
 
-impl Progress for Sum {
-    fn begin(&self, _leaves: u64) {}
+impl Sums {
+    pub(super) fn new() -> Self {
+        Sums {
+            to_do: AtomicU64::new(0),
+            done: AtomicU64::new(0),
+        }
+    }
+
+    /// Whether so many leaves were to be worked out, and so many were.
+    pub(super) fn are(&self, to_do: u64, done: u64) -> bool {
+        self.to_do.load(Ordering::SeqCst) == to_do && self.done.load(Ordering::SeqCst) == done
+    }
+}
+
+impl Progress for Sums {
+    fn begin(&self, leaves: u64) {
+        self.to_do.fetch_add(leaves, Ordering::SeqCst);
+    }
 
     fn done(&self, leaves: u64) {
         self.done.fetch_add(leaves, Ordering::SeqCst);
     }
 }
 
+/// What serves these leaves of a tree of this height.
+fn built(
+    rt: &(impl Abort + AllocGlobal + Threads + Sync),
+    lms: LmsType,
+    first: u32,
+    last: u32,
+    begun: &Begun<Sums>,
+) -> Result<BandTree, OutOfMemory> {
+    let key = key_of(lms, OtsType::W1);
+    assert!(rt; first <= last && last < 1 << key.lms.height() && last - first < 1024);
+    BandTree::build_watched(rt, rt.alloc(), key, first, last, begun)
+}
+
 /// One bottom subtree, and two neighbours of 32.
 #[test]
 fn each_leaf_is_told_once(rt: HostRuntime) -> Result<(), Fail> {
     for (lms, first, last, leaves) in [(LmsType::H5, 3, 7, 32), (LmsType::H15, 1023, 1024, 32768)] {
-        let key = TreeKey {
-            lms,
-            ots: OtsType::W1,
-            i: [0x22; 16],
-            seed: [0x11; 32],
-        };
-        let sum = Sum {
-            done: AtomicU64::new(0),
-        };
-        let tree = BandTree::build_watched(&rt, rt.alloc(), key, first, last, &sum)?;
-        drop(tree);
-        assert_eq!(rt; sum.done.load(Ordering::SeqCst), leaves);
+        let sums = Sums::new();
+        let begun = Begun::new(&sums, leaves);
+        assert!(rt; sums.are(leaves, 0));
+        drop(built(&rt, lms, first, last, &begun)?);
+        assert!(rt; sums.are(leaves, leaves));
     }
     Ok(())
+}
+
+/// All memory is asked for before the first leaf. `rt test` refuses none, and `tests/refused` each request of a test in turn.
+#[test]
+fn no_leaf_is_worked_out_where_memory_is_refused(rt: HostRuntime) {
+    let sums = Sums::new();
+    match built(&rt, LmsType::H5, 3, 9, &Begun::new(&sums, 32)) {
+        Ok(_) => assert!(rt; sums.are(32, 32)),
+        Err(OutOfMemory) => assert!(rt; sums.are(32, 0)),
+    }
 }
