@@ -1,9 +1,10 @@
-"""A signer by hashlib, after docs/PROFILE.md, from whole trees, and what `tests/states`, `tests/nodes` and `tests/power_cuts` share, which hold
+"""A signer by hashlib, after docs/PROFILE.md, from whole trees, and what `tests/states`, `tests/locks`, `tests/nodes` and `tests/power_cuts` share, which hold
 the program against it. Each of their tests has a folder of its own with a message, is printed, and counts as one; the last line is `N passed, M failed`.
 The program is built first where there is none. A test that can't be run here is skipped, and is counted neither as passed nor as failed.
 They want Python 3.9 or later. Run by root, they run the program as another user where that one is to be refused something."""
 
 import copy
+import fcntl
 import functools
 import hashlib
 import os
@@ -23,6 +24,7 @@ HEIGHTS = {5: 5, 10: 6, 15: 7, 20: 8, 25: 9}
 SUBTREE = 10
 NODES, DRAFT = "key.state.nodes", "key.state.nodes.new"
 INFO = ["info", "--state", "key.state"]
+BATCH = ["batch", "--state", "key.state", "--workers", "2"]
 VERIFY = ["verify", "--public", "key.pub", "--message", "text", "--signature", "text.sig"]
 # The tests of a script, in its order.
 TESTS = []
@@ -241,6 +243,26 @@ def keeps(levels, at, held=None):
     has(NODES, kept(levels, at, held))
     holds(os.lstat(NODES).st_mode == stat.S_IFREG | 0o600, "the nodes are in no plain file for their owner alone")
     holds(not os.path.lexists(DRAFT), "a draft of the nodes is left")
+
+
+class Lock:
+    """The lock on the state, as another program has it."""
+
+    def __enter__(self):
+        self.file = open("key.state.lock", "wb")
+        fcntl.flock(self.file, fcntl.LOCK_EX | fcntl.LOCK_NB)
+
+    def __exit__(self, *_):
+        self.file.close()
+
+
+def is_lock_free():
+    """Whether the lock on the state is got. It is let go at once."""
+    try:
+        with Lock():
+            return True
+    except BlockingIOError:
+        return False
 
 
 def as_who_may_not():

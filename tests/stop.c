@@ -1,7 +1,8 @@
 /* Loaded before a program, counts its operations on files and streams, from 1 on. That of the number STOP kills it: before
    it is done, or, where it writes, once half of the bytes are written. Those of the numbers from FAIL to LAST fail: undone, but
    for half of a write, or, where LATE is set, done all the same. Where there is an operation of the number STOP or FAIL, the file MET
-   is made. */
+   is made. What a program looks up of its machine in /sys is not there, and no operation, since only some machines have it: so
+   the program sees no quota of processors. */
 #define _GNU_SOURCE
 #include <dlfcn.h>
 #include <errno.h>
@@ -9,6 +10,7 @@
 #include <signal.h>
 #include <stdarg.h>
 #include <stdlib.h>
+#include <string.h>
 #include <sys/stat.h>
 #include <sys/syscall.h>
 #include <unistd.h>
@@ -67,6 +69,10 @@ int open(const char *path, int flags, ...) {
         va_start(rest, flags);
         mode = va_arg(rest, int);
         va_end(rest);
+    }
+    if (!strncmp(path, "/sys/", 5)) {
+        errno = ENOENT;
+        return -1;
     }
     ANSWER(next(path, flags, mode));
 }

@@ -1,4 +1,4 @@
-"""A model of a weak file system, by which `power_cuts` loses power: what it may leave of files and names that were not flushed."""
+"""A model of a weak file system, by which `power_cuts` and `lives` lose power: what it may leave of files and names that were not flushed."""
 
 import itertools
 import math
@@ -6,7 +6,7 @@ import os
 import random
 import stat
 
-from signer import holds
+from signer import holds, put
 
 # The most states that are taken of a moment, and of a file.
 MOST_STATES = 4000
@@ -53,18 +53,23 @@ class File:
     def flush(self):
         self.flushed, self.changes = self.text, []
 
+    def fates(self):
+        """What may become of each change."""
+        return [["lost", "whole"] if at is None else [*FATES] for at, _, _ in self.changes]
+
+    def left(self, fates):
+        """What a loss of power leaves where this becomes of the changes, and what is lost."""
+        text = self.flushed
+        for (at, part, _), fate in zip(self.changes, fates):
+            if at is not None:
+                text = laid(text, at, FATES[fate](part))
+            elif fate == "whole":
+                text = b""
+        return text, [f"{what} ({fate})" for (_, _, what), fate in zip(self.changes, fates) if fate != "whole"]
+
     def texts(self):
         """What a loss of power may leave, each text once with what is lost, from where all is lost to where nothing is."""
-        found = {}
-        for fates in some([["lost", "whole"] if at is None else [*FATES] for at, _, _ in self.changes], MOST_STATES):
-            text = self.flushed
-            for (at, part, _), fate in zip(self.changes, fates):
-                if at is not None:
-                    text = laid(text, at, FATES[fate](part))
-                elif fate == "whole":
-                    text = b""
-            found[text] = [f"{what} ({fate})" for (_, _, what), fate in zip(self.changes, fates) if fate != "whole"]
-        return list(found.items())
+        return list(dict(self.left(fates) for fates in some(self.fates(), MOST_STATES)).items())
 
 
 def differs_by(left, state):
@@ -74,6 +79,31 @@ def differs_by(left, state):
         if name.startswith(state):
             first.setdefault(left[name][0], name)
     return tuple((name, first[left[name][0]], left[name][1]) for name in sorted(left) if name.startswith(state))
+
+
+def fault_of(text, before, after, has_left):
+    """What is wrong with a state of these bytes, if anything, where these were its bytes before a run and after it: a word for it, and
+    what it is."""
+    if text == before and has_left:
+        return "older", f"{'the old state' if text else 'no state'}, and bytes were given away"
+    if text in (before, after):
+        return None
+    if text is None:
+        return "gone", "no state"
+    return "torn", f"{len(text)} bytes that are neither state: {text[:20].hex()}{'..' if text[20:] else ''}"
+
+
+def lay(folder, files):
+    """Puts files into a folder. Those with one number are one file."""
+    first = {}
+    for name, (number, text) in files.items():
+        path = f"{folder}/{name}"
+        os.makedirs(os.path.dirname(path), exist_ok=True)
+        if number in first:
+            os.link(first[number], path)
+        else:
+            put(path, text)
+        first.setdefault(number, path)
 
 
 def found_in(folder):
@@ -193,6 +223,14 @@ class Disk:
                 left = {name: (id(file), text_of.get(file, file.text)) for name, file in files.items()}
                 yield left, (choice, [lost for _, lost in picked])
 
+    def loss(self, dice):
+        """One of the losses at random."""
+        choice = [(name, dice.randrange(len(led))) for name, led in self.names.items()]
+        files = {name: self.names[name][at][0] for name, at in choice if self.names[name][at][0]}
+        texts = {file: file.left([dice.choice(it) for it in file.fates()]) for file in dict.fromkeys(files.values())}
+        left = {name: (id(file), texts[file][0]) for name, file in files.items()}
+        return left, (choice, [lost for _, lost in texts.values()])
+
     def said(self, lost):
         """What is lost, in words."""
         choice, parts = lost
@@ -201,10 +239,15 @@ class Disk:
 
 
 def operations(text):
-    """The operations of a record."""
+    """The operations of a record, but for one that was not written down whole, since the program was killed."""
     at = 0
-    while at < len(text):
-        end = text.index(b"\n", at)
+    while (end := text.find(b"\n", at)) >= 0:
         word, first, second, length = text[at:end].split()
         at = end + 1 + int(length)
-        yield word.decode(), int(first), int(second), text[end + 1 : at]
+        if at <= len(text):
+            yield word.decode(), int(first), int(second), text[end + 1 : at]
+
+
+def printed(done):
+    """What these operations wrote to standard output."""
+    return b"".join(text for word, file, _, text in done if (word, file) == ("write", 1))

@@ -3,7 +3,7 @@ use crate::tests::sink_of;
 use lms_batch::Batch;
 use lms_lines::{WriteFault, count_signatures, write_batch};
 use std::alloc::Global;
-use std::io::{self, Write};
+use std::io::{self, ErrorKind, Write};
 use std::test::Fail;
 
 /// A batch of three signatures.
@@ -94,11 +94,12 @@ fn a_failed_writer_has_a_beginning(rt: HostRuntime) -> Result<(), Fail> {
     Ok(())
 }
 
-/// Takes a byte a write, but that one write fails, once it has so many bytes.
+/// Takes a byte a write, but that one write fails so, once it has so many bytes.
 #[derive(Drop)]
 struct FailsOnce {
     taken: Vec<u8>,
     before: usize,
+    kind: ErrorKind,
     has_failed: bool,
 }
 
@@ -106,7 +107,7 @@ impl Write for FailsOnce {
     fn write(&mut self, buf: &[u8]) -> io::Result<usize> {
         if self.taken.len() == self.before && !self.has_failed {
             self.has_failed = true;
-            return Err(io::Error::from(io::ErrorKind::Other));
+            return Err(io::Error::from(self.kind));
         }
         let count = buf.len().min(1);
         self.taken.extend_from_slice(&buf[..count])?;
@@ -119,10 +120,11 @@ impl Write for FailsOnce {
 }
 
 /// Whether nothing more is written after a write that fails, though the writer would take it.
-fn ends_with_a_failed_write(alloc: Global, batch: &Batch, before: usize) -> bool {
+fn ends_with_a_failed_write(alloc: Global, batch: &Batch, before: usize, kind: ErrorKind) -> bool {
     let mut writer = FailsOnce {
         taken: Vec::new(alloc),
         before,
+        kind,
         has_failed: false,
     };
     write_batch(&mut writer, batch) == Err(WriteFault) && writer.taken.len() == before
@@ -131,11 +133,18 @@ fn ends_with_a_failed_write(alloc: Global, batch: &Batch, before: usize) -> bool
 #[test]
 fn a_failed_write_is_not_tried_again(rt: HostRuntime) -> Result<(), Fail> {
     let batch = batch(rt.alloc())?;
-    for before in 0..17 {
-        assert!(rt;
-            ends_with_a_failed_write(rt.alloc(), &batch, before),
-            "{before}"
-        );
+    for kind in [
+        ErrorKind::Other,
+        ErrorKind::WouldBlock,
+        ErrorKind::TimedOut,
+        ErrorKind::WriteZero,
+    ] {
+        for before in 0..17 {
+            assert!(rt;
+                ends_with_a_failed_write(rt.alloc(), &batch, before, kind),
+                "{before}"
+            );
+        }
     }
     Ok(())
 }
