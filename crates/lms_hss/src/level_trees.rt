@@ -36,8 +36,8 @@ impl LevelTrees {
         ensures { IfOk result (λ trees. HoldsLevel (hss_key_of key.now) 0 start last trees) }
     {
         let leaves = key.leaves(start, last, 0, 0);
-        let mut trees = Vec::new(alloc);
-        trees.push(SignedTree::top(rt, alloc, key, leaves, begun)?)?;
+        let mut trees = Vec::with_capacity(alloc, 1)?;
+        trees.push_reserved(SignedTree::top(rt, alloc, key, leaves, begun)?);
         Ok(LevelTrees { first: 0, trees })
     }
 
@@ -71,14 +71,13 @@ impl LevelTrees {
     {
         let sets = key.levels.as_slice()[k + 1];
         let first = key.tree_number(start, k + 1);
-        let mut trees = Vec::new(alloc);
-        for number in first..key.tree_number(last, k + 1) + 1 {
+        let end = key.tree_number(last, k + 1) + 1;
+        let mut trees = Vec::with_capacity(alloc, (end - first) as usize)?;
+        for number in first..end {
             let (parent, leaf) = key.parent(number, k);
             let leaves = key.leaves(start, last, k + 1, number);
-            trees.push(
-                self.tree(parent)
-                    .child(rt, alloc, leaf, sets, leaves, begun)?,
-            )?;
+            let parent = self.tree(parent);
+            trees.push_reserved(parent.child(rt, alloc, leaf, sets, leaves, begun)?);
         }
         Ok(LevelTrees { first, trees })
     }

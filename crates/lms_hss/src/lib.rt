@@ -20,4 +20,4 @@ pub use crate::levels::{KeyFault, Levels, MOST_LEVELS};
 pub use crate::text::LevelsText;
 pub use crate::verification::{LMS_KEY_LEN, Verifier, verify, verify_with};
 pub use lms_params::OutOfMemory;
-pub use lms_tree::{Begun, ByEights, ChainEnds, OneByOne, Progress, Unwatched};
+pub use lms_tree::{ByEights, ChainEnds, OneByOne, Progress, Unwatched};

@@ -120,11 +120,12 @@ impl KeptTrees {
             unreachable!()
         };
         let leaf = key.place(g, shared - 1);
+        levels.reserve(key.levels.as_slice().len() - levels.len())?;
         let begun = Begun::new(progress, last.leaves_to(leaf) + leaves_from(&key, shared));
         let Some(last) = last.moved_to(rt, alloc, leaf, &begun)? else {
             return Ok(None);
         };
-        levels.push(last)?;
+        levels.push_reserved(last);
         let trees = KeptTrees { key, at: g, levels };
         Ok(Some(trees.completed(rt, alloc, &begun)?))
     }
@@ -221,9 +222,9 @@ impl KeptTrees {
         ensures way { IfOk result IsWay }
         ensures genuine { IfOk result AreGenuine }
     {
-        let level = KeptLevel::top(rt, alloc, key.tree_key(at, 0), key.place(at, 0), begun)?;
-        let mut levels = Vec::new(alloc);
-        levels.push(level)?;
+        let mut levels = Vec::with_capacity(alloc, key.levels.as_slice().len())?;
+        let (tree, leaf) = (key.tree_key(at, 0), key.place(at, 0));
+        levels.push_reserved(KeptLevel::top(rt, alloc, tree, leaf, begun)?);
         Ok(KeptTrees { key, at, levels })
     }
 
@@ -248,7 +249,9 @@ impl KeptTrees {
             at,
             mut levels,
         } = self;
-        for k in levels.len()..key.levels.as_slice().len() {
+        let count = key.levels.as_slice().len();
+        levels.reserve(count - levels.len())?;
+        for k in levels.len()..count {
             let child = levels[k - 1].child(
                 rt,
                 alloc,
@@ -257,7 +260,7 @@ impl KeptTrees {
                 key.place(at, k),
                 begun,
             )?;
-            levels.push(child)?;
+            levels.push_reserved(child);
         }
         Ok(KeptTrees { key, at, levels })
     }

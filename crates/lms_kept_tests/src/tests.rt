@@ -286,6 +286,20 @@ fn tells_of_the_leaves_that_are_worked_out(rt: HostRuntime) -> Result<(), Fail> 
     Ok(())
 }
 
+/// All memory for a key of one level is asked for before the first leaf. `tests/refused` refuses each request of this test in turn.
+#[test]
+fn no_leaf_is_worked_out_where_memory_is_refused(rt: HostRuntime) -> Result<(), Fail> {
+    let key = key_of(&[QUICK])?;
+    assert!(rt; key.capacity() == 32);
+    let sums = no_sums();
+    let done = match KeptTrees::work_out(&rt, rt.alloc(), key, 3, &sums) {
+        Ok(_) => 32,
+        Err(OutOfMemory) => 0,
+    };
+    assert_eq!(rt; sums.done.load(Ordering::SeqCst), done);
+    Ok(())
+}
+
 /// `rt test` refuses no memory, and `tests/refused` each request of a test in turn: where a call is refused, a second one works.
 #[test]
 fn signs_after_refused_memory(rt: HostRuntime) -> Result<(), Fail> {

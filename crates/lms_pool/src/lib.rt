@@ -17,6 +17,7 @@ mod seat;
 mod stop;
 
 pub use crate::finish::{MissingSeats, Tally};
+pub use crate::history::Hand;
 pub use crate::pass::{Ended, IndexPass};
 pub use crate::pool::IndexPool;
 pub use crate::seat::DrawSeat;

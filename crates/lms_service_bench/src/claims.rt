@@ -4,29 +4,23 @@ ghost use Rattle.std.specs.Arc.{arc_value};
 ghost use Rattle.lms_pool.specs.Rule.{most_seats};
 
 use crate::book::book;
+use crate::pools::Pool;
 use crate::workers::Workers;
 use lms_book::{Book, Lease, MemoryStore};
 use lms_params::{LmsType, OtsType};
-use lms_pool::{DrawSeat, IndexPool};
 use lms_yardstick::{Fault, Hierarchy, clock};
 use std::alloc::Global;
 use std::array;
-use std::sync::Arc;
 use std::sync::atomic::{AtomicU64, AtomicUsize, Ordering};
+use std::sync::{Arc, Wait};
 use std::thread::{self, Threads};
 use std::time::{Clock, Duration};
 
 /// The key whose indices are leased.
 const LEASED: Hierarchy = Hierarchy(&[(LmsType::H10, OtsType::W8); 2]);
 
-/// How many pools are drawn dry.
-const POOLS: u64 = 512;
-
-/// How many places each of them has.
+/// How many places each pool has.
 const PLACES: u64 = 1024;
-
-/// How many places are claimed.
-pub const COUNT: u64 = POOLS * PLACES;
 
 /// How many words stand beside each other where one is added to: as many as a pool's table has. The middle one counts, so nothing
 /// else stands on its cache lines.
@@ -34,58 +28,63 @@ const WORDS: usize = 32;
 
 /// A pool, and a seat of it.
 #[derive(Drop)]
-struct Caller {
-    pool: Arc<IndexPool>,
-    seat: DrawSeat,
-    ghost own: { seat.pool ≡ arc_value pool },
+struct Caller<P: Pool> {
+    pool: Arc<P>,
+    seat: P::Seat,
+    ghost own: { P.pool_of seat ≡ P.state (arc_value pool) },
 }
 
-impl Caller {
+impl<P: Pool> Caller<P> {
     /// Claims until no place is left, and answers how many it got.
-    fn claim_all(&mut self) -> u64 {
+    fn claim_all<R: Wait>(&mut self, rt: &R) -> u64 {
         for claimed in 0..PLACES {
-            match self.pool.claim(&mut self.seat) {
-                Ok(pass) => pass.burn(),
-                Err(_) => return claimed,
+            if !self.pool.claim(rt, &mut self.seat) {
+                return claimed;
             }
         }
         PLACES
     }
 }
 
-/// The time until all places of the pools are claimed.
-pub fn time_claims(
-    rt: &(impl AllocGlobal + Clock + Threads + Sync),
-    workers: Workers,
-) -> Result<Duration, Fault> {
+/// How many places so many pools have.
+pub fn places_of(pools: u64) -> u64 {
+    pools.saturating_mul(PLACES)
+}
+
+/// The time until all places of so many pools are claimed.
+pub fn time_claims<P: Pool, R>(rt: &R, pools: u64, workers: Workers) -> Result<Duration, Fault>
+where
+    R: AllocGlobal + Clock + Threads + Wait + Sync,
+{
     let threads = workers.count();
     let begun = AtomicUsize::new(0);
-    let callers = new_callers(rt.alloc(), threads)?;
+    let callers = new_callers::<P, R>(rt, pools, threads)?;
     let start = clock(rt);
     let claimed = thread::map_vec(
         rt,
         callers,
-        &|own: Vec<Caller>| -> u64 {
+        &|own: Vec<Caller<P>>| -> u64 {
             begin_together(&begun, threads);
-            claim_by(own)
+            claim_by(rt, own)
         },
     );
     let time = clock(rt).saturating_sub(start);
     match claimed {
-        Ok(counts) if sum_of(&counts) == COUNT => Ok(time),
+        Ok(counts) if sum_of(&counts) == places_of(pools) => Ok(time),
         Ok(_) => Err(Fault::Lost),
         Err(_) => Err(Fault::OutOfMemory),
     }
 }
 
-/// The time of as many bare additions to one word, by as many threads.
+/// The time of as many bare additions to one word as so many pools have places, by as many threads.
 pub fn time_additions(
     rt: &(impl AllocGlobal + Clock + Threads + Sync),
+    pools: u64,
     workers: Workers,
 ) -> Result<Duration, Fault> {
     let threads = workers.count();
     let begun = AtomicUsize::new(0);
-    let each = COUNT / threads as u64;
+    let each = places_of(pools) / threads as u64;
     let words: [AtomicU64; WORDS] = array::from_fn(|_| AtomicU64::new(0));
     let word = &words[WORDS / 2];
     let start = clock(rt);
@@ -107,51 +106,55 @@ pub fn time_additions(
 }
 
 /// For each thread, a seat of each pool.
-fn new_callers(alloc: Global, threads: usize) -> Result<Vec<Vec<Caller>>, Fault>
+fn new_callers<P: Pool, R: AllocGlobal + Wait>(
+    rt: &R,
+    pools: u64,
+    threads: usize,
+) -> Result<Vec<Vec<Caller<P>>>, Fault>
     requires some { 1 ≤ threads }
     requires at_most { threads ≤ most_seats }
 {
-    let mut book = book(alloc, LEASED, POOLS as usize)?;
-    let mut callers = Vec::new(alloc);
+    let mut book = book(rt.alloc(), LEASED, pools as usize)?;
+    let mut callers = Vec::new(rt.alloc());
     for _ in 0..threads {
-        if callers.push(Vec::new(alloc)).is_err() {
+        if callers.push(Vec::new(rt.alloc())).is_err() {
             return Err(Fault::OutOfMemory);
         }
     }
-    for _ in 0..POOLS {
-        add_pool(alloc, &mut book, threads, &mut callers)?;
+    for _ in 0..pools {
+        add_pool(rt, &mut book, threads, &mut callers)?;
     }
     Ok(callers)
 }
 
 /// Makes a pool over a lease, with a seat for each thread.
-fn add_pool(
-    alloc: Global,
+fn add_pool<P: Pool, R: AllocGlobal + Wait>(
+    rt: &R,
     book: &mut Book<MemoryStore>,
     threads: usize,
-    callers: &mut [Vec<Caller>],
+    callers: &mut [Vec<Caller<P>>],
 ) -> Result<(), Fault>
     requires some { 1 ≤ threads }
     requires at_most { threads ≤ most_seats }
 {
     match book.reserve(PLACES) {
-        Ok(lease) => seat(alloc, lease, threads, callers),
+        Ok(lease) => seat(rt, lease, threads, callers),
         Err(_) => Err(Fault::Service),
     }
 }
 
 /// Makes a pool over a lease, with a seat for each thread.
-fn seat(
-    alloc: Global,
+fn seat<P: Pool, R: AllocGlobal + Wait>(
+    rt: &R,
     lease: Lease,
     threads: usize,
-    callers: &mut [Vec<Caller>],
+    callers: &mut [Vec<Caller<P>>],
 ) -> Result<(), Fault>
     requires some { 1 ≤ threads }
     requires at_most { threads ≤ most_seats }
 {
-    match IndexPool::over(alloc, lease, threads) {
-        Ok((pool, seats)) => match Arc::new(alloc, pool) {
+    match P::over(rt, rt.alloc(), lease, threads) {
+        Ok((pool, seats)) => match Arc::new(rt.alloc(), pool) {
             Ok(pool) => share_out(&pool, seats, callers),
             Err(_) => Err(Fault::OutOfMemory),
         },
@@ -163,12 +166,12 @@ fn seat(
 }
 
 /// Gives each thread a seat of the pool.
-fn share_out(
-    pool: &Arc<IndexPool>,
-    seats: Vec<DrawSeat>,
-    callers: &mut [Vec<Caller>],
+fn share_out<P: Pool>(
+    pool: &Arc<P>,
+    seats: Vec<P::Seat>,
+    callers: &mut [Vec<Caller<P>>],
 ) -> Result<(), Fault>
-    requires { All (λ seat. seat.pool ≡ arc_value pool.now) seats.items }
+    requires { All (λ seat. P.pool_of seat ≡ P.state (arc_value pool.now)) seats.items }
 {
     let mut seats = seats;
     for own in callers {
@@ -196,11 +199,11 @@ fn begin_together(begun: &AtomicUsize, threads: usize) {
 }
 
 /// Claims all places of the pools, and answers how many it got.
-fn claim_by(callers: Vec<Caller>) -> u64 {
+fn claim_by<P: Pool, R: Wait>(rt: &R, callers: Vec<Caller<P>>) -> u64 {
     let mut callers = callers;
     let mut claimed: u64 = 0;
     for caller in &mut callers {
-        claimed = claimed.saturating_add(caller.claim_all());
+        claimed = claimed.saturating_add(caller.claim_all(rt));
     }
     claimed
 }

@@ -11,6 +11,7 @@ mod book;
 mod claims;
 mod lines;
 mod measure;
+mod pools;
 mod stopwatch;
 mod workers;
 

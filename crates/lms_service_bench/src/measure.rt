@@ -1,9 +1,11 @@
 //! Claims, batches and their lines: what is run, and its times.
 use crate::batches::Batches;
-use crate::claims::{COUNT, time_additions, time_claims};
+use crate::claims::{places_of, time_additions, time_claims};
 use crate::lines::Lines;
 use crate::workers::{WORKERS, Workers};
+use lms_cell_pool::CellPool;
 use lms_params::{LmsType, OtsType};
+use lms_pool::IndexPool;
 use lms_yardstick::{Fault, Hierarchy, MESSAGE, real, time_digests, time_digests_at_once};
 use std::sync::Wait;
 use std::thread::Threads;
@@ -43,14 +45,22 @@ const LINE_ROUNDS: u32 = 5;
 /// How often claims are timed.
 const CLAIM_ROUNDS: u32 = 20;
 
+/// How many pools are drawn dry each time.
+const POOLS: u64 = 512;
+
+/// How many pools of each kind are drawn dry once.
+const FEW_POOLS: u64 = 4;
+
 /// Claims by each number of threads, signs four jobs by each number of workers, and four of job lines.
 pub fn run_once<R>(rt: &R) -> Result<(), Fault>
 where
     R: Print + AllocGlobal + Clock + CpuClock + Threads + Wait + Sync,
 {
     for workers in WORKERS {
-        time_claims(rt, workers)?;
+        time_claims::<IndexPool, R>(rt, FEW_POOLS, workers)?;
         print_number(rt, "IndexPool::claim threads", workers.count())?;
+        time_claims::<CellPool, R>(rt, FEW_POOLS, workers)?;
+        print_number(rt, "CellPool::claim threads", workers.count())?;
     }
     let batches = Batches::new(rt.alloc(), SMALL, 4, &MESSAGE)?;
     for workers in WORKERS {
@@ -94,34 +104,39 @@ where
     measure_lines(rt)
 }
 
-/// Takes the times of claims and of bare additions in turn. All are of the rounds together: how much threads contend changes from
-/// round to round, and the least times would be of different ones.
-fn measure_claims(
-    rt: &(impl Print + AllocGlobal + Clock + Threads + Sync),
-    workers: Workers,
-) -> Result<(), Fault> {
-    let mut own = Duration::ZERO;
+/// Takes the times of claims on both pools and of bare additions in turn. All are of the rounds together: how much threads contend
+/// changes from round to round, and the least times would be of different ones.
+fn measure_claims<R>(rt: &R, workers: Workers) -> Result<(), Fault>
+where
+    R: Print + AllocGlobal + Clock + Threads + Wait + Sync,
+{
+    let mut word = Duration::ZERO;
+    let mut cell = Duration::ZERO;
     let mut bare = Duration::ZERO;
     for _ in 0..CLAIM_ROUNDS {
-        own = own.saturating_add(time_claims(rt, workers)?);
-        bare = bare.saturating_add(time_additions(rt, workers)?);
+        word = word.saturating_add(time_claims::<IndexPool, R>(rt, POOLS, workers)?);
+        cell = cell.saturating_add(time_claims::<CellPool, R>(rt, POOLS, workers)?);
+        bare = bare.saturating_add(time_additions(rt, POOLS, workers)?);
     }
-    print_claims(rt, workers.count(), own, bare)
+    let threads = workers.count();
+    print_claims(rt, "IndexPool::claim", threads, word, bare)?;
+    print_claims(rt, "CellPool::claim", threads, cell, bare)
 }
 
 /// Prints how many places are claimed a second, how many bare additions as many threads make, and the ratio of the times.
 fn print_claims(
     rt: &impl Print,
+    name: &str,
     threads: usize,
     own: Duration,
     bare: Duration,
 ) -> Result<(), Fault> {
-    let count = f64::from(CLAIM_ROUNDS) * real(COUNT);
+    let count = f64::from(CLAIM_ROUNDS) * real(places_of(POOLS));
     let claimed = count / own.as_secs_f64();
     let added = count / bare.as_secs_f64();
     let ratio = own.as_secs_f64() / bare.as_secs_f64();
     println!(rt;
-        "IndexPool::claim threads={threads}: {claimed:.0} a second, bare additions {added:.0} a second, ratio {ratio:.2}"
+        "{name} threads={threads}: {claimed:.0} a second, bare additions {added:.0} a second, ratio {ratio:.2}"
     )?;
     Ok(())
 }

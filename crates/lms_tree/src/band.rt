@@ -9,7 +9,7 @@ ghost use Rattle.lms_tree.specs.Kept.{AreHashes, FillsRows};
 ghost use Rattle.lms_tree.specs.Held.{row_of, row_below, nodes_in, AreInTree, HoldsRow, HoldsRows};
 
 use crate::nodes::{inner_hash, leaf_count};
-use crate::progress::Progress;
+use crate::progress::{Begun, Progress};
 use crate::row::fill_lowest_row;
 use crate::tree_key::TreeKey;
 use lms_params::OutOfMemory;
@@ -103,23 +103,27 @@ impl Model for Band {
 impl Band {
     /// Works out the nodes in these rows, where there is room for them: the lowest row by as many threads at once as there are
     /// processors, up to 32, then the rows above it. A node of the lowest row that stands in the top row of `lower`, a band of the
-    /// same tree, is copied from there. The memory of `room` becomes the band's. `progress` is told of the leaves under each other
-    /// node of that row.
+    /// same tree, is copied from there. The memory of `room` becomes the band's. The `Progress` of `begun` is told of the leaves under
+    /// each other node of that row.
     pub(crate) fn build(
         rt: &(impl Threads + Sync),
         key: TreeKey,
         rows: Rows,
         room: Vec<[u8; 32]>,
         lower: Option<&Band>,
-        progress: &impl Progress,
+        begun: &Begun<impl Progress>,
     ) -> Self
         requires in_tree { AreInTree (tree_of key).lms.h rows }
         requires room { length room.items ≡ nodes_in rows }
         requires lower { IfSome lower (λ band. band.now.key ≡ key) }
         ensures { result ≡ record { key = key; rows = rows } }
     {
+        let lowest = rows.row(rows.depth);
         let mut nodes = room;
-        fill_rows(rt, key, rows, lower, &mut nodes, progress);
+        let all = nodes.as_mut_slice();
+        let row = &mut all[lowest.place..];
+        fill_lowest_row(rt, key, lowest.first, lower, row, begun.progress);
+        fill_upper_rows(&key, rows, all);
         Band { key, rows, nodes }
     }
 
@@ -200,32 +204,6 @@ pub(crate) fn node_in(nodes: &[[u8; 32]], rows: Rows, level: u32, r: u32) -> [u8
 {
     let row = rows.row(level);
     nodes[row.place + (r - row.first) as usize]
-}
-
-/// Works out the lowest row, then the rows above it.
-fn fill_rows(
-    rt: &(impl Threads + Sync),
-    key: TreeKey,
-    rows: Rows,
-    lower: Option<&Band>,
-    nodes: &mut [[u8; 32]],
-    progress: &impl Progress,
-)
-    requires in_tree { AreInTree (tree_of key).lms.h rows }
-    requires count { length nodes.old ≡ nodes_in rows }
-    requires lower { IfSome lower (λ band. band.now.key ≡ key) }
-    ensures { HoldsRows key rows nodes.new }
-{
-    let lowest = rows.row(rows.depth);
-    fill_lowest_row(
-        rt,
-        key,
-        lowest.first,
-        lower,
-        &mut nodes[lowest.place..],
-        progress,
-    );
-    fill_upper_rows(&key, rows, nodes);
 }
 
 /// Works out the rows above the lowest one, from there up.

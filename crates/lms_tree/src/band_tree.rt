@@ -59,7 +59,7 @@ impl BandTree {
         BandTree::build_watched(rt, alloc, key, first, last, &Begun::new(&Unwatched, 0))
     }
 
-    /// The same, and tells who heard of the beginning of the leaves that are worked out, 2^h in all.
+    /// The same, and tells the `Progress` of `begun` of the leaves that are worked out, 2^h in all.
     pub fn build_watched(
         rt: &(impl Threads + Sync),
         alloc: Global,
@@ -77,9 +77,8 @@ impl BandTree {
         let upper_rows = upper_rows(key.lms);
         let lower_room = lower_rows.room(alloc)?;
         let upper_room = upper_rows.room(alloc)?;
-        let progress = begun.progress();
-        let lower = Band::build(rt, key, lower_rows, lower_room, None, progress);
-        let upper = Band::build(rt, key, upper_rows, upper_room, Some(&lower), progress);
+        let lower = Band::build(rt, key, lower_rows, lower_room, None, begun);
+        let upper = Band::build(rt, key, upper_rows, upper_room, Some(&lower), begun);
         Ok(BandTree {
             first,
             last,

@@ -126,8 +126,8 @@ impl KeptTree {
         self.write_path(q, &mut out[path_start..]);
     }
 
-    /// Goes on to the leaves of another bottom subtree, which is worked out, and tells who heard of the beginning of its leaves, 2^10
-    /// in a tree of height 10 or more. `None` where its root isn't the node that was given for it.
+    /// Goes on to the leaves of another bottom subtree, which is worked out: 2^10 leaves in a tree of height 10 or more, of which the
+    /// `Progress` of `begun` is told. `None` where its root isn't the node that was given for it.
     pub fn moved_to(
         self,
         rt: &(impl Threads + Sync),
@@ -148,7 +148,7 @@ impl KeptTree {
         } = self;
         let rows = subtree_rows(key.lms, subtree);
         let room = rows.room(alloc)?;
-        let band = Band::build(rt, key, rows, room, None, begun.progress());
+        let band = Band::build(rt, key, rows, room, None, begun);
         if !has_root(&upper, subtree, &band) {
             return Ok(None);
         }

@@ -11,10 +11,11 @@ pub trait Progress: Sync {
     fn done(&self, leaves: u64);
 }
 
-/// A call that told how many leaves it is to work out. What works out leaves tells of them by this alone, so none is told of before.
+/// A `Progress` that was told how many leaves are to be worked out: `new` tells it. This crate tells of leaves by such a one alone, so
+/// `begin` comes before.
 #[derive(Drop)]
 pub struct Begun<'a, P> {
-    progress: &'a P,
+    pub(crate) progress: &'a P,
 }
 
 impl<'a, P: Progress> Begun<'a, P> {
@@ -22,11 +23,6 @@ impl<'a, P: Progress> Begun<'a, P> {
     pub fn new(progress: &'a P, leaves: u64) -> Self {
         progress.begin(leaves);
         Begun { progress }
-    }
-
-    /// Who is told of the leaves.
-    pub(crate) fn progress(&self) -> &'a P {
-        self.progress
     }
 }
 

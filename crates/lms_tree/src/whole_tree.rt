@@ -4,7 +4,7 @@ ghost use Rattle.std.specs.Prelude.{◌≡◌, IfOk};
 use crate::band::{Band, Rows};
 use crate::node_source::NodeSource;
 use crate::nodes::leaf_count;
-use crate::progress::Unwatched;
+use crate::progress::{Begun, Unwatched};
 use crate::tree_key::TreeKey;
 use lms_params::OutOfMemory;
 use std::alloc::Global;
@@ -44,7 +44,7 @@ impl WholeTree {
     {
         let rows = Rows::from_root(key.lms.height());
         let room = rows.room(alloc)?;
-        let nodes = Band::build(rt, key, rows, room, None, &Unwatched);
+        let nodes = Band::build(rt, key, rows, room, None, &Begun::new(&Unwatched, 0));
         Ok(WholeTree { nodes })
     }
 }

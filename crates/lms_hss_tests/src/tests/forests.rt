@@ -8,6 +8,7 @@ use lms_params::{LmsType, OtsType, OutOfMemory};
 use lms_slow::slow_sign;
 use lms_slow::vectors::Vector;
 use std::process::Abort;
+use std::sync::atomic::Ordering;
 use std::test::Fail;
 use std::thread::Threads;
 
@@ -225,6 +226,20 @@ fn covers_and_signs_after_refused_memory(rt: HostRuntime) -> Result<(), Fail> {
         Err(OutOfMemory) => key.public_key(&rt, rt.alloc())?,
     };
     check_accepted(&rt, &public, &signature);
+    Ok(())
+}
+
+/// All memory for a key of one level is asked for before the first leaf. `tests/refused` refuses each request of this test in turn.
+#[test]
+fn no_leaf_is_worked_out_where_memory_is_refused(rt: HostRuntime) -> Result<(), Fail> {
+    let key = key_of(&[QUICK])?;
+    assert!(rt; key.capacity() == 32);
+    let sums = no_sums();
+    let done = match Forest::cover_watched(&rt, rt.alloc(), key, 3, 7, &sums) {
+        Ok(_) => 32,
+        Err(OutOfMemory) => 0,
+    };
+    assert_eq!(rt; sums.done.load(Ordering::SeqCst), done);
     Ok(())
 }
 

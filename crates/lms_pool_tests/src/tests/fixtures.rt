@@ -1,14 +1,15 @@
 //! Leases of the tests, and pools over them.
-ghost use Rattle.std.specs.Prelude.{◌≡◌, ◌≤◌, All, IfOk, vec_len};
+ghost use Rattle.std.specs.Prelude.{◌≡◌, ◌≤◌, All, IfOk};
 ghost use Rattle.lms_hss.specs.Covered.{longest_lease};
 ghost use Rattle.lms_pool.specs.Rule.{most_seats};
 
+use crate::tests::pools::Pool;
 use lms_book::{Book, Lease, MemoryStore};
 use lms_hss::{HssKey, Levels};
 use lms_image::{Image, encode_image};
 use lms_params::{LmsType, OtsType};
-use lms_pool::{DrawSeat, IndexPool};
-use std::alloc::Global;
+use std::alloc::{AllocGlobal, Global};
+use std::sync::Wait;
 use std::test::Fail;
 
 /// The levels 5/8,5/8, with 1024 indices.
@@ -54,19 +55,18 @@ pub(crate) fn lease(alloc: Global, start: u64, len: u64) -> Result<Lease, Fail>
 }
 
 /// A pool over such a lease, and its seats.
-pub(crate) fn pool(
-    alloc: Global,
+pub(crate) fn pool<P: Pool, R: AllocGlobal + Wait>(
+    rt: &R,
     start: u64,
     len: u64,
     seats: usize,
-) -> Result<(IndexPool, Vec<DrawSeat>), Fail>
+) -> Result<(P, Vec<P::Seat>), Fail>
     requires some { 1 ≤ len }
     requires at_most { len ≤ longest_lease }
     requires seats { (1 ≤ seats) × (seats ≤ most_seats) }
-    ensures pool { IfOk result (λ r. (r.0.len ≡ len) × (r.0.seats ≡ seats)) }
-    ensures seats { IfOk result (λ r. (vec_len r.1 ≡ seats) × All (λ seat. seat.pool ≡ r.0) r.1.items) }
+    ensures { IfOk result (λ r. All (λ seat. P.pool_of seat ≡ P.state r.0) r.1.items) }
 {
-    match IndexPool::over(alloc, lease(alloc, start, len)?, seats) {
+    match P::over(rt, rt.alloc(), lease(rt.alloc(), start, len)?, seats) {
         Ok(made) => Ok(made),
         Err((_, lease)) => {
             lease.end();

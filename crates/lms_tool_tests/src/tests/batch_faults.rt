@@ -311,7 +311,8 @@ fn world_at_last(alloc: Global) -> Result<MemoryWorld, Fail> {
 }
 
 /// `rt test` refuses no memory. At the top of the workspace,
-/// `tests/refused lms_tool_tests tests::batch_faults::a_batch_says_what_it_used` refuses each request in turn.
+/// `tests/refused lms_tool_tests tests::batch_faults::a_batch_says_what_it_used` refuses each request in turn. A refusal while the answers are
+/// made shows nothing.
 #[test]
 fn a_batch_says_what_it_used(rt: HostRuntime) -> Result<(), Fail> {
     let answers = match eight_answers(&rt)? {

@@ -1,12 +1,11 @@
 use Rattle.std.proofs.Common.{◌≡◌, [], All, subst}
 use Rattle.std.proofs.lemmas.List.Elements.{All-pop, All-push, All-same}
-use Rattle.lms_pool.specs.States.{SeatState}
 use Rattle.lms_pool.proofs.Wholes.{all_at}
 use Rattle.lms_pool_tests.proofs.tests.finished_in_order.Goals as goal
 
 pub loop-drawn-preserved : goal.loop-drawn-preserved
-loop-drawn-preserved c =
-    let Ours : SeatState → Type 0 = λ s. s.pool ≡ c.args.pool in
+loop-drawn-preserved g c =
+    let Ours : g.row.P-Seat.Denot → Type 0 = λ seat. g.P.Pool.pool_of seat ≡ g.P.Pool.state c.args.pool in
     let inv = c.loop-drawn.invariant in
     let last = all_at (λ d. Ours d.0) c.pop.new.self.items c.in-Some.drawn [] (subst (All (λ d. Ours d.0)) c.in-Some.ensures.items inv.all) in
     record {

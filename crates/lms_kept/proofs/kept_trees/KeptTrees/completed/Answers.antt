@@ -89,10 +89,10 @@ loop-k-preserved g c =
     let key = c.self.inside.key in
     let k = c.loop-k.k in
     let here = c.loop-k.invariant in
-    let low : k < length key.levels = level-below k _ _ c.as_slice-k-end.ensures.levels c.loop-k-test.true in
+    let low : k < length key.levels = level-below k _ _ c.as_slice-count.ensures.levels c.loop-k-test.true in
     let some : 1 ≤ k = omega (arith, c.self.invariant.some, c.loop-k.auto.k, c.len-k.ensures) in
     let is : IsNext (hss_key_of key) c.self.inside.at k (k - 1) c.place.result c.place-in-loop-k.result c.tree_key.result c.loop-k.levels.items
-    c.push.new.self.items c.index.result.now c.in_ok-child.child
+    c.push_reserved.new.self.items c.index.result.now c.in_ok-child.child
     = record {
       there = omega (arith, low, some, levels-count key);
       next = omega (arith, some);
@@ -104,10 +104,11 @@ loop-k-preserved g c =
       id_length = c.self.invariant.id_length;
       below = c.place-in-loop-k.ensures;
       made = c.in_ok-child.ensures;
-      more = c.in_ok-push.ensures.items;
+      more = c.push_reserved.ensures.items;
     } in
     record {
       count = next-count _ _ _ _ _ _ _ _ _ _ _ is;
+      room = omega (arith, here.room, c.push_reserved.ensures.capacity);
       on = next-on _ _ _ _ _ _ _ _ _ _ _ is;
       same = λ i other first. next-same _ _ _ _ _ _ _ _ _ _ _ is i other (omega (arith, first, c.loop-k.auto.k, c.len-k.ensures)) ∙ here.same i other first;
       signs = next-signs _ _ _ _ _ _ _ _ _ _ _ is _ here.signs;
@@ -122,8 +123,14 @@ levels-stay given way levels view =
     subst (λ (way : Way). (k : ℕ) (other : KeptLevel) → k < length way.levels → get_or levels k other ≡ get_or way.levels k other) view
 
 pub returns-clause-same : goal.returns-clause-same
-returns-clause-same g c = levels-stay _ _ c.loop-k.levels.items c.self.view_is c.loop-k.invariant.same
+returns-clause-same g c =
+    let levels = c.loop-k.levels.items in
+    levels-stay _ _ levels c.self.view_is
+    (subst (λ given. (k : ℕ) (other : KeptLevel) → k < length given → get_or levels k other ≡ get_or given k other) c.reserve.ensures.items c.loop-k.invariant.same)
 
 pub returns-clause-genuine : goal.returns-clause-genuine
 returns-clause-genuine g c genuine k other low =
-    c.loop-k.invariant.genuine (subst AreGenuine (sym c.self.view_is) genuine) k other (omega (arith, c.loop-k.invariant.count, low))
+    let key = hss_key_of c.self.inside.key in
+    c.loop-k.invariant.genuine
+    (subst (λ given. (k : ℕ) (other : KeptLevel) → k < length given → IsGenuine key c.self.inside.at k (get_or given k other))
+    (sym c.reserve.ensures.items) (subst AreGenuine (sym c.self.view_is) genuine)) k other (omega (arith, c.loop-k.invariant.count, low))

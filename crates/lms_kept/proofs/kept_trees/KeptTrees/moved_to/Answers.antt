@@ -172,14 +172,14 @@ pub invariant_of-trees : goal.invariant_of-trees
 invariant_of-trees g c =
     let is = last-of g (goal.at.invariant_of-trees g c).After-place-leaf in
     let to = moved-is _ _ _ _ c.in-Some-2.is c.in_ok-last.ensures.moved in
-    let more = c.in_ok-push.ensures.items in
-    let count = moved-count _ _ _ _ _ _ _ c.push.new.self.items _ _ is more in
+    let more = c.push_reserved.ensures.items ∙ ap (λ levels. levels ++ c.in-Some-2.last ∷ []) c.reserve.ensures.items in
+    let count = moved-count _ _ _ _ _ _ _ c.push_reserved.new.self.items _ _ is more in
     record {
       id_length = c.self.invariant.id_length;
       within = subst (λ key. c.args.g < capacity_of (hss_key_of key)) (sym (ap (λ (v : Way). v.key) c.self.view_is)) c.requires;
       some = omega (arith, count);
       at_most = omega (arith, count, is.there, levels-count c.self.inside.key);
-      each = moved-each _ _ _ _ _ _ _ c.push.new.self.items _ _ is to more;
+      each = moved-each _ _ _ _ _ _ _ c.push_reserved.new.self.items _ _ is to more;
       admitted = c.self.invariant.admitted;
     }
 
@@ -189,9 +189,9 @@ returns-clause-signs g c =
     let given : Way = record { key = c.self.inside.key; at = c.self.inside.at; levels = c.self.inside.levels.items } in
     let is = last-of g (goal.at.returns-clause-signs g c).After-place-leaf in
     let to = moved-is _ _ _ _ c.in-Some-2.is c.in_ok-last.ensures.moved in
-    let more = c.in_ok-push.ensures.items in
+    let more = c.push_reserved.ensures.items ∙ ap (λ levels. levels ++ c.in-Some-2.last ∷ []) c.reserve.ensures.items in
     subst (λ (given : Way). SignsNoOther given trees) c.self.view_is
-    (signs-no-other given trees c.args.g _ _ _ c.push.new.self.items _ _ is to more c.in_ok-completed.ensures.key c.in_ok-completed.ensures.at c.in_ok-completed.ensures.same
+    (signs-no-other given trees c.args.g _ _ _ c.push_reserved.new.self.items _ _ is to more c.in_ok-completed.ensures.key c.in_ok-completed.ensures.at c.in_ok-completed.ensures.same
     c.in_ok-completed.ensures.signs)
 
 pub returns-clause-genuine : goal.returns-clause-genuine
@@ -200,4 +200,4 @@ returns-clause-genuine g c genuine =
     let to = moved-is _ _ _ _ c.in-Some-2.is c.in_ok-last.ensures.moved in
     let all : AreGenuine (record { key = c.self.inside.key; at = c.self.inside.at; levels = c.self.inside.levels.items })
     = subst AreGenuine (sym c.self.view_is) genuine in
-    c.in_ok-completed.ensures.genuine (moved-genuine-each _ _ _ _ _ _ _ c.push.new.self.items _ _ is to c.in_ok-push.ensures.items all)
+    c.in_ok-completed.ensures.genuine (moved-genuine-each _ _ _ _ _ _ _ c.push_reserved.new.self.items _ _ is to (c.push_reserved.ensures.items ∙ ap (λ levels. levels ++ c.in-Some-2.last ∷ []) c.reserve.ensures.items) all)

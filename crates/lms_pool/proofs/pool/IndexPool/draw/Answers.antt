@@ -22,7 +22,7 @@ invariant_of-me c =
     let me = c.me.inside in
     let told = c.fetch_add-place.ensures in
     let long = ap (λ (s : SeatState). s.pool.len) c.me.view_is ∙ ap (λ (p : PoolState). p.len) (c.requires.pool ∙ sym c.self.view_is) in
-    let some = c.self.invariant.lease.some in
+    let some = c.self.invariant.sized.lease.some in
     let sees = draw_ends me.pool.value.len c.fetch_add-place.result (omega (arith, long, some)) (omega (arith, long, c.if-place-self.true)) in
     (after_call me c.me.invariant Claim (reply_at me.pool.value.len c.fetch_add-place.result Claim) _ _ told.2 refl).stays me.stopped true _ told.0 (omega arith) sees
 

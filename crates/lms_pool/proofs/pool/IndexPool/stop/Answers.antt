@@ -20,7 +20,7 @@ overflow_add-me c =
     let burnt : me.pool.value.len - min c.fetch_max-found.result me.pool.value.len ≡ c.saturating_sub-burnt.result = omega (arith, c.saturating_sub-burnt.ensures, long) in
     let after = after_call me c.me.invariant Stop (Count c.saturating_sub-burnt.result) _ _ told.2 (ap Count burnt) in
     let stays = after.stays (me.stopped + c.saturating_sub-burnt.result) true _ told.0 refl (is_len me.pool.value.len) in
-    omega (arith, stays.few, long, c.self.invariant.lease.at_most)
+    omega (arith, stays.few, long, c.self.invariant.sized.lease.at_most)
 
 pub invariant_of-me : goal.invariant_of-me
 invariant_of-me c =

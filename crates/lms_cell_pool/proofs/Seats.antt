@@ -1,0 +1,75 @@
+-- What a step asks of a seat, and what it leaves.
+use Rattle.std.proofs.Common.{◌≡◌, ℕ, ◌+◌, ◌≤◌, ◌<◌, min, List, [], ◌∷◌, Some, Result, Ok, Err, refl, sym, ap, ◌∙◌, subst, arith}
+use Rattle.std.specs.Result.{OnErr}
+use Rattle.atomic_table.specs.Seated.{TableId}
+use Rattle.crossbeam_utils.specs.Seq.{cell_view}
+use Rattle.lms_pool.specs.declared.history.Call.{Call}
+use Rattle.lms_pool.specs.declared.history.Call.TheVariants.{Claim}
+use Rattle.lms_pool.specs.declared.history.Reply.{Reply}
+use Rattle.lms_pool.specs.declared.history.Entry.{Entry}
+use Rattle.lms_pool.specs.declared.history.Hand.{Hand}
+use Rattle.lms_pool.specs.History.{turn, entry, calls_of, stopped_by, stopped_in}
+use Rattle.lms_pool.specs.Rule.{hand, Makes}
+use Rattle.lms_pool.specs.States.{SeatState, Calls}
+use Rattle.lms_pool.proofs.Histories.{claim_end, claim_next, stopped_after, stopped_within}
+use Rattle.lms_cell_pool.specs.declared.seat.CellSeat.TheInside.{Inside}
+use Rattle.lms_cell_pool.specs.Rule.{View, known, hand_in}
+use Rattle.lms_cell_pool.specs.States.{IsCellSeat}
+
+-- the seat of these fields is in order
+abbrev pub IsWell : Inside → Type 0
+IsWell me = IsCellSeat me.pool.value me.number me.stopped me.token.table_id (cell_view me.token)
+
+-- what contracts see of it, once its token knows this
+abbrev pub seat_with : Inside → View → SeatState
+seat_with me w = record { pool = me.pool.value; number = me.number; log = (hand_in w).log }
+
+-- its hand
+abbrev pub own_hand : Inside → Hand
+own_hand me = hand me.number me.pool.value.len (hand_in (cell_view me.token)).log
+
+-- after a call with this reply the seat has made it, and is in order where it counts what it has to
+pub record Called (me : Inside) (c : Call) (r : Reply) (w : View) : Type 0 where
+  pub makes : (before : SeatState) → seat_with me (cell_view me.token) ≡ before → Calls before c r (seat_with me w)
+  pub stays : (stopped : ℕ) (table : TableId) → table ≡ me.token.table_id → stopped ≡ me.stopped + stopped_by c r → IsCellSeat me.pool.value me.number stopped table w
+
+module _ (me : Inside) (seat : IsWell me) where
+  abbrev old_log : List Entry
+  old_log = (hand_in (cell_view me.token)).log
+
+  -- its hand became this one by a call
+  pub after_call : (c : Call) (r : Reply) (w : View) (k : Hand) → w ≡ Some (known me.pool.value.seats (k ∷ [])) → Makes c r (own_hand me) k → Called me c r w
+  after_call c r w k is m = subst (Called me c r) (sym is) (record {
+    makes = λ before same. subst (λ (s : SeatState). Calls s c r (seat_with me (Some (known me.pool.value.seats (k ∷ []))))) same (refl, refl, m.2);
+    stays = λ stopped table same adds.
+        let counted : stopped ≡ stopped_in (calls_of me.number k.log) = omega (arith, adds, seat.counted, stopped_after me.pool.value.len old_log (entry me.number c r) k.log m.2) in
+        record {
+          below = seat.below;
+          table_is = same ∙ seat.table_is;
+          alone = λ i. Some (known me.pool.value.seats (hand (m.0 i) (m.1 i) k.log ∷ []));
+          counted = counted;
+          few = omega (arith, counted, stopped_within me.pool.value.len me.number k.log m.2.0);
+        };
+  })
+
+  -- its hand stayed
+  pub unchanged : (w : View) (k : Hand) (table : TableId) → w ≡ Some (known me.pool.value.seats (k ∷ [])) → k ≡ own_hand me → table ≡ me.token.table_id
+      → IsCellSeat me.pool.value me.number me.stopped table w × (seat_with me w ≡ seat_with me (cell_view me.token))
+  unchanged w k table is same there =
+      let stays : w ≡ cell_view me.token = is ∙ ap (λ (h : Hand). Some (known me.pool.value.seats (h ∷ []))) same ∙ sym seat.alone in (
+        subst (λ (v : View). IsCellSeat me.pool.value me.number me.stopped table v) (sym stays)
+            (record { below = seat.below; table_is = there ∙ seat.table_is; alone = seat.alone; counted = seat.counted; few = seat.few }),
+        ap (seat_with me) stays,
+      )
+
+-- a claim that finds no place leaves the count
+pub claim_stays : (len n : ℕ) → len ≤ n → (turn len (min n len) Claim).1 ≡ min n len
+claim_stays len n le = ap (λ (t : Reply × ℕ). t.1) (claim_end len (min n len) (omega arith))
+
+-- another one adds 1
+pub claim_rises : (len n : ℕ) → n < len → (turn len (min n len) Claim).1 ≡ min (n + 1) len
+claim_rises len n l = ap (λ (t : Reply × ℕ). t.1) (claim_next len (min n len) (omega arith)) ∙ omega arith
+
+pub on_err : {A E P : Type 0} → (r : Result A E) → P → OnErr r P
+on_err (Ok a) p = tt
+on_err (Err e) p = p

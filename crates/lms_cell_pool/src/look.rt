@@ -1,0 +1,22 @@
+//! A seat looks.
+ghost use Rattle.std.specs.Prelude.{◌≡◌};
+ghost use Rattle.lms_pool.specs.declared.history.Call.TheVariants as calls;
+ghost use Rattle.lms_pool.specs.declared.history.Reply.TheVariants.{Count};
+ghost use Rattle.lms_pool.specs.States.{Calls};
+
+use crate::pool::CellPool;
+use crate::rule::Look;
+use crate::seat::CellSeat;
+use std::sync::Wait;
+
+impl CellPool {
+    /// How many places are gone, at most the length. It may wait for other calls.
+    pub fn look<R: Wait>(&self, rt: &R, me: &mut CellSeat) -> u64
+        requires { me.old.pool ≡ self.now }
+        ensures seat { me.new.pool ≡ self.now }
+        ensures call { Calls me.old calls.Look (Count result) me.new }
+    {
+        let seen = self.cell.load_as::<Look, R>(rt, &mut me.token);
+        seen.gone.min(self.len)
+    }
+}

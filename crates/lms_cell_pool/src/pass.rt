@@ -1,0 +1,53 @@
+//! What a claim gives.
+use crate::pool::CellPool;
+use std::marker::Model;
+use std::snapshot::Snapshot;
+
+/// The right to sign by one index, as an `IndexPass`. It can't be copied, and can't be let go: it has to be spent, by `burn`.
+pub struct CellPass {
+    pub(crate) pool: Snapshot<CellPool>,
+    pub(crate) place: u64,
+    pub(crate) index: u64,
+}
+
+impl Model for CellPass {
+    ghost use Rattle.lms_pool.specs.States.{PassState, IsPass};
+
+    ghost Value = { PassState };
+
+    ghost view = { λ pass. record { pool = pass.pool.value; place = pass.place } };
+
+    ghost invariant = { λ pass. IsPass pass.pool.value pass.place pass.index };
+}
+
+impl CellPass {
+    ghost use Rattle.std.specs.Prelude.{◌≡◌, ◌<◌};
+    ghost use Rattle.lms_spec.specs.Hss.{capacity_of};
+    ghost use Rattle.lms_hss.specs.Keys.{hss_key_of};
+    ghost use Rattle.lms_pool.specs.States.{index_of};
+
+    /// Its place in the pool.
+    pub fn place(&self) -> u64
+        ensures place { result ≡ self.now.place }
+        ensures below { result < self.now.pool.len }
+    {
+        self.place
+    }
+
+    /// The index: the lease's start and the place, added.
+    pub fn index(&self) -> u64
+        ensures index { result ≡ index_of self.now }
+        ensures below { result < capacity_of (hss_key_of self.now.pool.key) }
+    {
+        self.index
+    }
+
+    /// Spends the pass. Its index stays used.
+    pub fn burn(self) {
+        let CellPass {
+            pool: _,
+            place: _,
+            index: _,
+        } = self;
+    }
+}

@@ -1,0 +1,28 @@
+//! A seat of a pool.
+use crate::pool::CellPool;
+use crate::rule::Token;
+use std::marker::Model;
+use std::snapshot::Snapshot;
+
+/// The right to call a pool as one seat. Contracts see of it what they see of a `DrawSeat`.
+#[derive(Drop)]
+pub struct CellSeat {
+    pub(crate) pool: Snapshot<CellPool>,
+    pub(crate) token: Token,
+    pub(crate) number: usize,
+    // What its stops answered, added up. The cell doesn't tell a place that was stopped from one that was claimed.
+    pub(crate) stopped: u64,
+}
+
+impl Model for CellSeat {
+    ghost use Rattle.crossbeam_utils.specs.Seq.{cell_view};
+    ghost use Rattle.lms_pool.specs.States.{SeatState};
+    ghost use Rattle.lms_cell_pool.specs.Rule.{hand_in};
+    ghost use Rattle.lms_cell_pool.specs.States.{IsCellSeat};
+
+    ghost Value = { SeatState };
+
+    ghost view = { λ s. record { pool = s.pool.value; number = s.number; log = (hand_in (cell_view s.token)).log } };
+
+    ghost invariant = { λ s. IsCellSeat s.pool.value s.number s.stopped s.token.table_id (cell_view s.token) };
+}

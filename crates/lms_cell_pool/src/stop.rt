@@ -1,0 +1,54 @@
+//! A seat stops the pool.
+ghost use Rattle.std.specs.Prelude.{◌≡◌, IfSome, IfNone};
+ghost use Rattle.lms_pool.specs.declared.history.Call.TheVariants.{Stop};
+ghost use Rattle.lms_pool.specs.declared.history.Reply.TheVariants.{Count};
+ghost use Rattle.lms_pool.specs.States.{Calls};
+
+use crate::pool::CellPool;
+use crate::rule::{Halt, PeekStop, Places};
+use crate::seat::CellSeat;
+use std::sync::Wait;
+
+impl CellPool {
+    /// Ends the pool, and answers how many places that burns. It may wait for other calls.
+    pub fn stop<R: Wait>(&self, rt: &R, me: &mut CellSeat) -> u64
+        requires { me.old.pool ≡ self.now }
+        ensures seat { me.new.pool ≡ self.now }
+        ensures call { Calls me.old Stop (Count result) me.new }
+    {
+        for _ in rt.forever() {
+            if let Some(burnt) = self.try_stop(rt, me) {
+                return burnt;
+            }
+        }
+        unreachable!()
+    }
+
+    /// Ends the pool, and answers how many places that burns. `None` where another step came between: no call was made then.
+    fn try_stop<R: Wait>(&self, rt: &R, me: &mut CellSeat) -> Option<u64>
+        requires { me.old.pool ≡ self.now }
+        ensures call { IfSome result (λ burnt. Calls me.old Stop (Count burnt) me.new) }
+        ensures none { IfNone result (me.new ≡ me.old) }
+    {
+        let seen = self.cell.load_as::<PeekStop, R>(rt, &mut me.token);
+        if seen.gone >= self.len {
+            return Some(0);
+        }
+        let next = Places {
+            gone: self.len,
+            len: seen.len,
+            seats: seen.seats,
+        };
+        match self
+            .cell
+            .compare_exchange_as::<Halt, R>(rt, &mut me.token, seen, next)
+        {
+            Ok(_) => {
+                let burnt = self.len - seen.gone;
+                me.stopped += burnt;
+                Some(burnt)
+            }
+            Err(_) => None,
+        }
+    }
+}

@@ -1,0 +1,10 @@
+use denote.Param.Send.{sendable}
+use Rattle.lms_pool.proofs.Sent.{seat_is_sent}
+use Rattle.lms_cell_pool.proofs.Sent.{seat_is_sent as cell_seat_is_sent}
+use Rattle.lms_pool_tests.proofs.tests.a_thread_stops_the_pool.Goals as goal
+
+pub drawn_at_once-requires-send-P-Seat : goal.drawn_at_once-requires-send-P-Seat
+drawn_at_once-requires-send-P-Seat g c κs = search (seat_is_sent, sendable)
+
+pub drawn_at_once-requires-2-send-P-Seat : goal.drawn_at_once-requires-2-send-P-Seat
+drawn_at_once-requires-2-send-P-Seat g c κs = search (cell_seat_is_sent, sendable)
