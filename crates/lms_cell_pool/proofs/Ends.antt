@@ -49,7 +49,7 @@ ending pool x v w here joined told is many none one own =
     let there = at_map hands_in views id v told.2 ∙ ap (λ (w : View). some (hands_in w)) is in
     let enough : pool.seats ≤ length joined = omega (arith, many, none, length-append here joined) in
     let hands : length (hands_in v) ≡ length joined = ap (λ (w : View). length (hands_in w)) is ∙ hands_length joined in
-    let seats : pool.seats ≡ x.seats = sym (ap seats_in is) ∙ F.wide id v told.2 (omega (arith, hands, enough, one)) in
+    let seats : pool.seats ≡ x.seats = sym (ap seats_in is) ∙ F.count_known id v told.2 (omega (arith, hands, enough, one)) in
     let r = whole x.len x.seats x.gone (map hands_in views) F.agree id joined there (omega (arith, seats, enough)) (omega (arith, seats, one)) in
     let long = length_known x.len F.agree.log pool joined (omega (arith, enough, one)) (F.agree.fits id (hands_of joined) there)
     (subst (All (λ (s : SeatState). s.pool ≡ pool)) (nothing_before here joined none) own) in

@@ -1,6 +1,7 @@
 -- Each step of the cell keeps the rule.
 use Rattle.std.proofs.Common.{◌≡◌, ◌≢◌, ℕ, zero, suc, ◌≤◌, ◌<◌, min, max, Bool, true, false, List, [], ◌∷◌, set, map, length, None, Some, ◌&&◌, if◌then◌else◌, nat_eq, refl, sym, ap, ◌∙◌, subst, ⊎_elim, inl, inr, arith}
 use Rattle.std.proofs.lemmas.Map.Views.{exact_unsigned_eq}
+use Rattle.std.proofs.lemmas.List.{map-set}
 use Rattle.std.proofs.lemmas.List.Elements.{All-head}
 use native.Mathlib.Decide.{dec_lt}
 use mathlib.Core.Logic.{dite}
@@ -19,11 +20,6 @@ use Rattle.lms_pool.proofs.Deals.{starts}
 use Rattle.lms_cell_pool.specs.declared.rule.Known.{Known}
 use Rattle.lms_cell_pool.specs.declared.rule.Places.{Places}
 use Rattle.lms_cell_pool.specs.Rule.{View, known, seats_in, hands_in, hand_in, Filled, CellKept, SeatTells, MakesAt, called_look, changed, filled, found, peeked}
-
-pub map_set : (views : List View) (id : ℕ) (v : View) → map hands_in (set views id v) ≡ set (map hands_in views) id (hands_in v)
-map_set [] id v = refl
-map_set (x ∷ xs) zero v = refl
-map_set (x ∷ xs) (suc id) v = ap (λ (l : List Hands). hands_in x ∷ l) (map_set xs id v)
 
 abbrev blank : View
 blank = None
@@ -53,15 +49,15 @@ stepped x views id n h at F c y e1 e2 effect small =
     let t = made x.len x.seats (map hands_in views) id h.number h.log at' x.gone K c y.gone effect' (inl (omega (arith, long, small))) in (
       t.0,
       inr (record {
-        full = λ j v e. ⊎_elim
+        told = λ j v e. ⊎_elim
             (λ (s : (j ≡ id) × (Some (known n (t.0 ∷ [])) ≡ v)). subst (λ (w : View). w ≡ Some (known (seats_in w) (hands_in w))) s.1 refl)
-            (λ (s : (j ≢ id) × (get_elem? views j ≡ some v)). F.full j v s.1)
+            (λ (s : (j ≢ id) × (get_elem? views j ≡ some v)). F.told j v s.1)
             (at_set views id j (Some (known n (t.0 ∷ []))) v e);
-        wide = λ j v e l. ⊎_elim
-            (λ (s : (j ≡ id) × (Some (known n (t.0 ∷ [])) ≡ v)). sym (ap seats_in s.1) ∙ F.wide id (Some (known n (h ∷ []))) at (omega arith) ∙ sym e2)
-            (λ (s : (j ≢ id) × (get_elem? views j ≡ some v)). F.wide j v s.1 l ∙ sym e2)
+        count_known = λ j v e l. ⊎_elim
+            (λ (s : (j ≡ id) × (Some (known n (t.0 ∷ [])) ≡ v)). sym (ap seats_in s.1) ∙ F.count_known id (Some (known n (h ∷ []))) at (omega arith) ∙ sym e2)
+            (λ (s : (j ≢ id) × (get_elem? views j ≡ some v)). F.count_known j v s.1 l ∙ sym e2)
             (at_set views id j (Some (known n (t.0 ∷ []))) v e);
-        agree = subst (λ (p : ℕ × ℕ × List Hands). Agree p.0 p.1 y.gone p.2) (λ i. (sym e1 i, sym e2 i, sym (map_set views id (Some (known n (t.0 ∷ [])))) i)) t.1;
+        agree = subst (λ (p : ℕ × ℕ × List Hands). Agree p.0 p.1 y.gone p.2) (λ i. (sym e1 i, sym e2 i, sym (map-set hands_in views id (Some (known n (t.0 ∷ [])))) i)) t.1;
       }),
       subst (λ (len : ℕ). Makes c (turn len (min x.gone len) c).0 (hand h.number len h.log) t.0) (sym long) t.2,
     )
@@ -143,7 +139,7 @@ fills id v y e none short few x views kept at = (all, ⊎_elim first later kept,
     all = Some (known y.seats (new_hands y.len (below y.seats)))
 
     goes : (j : ℕ) → get_elem? (blank ∷ []) j ≡ some v → CellKept y (set (blank ∷ []) j all)
-    goes zero g = inr (record { full = whole; wide = every; agree = subst (λ (n : ℕ). Agree y.len y.seats n (map hands_in (all ∷ []))) (sym none) (starts y.len y.seats short few) })
+    goes zero g = inr (record { told = whole; count_known = every; agree = subst (λ (n : ℕ). Agree y.len y.seats n (map hands_in (all ∷ []))) (sym none) (starts y.len y.seats short few) })
       where
         whole : (j : ℕ) (w : View) → get_elem? (all ∷ []) j ≡ some w → w ≡ Some (known (seats_in w) (hands_in w))
         whole zero w q = subst (λ (z : View). z ≡ Some (known (seats_in z) (hands_in z))) (some-injective _ _ q) refl
@@ -158,7 +154,7 @@ fills id v y e none short few x views kept at = (all, ⊎_elim first later kept,
     first is = subst (λ (vs : List View). CellKept y (set vs id all)) (sym is) (goes id (subst (λ (vs : List View). get_elem? vs id ≡ some v) is at))
 
     later : Filled x views → CellKept y (set views id all)
-    later F = absurd (not_blank (known (seats_in v) (hands_in v)) (sym e ∙ F.full id v at))
+    later F = absurd (not_blank (known (seats_in v) (hands_in v)) (sym e ∙ F.told id v at))
 
 -- the load that tells the rule
 pub finds : (id : ℕ) (v : View) → Turns CellKept id v (λ x. x) found

@@ -1,5 +1,6 @@
 -- Where the views of tokens are split and joined.
 use Rattle.std.proofs.Common.{◌≡◌, ◌≢◌, ℕ, ◌≤◌, ◌<◌, List, [], ◌∷◌, ◌++◌, length, map, set, All, Some, refl, sym, ap, ◌∙◌, subst, ⊎_elim, inr, arith}
+use Rattle.std.proofs.lemmas.List.{map-append, map-set}
 use Rattle.std.proofs.lemmas.List.Elements.{All-nil}
 use mathlib.Core.Option.{some}
 use lib.ListN.{get_elem?}
@@ -11,14 +12,10 @@ use Rattle.lms_pool.proofs.Deals.{joined, parted, same_hands}
 use Rattle.lms_cell_pool.specs.declared.rule.Known.{Known}
 use Rattle.lms_cell_pool.specs.declared.rule.Places.{Places}
 use Rattle.lms_cell_pool.specs.Rule.{View, known, seats_in, hands_in, CellKept, Filled, first_view, handed_over, nobody, other_views, together}
-use Rattle.lms_cell_pool.proofs.Steps.{is_filled, map_set}
+use Rattle.lms_cell_pool.proofs.Steps.{is_filled}
 
 abbrev IsFull : View → Type 0
 IsFull v = v ≡ Some (known (seats_in v) (hands_in v))
-
-map_snoc : (views : List View) (v : View) → map hands_in (views ++ v ∷ []) ≡ map hands_in views ++ hands_in v ∷ []
-map_snoc [] v = refl
-map_snoc (x ∷ xs) v = ap (λ (l : List Hands). hands_in x ∷ l) (map_snoc xs v)
 
 -- a token's view becomes another one, and a new token has one more
 module _ (x : Places) (views : List View) (F : Filled x views) (id : ℕ) (v left right : View) (at : get_elem? views id ≡ some v)
@@ -27,21 +24,21 @@ module _ (x : Places) (views : List View) (F : Filled x views) (id : ℕ) (v lef
     (agree : Agree x.len x.seats x.gone (set (map hands_in views) id (hands_in left) ++ hands_in right ∷ [])) where
   cut : Filled x (set views id left ++ right ∷ [])
   cut = record {
-    full = λ j u q. ⊎_elim
+    told = λ j u q. ⊎_elim
         (λ was. ⊎_elim
         (λ (t : (j ≡ id) × (left ≡ u)). subst IsFull t.1 full_left)
-        (λ (t : (j ≢ id) × (get_elem? views j ≡ some u)). F.full j u t.1)
+        (λ (t : (j ≢ id) × (get_elem? views j ≡ some u)). F.told j u t.1)
         (at_set views id j left u was))
         (λ (same : right ≡ u). subst IsFull same full_right)
         (at_snoc (set views id left) right u j q);
-    wide = λ j u q l. ⊎_elim
+    count_known = λ j u q l. ⊎_elim
         (λ was. ⊎_elim
         (λ (t : (j ≡ id) × (left ≡ u)). subst (λ (w : View). 0 < length (hands_in w) → seats_in w ≡ x.seats) t.1 wide_left l)
-        (λ (t : (j ≢ id) × (get_elem? views j ≡ some u)). F.wide j u t.1 l)
+        (λ (t : (j ≢ id) × (get_elem? views j ≡ some u)). F.count_known j u t.1 l)
         (at_set views id j left u was))
         (λ (same : right ≡ u). subst (λ (w : View). 0 < length (hands_in w) → seats_in w ≡ x.seats) same wide_right l)
         (at_snoc (set views id left) right u j q);
-    agree = subst (Agree x.len x.seats x.gone) (sym (map_snoc (set views id left) right ∙ ap (λ (l : List Hands). l ++ hands_in right ∷ []) (map_set views id left))) agree;
+    agree = subst (Agree x.len x.seats x.gone) (sym (map-append hands_in (set views id left) (right ∷ []) ∙ ap (λ (l : List Hands). l ++ hands_in right ∷ []) (map-set hands_in views id left))) agree;
   }
 
 parts_more : (v : Hands) → (length (other_hands v) ≤ length v) × (length (first_hand v) ≤ length v)
@@ -54,8 +51,8 @@ forks id v k e x views kept at =
     let F = is_filled x views id k (at ∙ ap some e) kept in
     let parts = parts_more (hands_in v) in
     inr (cut x views F id v (other_views v) (first_view v) at refl refl
-    (λ l. F.wide id v at (omega (arith, parts.0, l)))
-    (λ l. F.wide id v at (omega (arith, parts.1, l)))
+    (λ l. F.count_known id v at (omega (arith, parts.0, l)))
+    (λ l. F.count_known id v at (omega (arith, parts.1, l)))
     (parted x.len x.seats x.gone id (hands_in v) (map hands_in views) F.agree (at_map hands_in views id v at)))
 
 -- all hands may go to a new token
@@ -74,30 +71,30 @@ hands_over id v k e x views kept at =
     (at_set m id j [] u was))
     (λ (same : hands_in v ≡ u). subst (All (Fits x.len K.log)) same (K.fits id (hands_in v) there))
     (at_snoc (set m id []) (hands_in v) u j q)) in
-    inr (cut x views F id v nobody v at refl (F.full id v at) (λ l. absurd (omega arith)) (F.wide id v at) now)
+    inr (cut x views F id v nobody v at refl (F.told id v at) (λ l. absurd (omega arith)) (F.count_known id v at) now)
 
 -- the hands of two tokens may come together
 pub merges : (id : ℕ) (v : View) (other : ℕ) (w : View) (k : Known) → v ≡ Some k → 0 < length (hands_in v) → Merges CellKept id v other w (together v w) nobody
 merges id v other w k e some_hand x views kept at apart there =
     let F = is_filled x views id k (at ∙ ap some e) kept in
     let m : List Hands = map hands_in views in
-    let there' = subst (λ (l : List Hands). get_elem? l other ≡ some (hands_in w)) (map_set views id (together v w)) (at_map hands_in (set views id (together v w)) other w there) in
+    let there' = subst (λ (l : List Hands). get_elem? l other ≡ some (hands_in w)) (map-set hands_in views id (together v w)) (at_map hands_in (set views id (together v w)) other w there) in
     let now = joined x.len x.seats x.gone id (hands_in v) other (hands_in w) m F.agree (at_map hands_in views id v at) apart there' in
     inr (record {
-      full = λ j u q. ⊎_elim
+      told = λ j u q. ⊎_elim
           (λ (t : (j ≡ other) × (nobody ≡ u)). subst IsFull t.1 refl)
           (λ (t : (j ≢ other) × (get_elem? (set views id (together v w)) j ≡ some u)). ⊎_elim
           (λ (y : (j ≡ id) × (together v w ≡ u)). subst IsFull y.1 refl)
-          (λ (y : (j ≢ id) × (get_elem? views j ≡ some u)). F.full j u y.1)
+          (λ (y : (j ≢ id) × (get_elem? views j ≡ some u)). F.told j u y.1)
           (at_set views id j (together v w) u t.1))
           (at_set (set views id (together v w)) other j nobody u q);
-      wide = λ j u q l. ⊎_elim
+      count_known = λ j u q l. ⊎_elim
           (λ (t : (j ≡ other) × (nobody ≡ u)). absurd (omega (arith, ap (λ (z : View). length (hands_in z)) t.1)))
           (λ (t : (j ≢ other) × (get_elem? (set views id (together v w)) j ≡ some u)). ⊎_elim
-          (λ (y : (j ≡ id) × (together v w ≡ u)). sym (ap seats_in y.1) ∙ F.wide id v at some_hand)
-          (λ (y : (j ≢ id) × (get_elem? views j ≡ some u)). F.wide j u y.1 l)
+          (λ (y : (j ≡ id) × (together v w ≡ u)). sym (ap seats_in y.1) ∙ F.count_known id v at some_hand)
+          (λ (y : (j ≢ id) × (get_elem? views j ≡ some u)). F.count_known j u y.1 l)
           (at_set views id j (together v w) u t.1))
           (at_set (set views id (together v w)) other j nobody u q);
       agree = subst (Agree x.len x.seats x.gone)
-          (sym (map_set (set views id (together v w)) other nobody ∙ ap (λ (l : List Hands). set l other []) (map_set views id (together v w)))) now;
+          (sym (map-set hands_in (set views id (together v w)) other nobody ∙ ap (λ (l : List Hands). set l other []) (map-set hands_in views id (together v w)))) now;
     })

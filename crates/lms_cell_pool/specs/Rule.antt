@@ -34,7 +34,7 @@ first_view v = Some (known (seats_in v) (first_hand (hands_in v)))
 abbrev pub other_views : View → View
 other_views v = Some (known (seats_in v) (other_hands (hands_in v)))
 
--- what knows of no seat
+-- a view that knows of no seat
 abbrev pub nobody : View
 nobody = Some (known 0 [])
 
@@ -45,10 +45,12 @@ handed_over v = nobody
 abbrev pub together : View → View → View
 together v w = Some (known (seats_in v) (hands_in w ++ hands_in v))
 
--- of a pool that was filled: the count and all hands agree, and who has a hand knows how many seats there are
+-- of a pool that was filled: each token knows something, one that has a hand knows how many seats there are, and the count and all hands
+-- agree. The rule lets more be gone than there are places, as that of the other pool's word does, so that both have one set of lemmas. No
+-- step of this pool does it; `look` and `finish` count as if one did
 pub record Filled (x : Places) (views : List View) : Type 0 where
-  pub full : (id : ℕ) (v : View) → get_elem? views id ≡ some v → v ≡ Some (known (seats_in v) (hands_in v))
-  pub wide : (id : ℕ) (v : View) → get_elem? views id ≡ some v → 0 < length (hands_in v) → seats_in v ≡ x.seats
+  pub told : (id : ℕ) (v : View) → get_elem? views id ≡ some v → v ≡ Some (known (seats_in v) (hands_in v))
+  pub count_known : (id : ℕ) (v : View) → get_elem? views id ≡ some v → 0 < length (hands_in v) → seats_in v ≡ x.seats
   pub agree : Agree x.len x.seats x.gone (map hands_in views)
 
 -- until it is filled, there is one token, which knows nothing
@@ -63,21 +65,21 @@ SeatTells P v w = (n : ℕ) (h : Hand) → v ≡ Some (known n (h ∷ [])) → (
 abbrev pub MakesAt : Call → Places → Hand → Hand → Type 0
 MakesAt call x h k = Makes call (reply_at h.len x.gone call) h k
 
--- the token has all hands
+-- the fill gives its token the hands of all seats
 abbrev pub filled : View → Places → Places → View → Type 0
 filled v x y w = w ≡ Some (known y.seats (new_hands y.len (below y.seats)))
 
 abbrev pub called_look : View → Places → Places → View → Type 0
 called_look v x y w = SeatTells (MakesAt Look x) v w
 
--- where places were left nothing happened, and where none was the call took effect
+-- the load of a claim or of a stop: where a place is left the hand stays, and where none is the call took effect
 abbrev pub peeked : Call → View → Places → Places → View → Type 0
 peeked call v x y w = SeatTells (λ h k. (x.gone < h.len → k ≡ h) × (h.len ≤ x.gone → MakesAt call x h k)) v w
 
--- where nothing changed nothing happened, and where more are gone the call took effect
+-- an exchange: where the cell kept its value the hand stays, and where more are gone after it the call took effect
 abbrev pub changed : Call → View → Places → Places → View → Type 0
 changed call v x y w = SeatTells (λ h k. (y ≡ x → k ≡ h) × (x.gone < y.gone → MakesAt call x h k)) v w
 
--- the rule held
+-- the last load tells that the rule held, with this token's view among the views
 abbrev pub found : View → Places → Places → View → Type 0
 found v x y w = (views : List View) × (id : ℕ) × (get_elem? views id ≡ some v) × CellKept x views

@@ -50,20 +50,20 @@ impl CellPool {
         ensures below { IfSome result (λ answer. IfOk answer (λ place. place < self.now.len)) }
         ensures none { IfNone result (me.new ≡ me.old) }
     {
-        let seen = self.cell.load_as::<PeekClaim, R>(rt, &mut me.token);
-        if seen.gone >= self.len {
+        let found = self.cell.load_as::<PeekClaim, R>(rt, &mut me.token);
+        if found.gone >= self.len {
             return Some(Err(Ended));
         }
         let next = Places {
-            gone: seen.gone + 1,
-            len: seen.len,
-            seats: seen.seats,
+            gone: found.gone + 1,
+            len: found.len,
+            seats: found.seats,
         };
         match self
             .cell
-            .compare_exchange_as::<Draw, R>(rt, &mut me.token, seen, next)
+            .compare_exchange_as::<Draw, R>(rt, &mut me.token, found, next)
         {
-            Ok(_) => Some(Ok(seen.gone)),
+            Ok(_) => Some(Ok(found.gone)),
             Err(_) => None,
         }
     }

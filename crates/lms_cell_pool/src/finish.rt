@@ -12,7 +12,7 @@ use std::sync::Wait;
 impl CellPool {
     /// Ends the pool where all its seats are there. Some history is the log of one of them, begins with the log of each, and
     /// has just the calls of each and no other; how many places it claimed, stopped and left is answered. What is left is not
-    /// given again.
+    /// given again. It takes the runtime to read the cell once more.
     ///
     /// `MissingSeats` where they are not, with the pool and the seats handed back as they were.
     pub fn finish<R: Wait>(

@@ -1,5 +1,5 @@
-//! The index pool of a lease over a ruled cell, whose calls wait for each other: the plain program beside `lms_pool`, under the same
-//! contracts. No product stands on it.
+//! An index pool over one ruled cell, under the contracts of `lms_pool`'s. Its calls wait for each other. Tests and timings hold
+//! `lms_pool` against it; no product stands on it.
 #![tactic(auto)]
 
 mod claim;

@@ -16,7 +16,7 @@ impl CellPool {
         ensures seat { me.new.pool ≡ self.now }
         ensures call { Calls me.old calls.Look (Count result) me.new }
     {
-        let seen = self.cell.load_as::<Look, R>(rt, &mut me.token);
-        seen.gone.min(self.len)
+        let found = self.cell.load_as::<Look, R>(rt, &mut me.token);
+        found.gone.min(self.len)
     }
 }

@@ -15,7 +15,8 @@ use std::snapshot::Snapshot;
 use std::sync::Wait;
 
 impl CellPool {
-    /// The pool of the lease's indices, and its seats, 1 to 64, numbered from 0 on.
+    /// The pool of the lease's indices, and its seats, 1 to 64, numbered from 0 on. It takes the runtime to fill the cell, where no other
+    /// call can be in its way.
     ///
     /// `OutOfMemory` where memory is refused, with the lease handed back as it was.
     pub fn over<R: Wait>(
@@ -62,7 +63,7 @@ impl CellPool {
         Ok((pool, all_seats))
     }
 
-    /// Writes how many places and seats there are, by the cell's first token, which has the hands of all seats then.
+    /// Writes into the cell how many places and seats there are, by its first token, which then stands for all seats.
     fn fill<R: Wait>(&self, rt: &R, first: &mut Token)
         requires table { first.old.table_id ≡ self.now.table }
         requires empty { cell_view first.old ≡ None }

@@ -3,7 +3,8 @@ use crate::pool::CellPool;
 use std::marker::Model;
 use std::snapshot::Snapshot;
 
-/// The right to sign by one index, as an `IndexPass`. It can't be copied, and can't be let go: it has to be spent, by `burn`.
+/// Like an `IndexPass`, the right to sign by one index. It can't be copied, and can't be let go: it has to be spent, by `burn`. Contracts
+/// see its pool and its place.
 pub struct CellPass {
     pub(crate) pool: Snapshot<CellPool>,
     pub(crate) place: u64,

@@ -31,7 +31,7 @@ impl Words<3> for Places {
     }
 }
 
-/// The number of all seats, and a hand for each seat that is spoken of.
+/// The number of all seats, and a hand for each seat that the token stands for.
 pub struct Known {
     pub seats: u64,
     pub hands: LinkedList<Hand, Global>,
@@ -113,7 +113,7 @@ impl Split<View> for Apart {
     ghost right = { first_view };
 }
 
-/// All hands go to a new token, since one that took steps can't be joined.
+/// All hands go to a new token, since a token is joined only as a split gave it.
 pub struct HandOver;
 
 impl Split<View> for HandOver {

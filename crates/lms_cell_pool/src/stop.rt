@@ -30,21 +30,21 @@ impl CellPool {
         ensures call { IfSome result (λ burnt. Calls me.old Stop (Count burnt) me.new) }
         ensures none { IfNone result (me.new ≡ me.old) }
     {
-        let seen = self.cell.load_as::<PeekStop, R>(rt, &mut me.token);
-        if seen.gone >= self.len {
+        let found = self.cell.load_as::<PeekStop, R>(rt, &mut me.token);
+        if found.gone >= self.len {
             return Some(0);
         }
         let next = Places {
             gone: self.len,
-            len: seen.len,
-            seats: seen.seats,
+            len: found.len,
+            seats: found.seats,
         };
         match self
             .cell
-            .compare_exchange_as::<Halt, R>(rt, &mut me.token, seen, next)
+            .compare_exchange_as::<Halt, R>(rt, &mut me.token, found, next)
         {
             Ok(_) => {
-                let burnt = self.len - seen.gone;
+                let burnt = self.len - found.gone;
                 me.stopped += burnt;
                 Some(burnt)
             }

@@ -1,4 +1,4 @@
-//! Tests of `lms_pool`.
+//! Tests of `lms_pool` and `lms_cell_pool`, written once for both.
 #![tactic(auto)]
 
 #[cfg(test)]

@@ -1,4 +1,4 @@
-//! The rows of both pools, over each of them.
+//! Each test runs over both pools.
 ghost use Rattle.std.specs.Prelude.{◌≡◌, ◌≤◌, All, IfOk};
 ghost use Rattle.lms_pool.specs.Rule.{most_seats};
 

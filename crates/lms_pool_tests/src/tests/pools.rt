@@ -1,5 +1,5 @@
 //! What both pools are to the tests.
-ghost use Rattle.std.specs.Prelude.{◌≡◌, ◌≤◌, All, IfErr, IfOk, vec_len};
+ghost use Rattle.std.specs.Prelude.{◌≡◌, ◌≤◌, All, IfErr, IfOk};
 ghost use Rattle.lms_pool.specs.Rule.{most_seats};
 ghost use Rattle.lms_pool.specs.States.{PoolState};
 
@@ -36,7 +36,6 @@ pub(crate) trait Pool: Sync {
     ) -> Result<(Self, Vec<Self::Seat>), (OutOfMemory, Lease)>
         requires some { 1 ≤ seats }
         requires at_most { seats ≤ most_seats }
-        ensures count { IfOk result (λ r. vec_len r.1 ≡ seats) }
         ensures own { IfOk result (λ r. All (λ seat. pool_of seat ≡ state r.0) r.1.items) };
 
     fn claim<R: Wait>(&self, rt: &R, me: &mut Self::Seat) -> Option<Claimed>

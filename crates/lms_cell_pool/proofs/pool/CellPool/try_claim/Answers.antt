@@ -8,8 +8,8 @@ use Rattle.lms_cell_pool.proofs.Steps.{changes, is_same, peeks, same_places}
 use Rattle.lms_cell_pool.proofs.Seats.{claim_rises, claim_stays, own_hand}
 use Rattle.lms_cell_pool.proofs.pool.CellPool.try_claim.Goals as goal
 
-pub load_as-seen-requires : goal.load_as-seen-requires
-load_as-seen-requires g c =
+pub load_as-found-requires : goal.load_as-found-requires
+load_as-found-requires g c =
     let me = c.me.inside in
     let same = ap (λ (s : SeatState). s.pool) c.me.view_is ∙ c.requires ∙ sym c.self.view_is in
     (search rules, (search rules, (c.me.invariant.table_is ∙ ap (λ (p : PoolState). p.table) same, peeks me.token.id (cell_view me.token) _ (own_hand me) Claim c.me.invariant.alone (claim_stays me.pool.value.len))))
@@ -18,12 +18,12 @@ pub compare_exchange_as-requires : goal.compare_exchange_as-requires
 compare_exchange_as-requires g c =
     let me = c.me.inside in
     let same = ap (λ (s : SeatState). s.pool) c.me.view_is ∙ c.requires ∙ sym c.self.view_is in
-    let seen = c.load_as-seen.result in
-    let low : seen.gone < me.pool.value.len = omega (arith, ap (λ (p : PoolState). p.len) same, c.if-seen-self.false) in
-    let told = c.load_as-seen.ensures.rule me.pool.value.seats (own_hand me) c.me.invariant.alone in
+    let seen = c.load_as-found.result in
+    let low : seen.gone < me.pool.value.len = omega (arith, ap (λ (p : PoolState). p.len) same, c.if-found-self.false) in
+    let told = c.load_as-found.ensures.rule me.pool.value.seats (own_hand me) c.me.invariant.alone in
     let is = told.1 ∙ ap (λ (h : Hand). Some (known me.pool.value.seats (h ∷ []))) (told.2.0 low) in
-    let token = c.load_as-seen.new.pass in
-    let here = c.load_as-seen.ensures.cell.0 ∙ (c.me.invariant.table_is ∙ ap (λ (p : PoolState). p.table) same) in
+    let token = c.load_as-found.new.pass in
+    let here = c.load_as-found.ensures.cell.0 ∙ (c.me.invariant.table_is ∙ ap (λ (p : PoolState). p.table) same) in
     let may = changes token.id (cell_view token) _ (own_hand me) Claim (λ x. is_same x seen) seen (record { gone = seen.gone + 1; len = seen.len; seats = seen.seats }) is
     (λ x e. same_places x seen e) refl refl (omega arith) (claim_rises me.pool.value.len seen.gone low) (omega (arith, low)) in
     (search rules, (search rules, (here, may)))
