@@ -5,12 +5,14 @@ use Rattle.lms_pool.specs.History.{places_in}
 use Rattle.lms_pool.specs.States.{PoolState, SeatState}
 use Rattle.lms_pool.specs.Ends.{IsWhole}
 use Rattle.lms_pool.proofs.Histories.{once_each}
-use Rattle.lms_pool.proofs.Wholes.{hands_length, nothing_before, sums}
+use Rattle.lms_pool.proofs.Wholes.{Sums, Whole, hands_length, nothing_before, sums}
 use Rattle.lms_cell_pool.specs.Rule.{View, hands_in}
 use Rattle.lms_cell_pool.proofs.Steps.{finds}
 use Rattle.lms_cell_pool.proofs.Views.{hands_over, merges}
 use Rattle.lms_cell_pool.proofs.Ends.{came, ending}
+use Rattle.lms_cell_pool.proofs.pool.CellPool.finish.Given.{Over}
 use Rattle.lms_cell_pool.proofs.pool.CellPool.finish.Goals as goal
+use Rattle.lms_cell_pool.proofs.pool.CellPool.finish.Goals.{After-load_as-found}
 
 pub loop-next-init : goal.loop-next-init
 loop-next-init g c =
@@ -61,8 +63,10 @@ load_as-found-requires g c =
     let all = c.loop-next.all in
     (search rules, (search rules, (c.loop-next.invariant.2, finds all.id (cell_view all))))
 
-pub overflow_sub-result-2 : goal.overflow_sub-result-2
-overflow_sub-result-2 g c =
+-- what the last load tells: the history of all seats, and the numbers that it makes
+tallied : (g : Over) (c : After-load_as-found g)
+    → (w : Whole c.args.self.len c.load_as-found.result.gone c.loop-next.invariant.0) × Sums c.args.self.len c.load_as-found.result.gone c.loop-next.stopped w.log
+tallied g c =
     let pool = c.args.self in
     let i = c.loop-next.invariant in
     let here = c.loop-next.seats in
@@ -72,29 +76,28 @@ overflow_sub-result-2 g c =
     let w = ending pool c.load_as-found.result (cell_view c.loop-next.all) (cell_view c.load_as-found.new.pass) here.items i.0 c.load_as-found.ensures.rule i.3 many none some
     (subst (All (λ (s : SeatState). s.pool ≡ pool)) i.1 c.requires) in
     let short : pool.len ≤ 1024 = omega (arith, c.self.invariant.lease.at_most, ap (λ (p : PoolState). p.len) c.self.view_is) in
-    let n = sums pool.len c.load_as-found.result.gone c.loop-next.stopped i.0 w short i.4 in
+    (w, sums pool.len c.load_as-found.result.gone c.loop-next.stopped i.0 w short i.4)
+
+pub overflow_sub-result-2 : goal.overflow_sub-result-2
+overflow_sub-result-2 g c =
+    let n = (tallied g (goal.at.overflow_sub-result-2 g c).After-load_as-found).1 in
     omega (arith, n.fits, c.saturating_sub-left.ensures, ap (λ (p : PoolState). p.len) c.self.view_is)
 
 pub returns-clause-history : goal.returns-clause-history
 returns-clause-history g c =
-    let pool = c.args.self in
+    let found = tallied g (goal.at.returns-clause-history g c).After-load_as-found in
+    let w = found.0 in
+    let n = found.1 in
     let i = c.loop-next.invariant in
-    let here = c.loop-next.seats in
-    let none : length here.items ≡ 0 = omega (arith, c.in_default-pop.ensures.cases, here.ok.0) in
-    let many : pool.seats ≤ length (here.items ++ i.0) = omega (arith, c.if-present-self.false, c.len-present.ensures, c.args.seats.ok.0, ap length i.1, ap (λ (p : PoolState). p.seats) c.self.view_is) in
-    let some : 1 ≤ pool.seats = omega (arith, c.self.invariant.some, ap (λ (p : PoolState). p.seats) c.self.view_is) in
-    let w = ending pool c.load_as-found.result (cell_view c.loop-next.all) (cell_view c.load_as-found.new.pass) here.items i.0 c.load_as-found.ensures.rule i.3 many none some
-    (subst (All (λ (s : SeatState). s.pool ≡ pool)) i.1 c.requires) in
-    let short : pool.len ≤ 1024 = omega (arith, c.self.invariant.lease.at_most, ap (λ (p : PoolState). p.len) c.self.view_is) in
-    let n = sums pool.len c.load_as-found.result.gone c.loop-next.stopped i.0 w short i.4 in
-    let all = i.1 ∙ nothing_before here.items i.0 none in
+    let none : length c.loop-next.seats.items ≡ 0 = omega (arith, c.in_default-pop.ensures.cases, c.loop-next.seats.ok.0) in
+    let all = i.1 ∙ nothing_before c.loop-next.seats.items i.0 none in
     let len = c.self.inside.len in
-    let same : len ≡ pool.len = ap (λ (p : PoolState). p.len) c.self.view_is in
+    let same : len ≡ c.args.self.len = ap (λ (p : PoolState). p.len) c.self.view_is in
     let claimed : len - c.saturating_sub-left.result - c.loop-next.stopped ≡ length (places_in w.log) = omega (arith, n.claimed, c.saturating_sub-left.ensures, same) in (
       w.log,
-      subst (λ (seats : List SeatState). IsWhole pool.len seats w.log) (sym all) w.is,
+      subst (λ (seats : List SeatState). IsWhole c.args.self.len seats w.log) (sym all) w.is,
       record {
-        claimed = (once_each pool.len w.log w.is.legal).0 ∙ ap below (sym claimed);
+        claimed = (once_each c.args.self.len w.log w.is.legal).0 ∙ ap below (sym claimed);
         stopped = n.burnt;
         left = omega (arith, c.saturating_sub-left.ensures, n.left, same);
       },
@@ -102,14 +105,5 @@ returns-clause-history g c =
 
 pub returns-clause-sum : goal.returns-clause-sum
 returns-clause-sum g c =
-    let pool = c.args.self in
-    let i = c.loop-next.invariant in
-    let here = c.loop-next.seats in
-    let none : length here.items ≡ 0 = omega (arith, c.in_default-pop.ensures.cases, here.ok.0) in
-    let many : pool.seats ≤ length (here.items ++ i.0) = omega (arith, c.if-present-self.false, c.len-present.ensures, c.args.seats.ok.0, ap length i.1, ap (λ (p : PoolState). p.seats) c.self.view_is) in
-    let some : 1 ≤ pool.seats = omega (arith, c.self.invariant.some, ap (λ (p : PoolState). p.seats) c.self.view_is) in
-    let w = ending pool c.load_as-found.result (cell_view c.loop-next.all) (cell_view c.load_as-found.new.pass) here.items i.0 c.load_as-found.ensures.rule i.3 many none some
-    (subst (All (λ (s : SeatState). s.pool ≡ pool)) i.1 c.requires) in
-    let short : pool.len ≤ 1024 = omega (arith, c.self.invariant.lease.at_most, ap (λ (p : PoolState). p.len) c.self.view_is) in
-    let n = sums pool.len c.load_as-found.result.gone c.loop-next.stopped i.0 w short i.4 in
+    let n = (tallied g (goal.at.returns-clause-sum g c).After-load_as-found).1 in
     omega (arith, n.fits, c.saturating_sub-left.ensures, ap (λ (p : PoolState). p.len) c.self.view_is)
