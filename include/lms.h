@@ -51,7 +51,7 @@ struct lms_piece {
     size_t len;
 };
 
-/* The same for a message that lies in pieces, as an image in several regions: piece_count of them, one after the other.
+/* The same for a message that lies in pieces, as firmware in several regions: piece_count of them, one after the other.
  *
  * Proved: true exactly where RFC 8554's definition accepts the pieces joined. */
 bool lms_verify_pieces(const uint8_t *public_key, size_t public_key_len,
@@ -67,7 +67,7 @@ bool lms_verify_pieces(const uint8_t *public_key, size_t public_key_len,
  * lms_message_head answers whether key and signature have a head, and writes it. It is false only where key or signature
  * ends before its number of levels, the key's isn't 1 to 8, the signature's isn't one less, an upper level's signature or the
  * key that it signs isn't there whole or isn't valid, or the bottom level's key or signature isn't of known typecodes that
- * agree, of its length, and of a leaf in the tree. No message is valid then: refuse the image, and hash nothing. True says
+ * agree, of its length, and of a leaf in the tree. No message is valid then: refuse the message, and hash nothing. True says
  * nothing of a message yet. The signatures of the upper levels, which sign keys, are
  * verified by both calls.
  *

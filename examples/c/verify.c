@@ -7,10 +7,10 @@
 
 static uint8_t public_key[LMS_PUBLIC_KEY_LEN + 1], signature[LMS_LONGEST_SIGNATURE_LEN + 1], block[4096];
 
-/* Of a longer file `room` bytes are kept: as it stands cut it is no key and no signature. */
-static size_t read_file(const char *name, uint8_t *bytes, size_t room) {
+/* Of a longer file only `capacity` bytes are kept; cut off, it is neither a key nor a signature. */
+static size_t read_file(const char *name, uint8_t *bytes, size_t capacity) {
     FILE *file = fopen(name, "rb");
-    size_t len = file ? fread(bytes, 1, room, file) : 0;
+    size_t len = file ? fread(bytes, 1, capacity, file) : 0;
     if (!file || ferror(file)) err(2, "%s", name);
     fclose(file);
     return len;

@@ -22,8 +22,10 @@ HoldsOnly [] (slot ∷ slots) = ⊥
 HoldsOnly (x ∷ xs) [] = ⊥
 
 -- the verifier accepts each signature for the message of its job
-pub record AreAccepted (public : List ℕ) (jobs : List JobText) (slots : List (Option (List ℕ))) : Type 0 where
-  pub each : (k : ℕ) (job : JobText) (signature : List ℕ) → slice_get jobs k ≡ Some job → slice_get slots k ≡ Some (Some signature)
+pub record AreAccepted (public : List ℕ) (jobs : List JobText)
+    (slots : List (Option (List ℕ))) : Type 0 where
+  pub each : (k : ℕ) (job : JobText) (signature : List ℕ) → slice_get jobs k ≡ Some job
+      → slice_get slots k ≡ Some (Some signature)
       → HssAccepts public job.message signature
 
 -- what slots hold
@@ -39,11 +41,13 @@ pub record Collected : Type 0 where
 
 -- none of the jobs is signed
 abbrev pub none_of : KeyOfCode → ℕ → List JobText → Collected
-none_of key start jobs = record { key = key; start = start; jobs = jobs; slots = replicate (length jobs) None }
+none_of key start jobs =
+    record { key = key; start = start; jobs = jobs; slots = replicate (length jobs) None }
 
--- the signature stands in the slot of its place
+-- the signature is in the slot of its place
 abbrev pub with_signature : Collected → SignedJob → Collected
-with_signature collected signed = record collected { slots = slice_set collected.slots signed.place (Some signed.signature) }
+with_signature collected signed =
+    record collected { slots = slice_set collected.slots signed.place (Some signed.signature) }
 
 -- both collect the same jobs of the same key from the same start
 pub record IsSameBatch (old new : Collected) : Type 0 where
@@ -51,10 +55,13 @@ pub record IsSameBatch (old new : Collected) : Type 0 where
   pub start : new.start ≡ old.start
   pub jobs : new.jobs ≡ old.jobs
 
--- what a collector keeps: each slot is empty or holds the signature of its job, which is accepted, and there is room to list all
-pub record IsCollecting (collected : Collected) (slots : ℕ) (listed : List (Vec ℕ Global)) (room : ℕ) : Type 0 where
+-- what a collector keeps: each slot is empty or holds the signature of its job, which is accepted,
+-- and there is capacity to list all
+pub record IsCollecting (collected : Collected) (slots : ℕ) (listed : List (Vec ℕ Global))
+    (room : ℕ) : Type 0 where
   pub holds : HoldsOnly (batch_of collected.key collected.start collected.jobs) collected.slots
-  pub accepted : AreAccepted (hss_public_key (hss_key_of collected.key)) collected.jobs collected.slots
+  pub accepted : AreAccepted
+      (hss_public_key (hss_key_of collected.key)) collected.jobs collected.slots
   pub one_each : slots ≡ length collected.jobs
   pub none_listed : listed ≡ []
   pub fits : slots ≤ room

@@ -2,7 +2,7 @@
 use Rattle.std.specs.Prelude.{◌≡◌, ℕ, ◌<◌, List, map}
 use Rattle.lms_spec.specs.Hss.{capacity_of, HssAccepts}
 use Rattle.lms_spec.specs.Profile.{hss_signature, hss_public_key}
-use Rattle.lms_hss.specs.Covered.{longest_lease}
+use Rattle.lms_hss.specs.Covered.{most_covered}
 use Rattle.lms_hss.specs.Keys.{hss_key_of}
 use Rattle.lms_hss.specs.declared.key.HssKey.{HssKey as KeyOfCode}
 use Rattle.lms_pool.specs.Rule.{most_seats}
@@ -10,7 +10,7 @@ use Rattle.lms_batch.specs.declared.job.Job.{Job}
 
 -- the most jobs of a batch
 abbrev pub most_jobs : ℕ
-most_jobs = longest_lease
+most_jobs = most_covered
 
 -- the most workers of a batch, each of which has a seat
 abbrev pub most_workers : ℕ
@@ -42,5 +42,6 @@ pub record SignedJob : Type 0 where
 -- what a receipt keeps: its signature is the standard's for its job by its index, and is accepted
 pub record IsSigned (signed : SignedJob) : Type 0 where
   pub text : signed.signature ≡ signature_of signed.key signed.index signed.job
-  pub accepted : HssAccepts (hss_public_key (hss_key_of signed.key)) signed.job.message signed.signature
+  pub accepted : HssAccepts
+      (hss_public_key (hss_key_of signed.key)) signed.job.message signed.signature
   pub within : signed.index < capacity_of (hss_key_of signed.key)

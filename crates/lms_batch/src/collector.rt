@@ -4,24 +4,13 @@ ghost use Rattle.lms_batch.specs.Jobs.{texts_of};
 ghost use Rattle.lms_batch.specs.Batches.{IsSameBatch, none_of, with_signature};
 ghost use Rattle.lms_batch.specs.Takes.{Belongs, IsEmpty, IsFault, IsBatchOf};
 
+use crate::fault::TakeFault;
 use crate::job::Job;
 use crate::receipt::Receipt;
 use lms_hss::{HssKey, same_key};
 use lms_params::OutOfMemory;
 use std::alloc::Global;
 use std::marker::Model;
-use thiserror::Error;
-
-/// Why a receipt was not taken.
-#[derive(Clone, Copy, Debug, PartialEq, Eq, Error)]
-pub enum TakeFault {
-    /// Its key, index or job is not that of its place in the batch, or there is no such place.
-    #[error("the receipt is not of this batch")]
-    Stranger,
-    /// Its place has a signature.
-    #[error("the place has a signature")]
-    Twice,
-}
 
 /// The signatures of a list of jobs, by indices from `start` on.
 #[derive(Drop)]
@@ -38,14 +27,15 @@ pub enum Batch {
     },
 }
 
-/// Puts the receipts of a list of jobs in order. Contracts see the key, the first index, the jobs, and a slot for each.
+/// Puts the receipts of a list of jobs in order. Contracts see the key, the first index, the jobs,
+/// and a slot for each.
 #[derive(Drop)]
 pub struct Collector<'j> {
     key: HssKey,
     start: u64,
     jobs: &'j [Job],
     slots: Vec<Option<Vec<u8>>>,
-    // Room for the list of a complete batch.
+    // Capacity for the list of a complete batch.
     signatures: Vec<Vec<u8>>,
 }
 
@@ -64,13 +54,20 @@ impl<'j> Model for Collector<'j> {
     } };
 
     ghost invariant = { λ c. IsCollecting
-        (record { key = c.key; start = c.start; jobs = texts_of c.jobs.now; slots = contents c.slots.items })
+        (record {
+          key = c.key;
+          start = c.start;
+          jobs = texts_of c.jobs.now;
+          slots = contents
+              c.slots.items;
+        })
         (vec_len c.slots) c.signatures.items (vec_capacity c.signatures) };
 }
 
 impl<'j> Collector<'j> {
-    /// A collector for these jobs, of which the one at place k is to be signed by index `start` + k of the key. All memory that
-    /// it and its batch need is taken here: `OutOfMemory` where it is refused.
+    /// A collector for these jobs, of which the one at place k is to be signed by index `start` + k
+    /// of the key. All memory that it and its batch need is taken here: `OutOfMemory` where it is
+    /// refused.
     pub fn new(alloc: Global, key: HssKey, start: u64, jobs: &'j [Job]) -> Result<Self, OutOfMemory>
         ensures { IfOk result (λ c. c ≡ none_of key start (texts_of jobs.now)) }
     {
@@ -90,12 +87,13 @@ impl<'j> Collector<'j> {
 
     /// Puts the signature of a receipt into the slot of its place.
     ///
-    /// `Stranger` where the receipt is of another key, where its index is not the first one plus its place, where its place is
-    /// past the jobs, or where its job is not the one of that place; else `Twice` where the slot is filled. Both hand the receipt
-    /// back and change nothing.
+    /// `Stranger` where the receipt is of another key, where its index is not the first one plus
+    /// its place, where its place is past the jobs, or where its job is not the one of that place;
+    /// else `Twice` where the slot is filled. Both hand the receipt back and change nothing.
     pub fn take(&mut self, receipt: Receipt<'j>) -> Result<(), (TakeFault, Receipt<'j>)>
         ensures taken { OnOk result (Belongs self.old receipt.entry
-            × IsEmpty self.old receipt.entry.place × (self.new ≡ with_signature self.old receipt.entry)) }
+            × IsEmpty self.old receipt.entry.place
+            × (self.new ≡ with_signature self.old receipt.entry)) }
         ensures refused { IfErr result (λ e. IsFault e.0 self.old receipt.entry
             × (self.new ≡ self.old) × (e.1 ≡ receipt.entry)) }
         ensures batch { IsSameBatch self.old self.new }

@@ -17,15 +17,16 @@ use lms_pool::DrawSeat;
 use std::alloc::Global;
 use std::thread::{self, Threads};
 
-/// What a batch needs before its lease is opened: a collector, and for each worker a place and room for the receipts of all
-/// jobs.
+/// What a batch needs before its lease is opened: a collector, and for each worker a place and a
+/// list with capacity for the receipts of all jobs.
 #[derive(Drop)]
 struct Crew<'a> {
     collector: Collector<'a>,
     jobs: &'a [Job],
     rooms: Vec<Vec<Receipt<'a>>>,
     workers: Vec<Worker<'a>>,
-    ghost room: { All (λ room. (vec_len room ≡ 0) × (length jobs.now ≤ vec_capacity room)) rooms.items },
+    ghost room: { All (λ room.
+        (vec_len room ≡ 0) × (length jobs.now ≤ vec_capacity room)) rooms.items },
     ghost fits: { vec_len workers + vec_len rooms ≤ vec_capacity workers },
 }
 
@@ -38,7 +39,8 @@ impl<'a> Crew<'a> {
         jobs: &'a [Job],
         workers: usize,
     ) -> Result<Crew<'a>, OutOfMemory>
-        ensures batch { IfOk result (λ crew. crew.collector ≡ none_of key start (texts_of jobs.now)) }
+        ensures batch { IfOk result (λ crew.
+            crew.collector ≡ none_of key start (texts_of jobs.now)) }
         ensures jobs { IfOk result (λ crew. crew.jobs.now ≡ jobs.now) }
         ensures rooms { IfOk result (λ crew. vec_len crew.rooms ≡ workers) }
         ensures none { IfOk result (λ crew. vec_len crew.workers ≡ 0) }
@@ -56,7 +58,7 @@ impl<'a> Crew<'a> {
         })
     }
 
-    /// Makes a worker for each room, with a seat of the open lease.
+    /// Makes a worker for each list, with a seat of the open lease.
     fn seated(self, lease: &'a OpenLease, seats: Vec<DrawSeat>) -> (Collector<'a>, Vec<Worker<'a>>)
         requires places { lease.now.len ≡ length self.jobs.now }
         requires own { All (λ seat. seat.pool ≡ lease.now) seats.items }
@@ -96,10 +98,12 @@ fn gathered<'a>(collector: Collector<'a>, workers: Vec<Worker<'a>>) -> Batch
     collector.finish()
 }
 
-/// Signs the jobs by the indices of the lease, one for each, by 1 to `MOST_WORKERS` workers, but no more than there are jobs.
-/// Tells `progress` how many leaves of the lease's forest are worked out.
+/// Signs the jobs by the indices of the lease, one for each, by 1 to `MOST_WORKERS` workers, but no
+/// more than there are jobs. Reports to `progress` how many leaves of the lease's forest are
+/// computed.
 ///
-/// `OutOfMemory` where memory is refused before any worker runs, with the lease handed back as it was.
+/// `OutOfMemory` where memory is refused before any worker runs, with the lease handed back as it
+/// was.
 pub(crate) fn sign_leased<R: Threads + Sync, G: Gate>(
     rt: &R,
     alloc: Global,

@@ -1,8 +1,9 @@
-//! What a worker tells while it signs.
+//! What a worker reports while it signs.
 use std::marker::Sync;
 
-/// Who is told of each signature that a worker of `sign_batch` makes. All workers call it, several at once. A worker goes on
-/// when the call returns, so a gate can hold it back, and a gate that does so holds `sign_batch` too.
+/// Called before and after each signature that a worker of `sign_batch` makes. Workers call it at
+/// the same time. A worker goes on when the call returns, so a gate can hold it back, and a gate
+/// that does so holds `sign_batch` too.
 pub trait Gate: Sync {
     /// Comes after a worker has claimed the place, before it signs the job there.
     fn before_sign(&self, place: u64);

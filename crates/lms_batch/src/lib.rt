@@ -1,9 +1,10 @@
-//! Jobs signed by the indices of a lease, which threads claim one after another without a wait, and the batch that their
-//! receipts make. `SigningService` signs a list of jobs so, over a shared book.
+//! Jobs signed by the indices of a lease. Threads claim the indices without waiting, and their
+//! receipts make a batch. `SigningService` signs a list of jobs this way, over a shared book.
 #![tactic(auto)]
 
 mod collector;
 mod crew;
+mod fault;
 mod gate;
 mod job;
 mod open_lease;
@@ -11,10 +12,11 @@ mod receipt;
 mod service;
 mod worker;
 
-pub use crate::collector::{Batch, Collector, TakeFault};
+pub use crate::collector::{Batch, Collector};
+pub use crate::fault::{BatchFault, SignFault, TakeFault};
 pub use crate::gate::{Gate, OpenGate};
 pub use crate::job::{Job, MOST_JOBS};
-pub use crate::open_lease::{OpenLease, SignFault};
+pub use crate::open_lease::OpenLease;
 pub use crate::receipt::Receipt;
-pub use crate::service::{BatchFault, MOST_WORKERS, SigningService};
+pub use crate::service::{MOST_WORKERS, SigningService};
 pub use lms_params::OutOfMemory;

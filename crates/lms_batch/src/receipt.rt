@@ -9,7 +9,8 @@ use crate::job::Job;
 use lms_hss::HssKey;
 use std::marker::Model;
 
-/// The signature of a job, with its place and its index. `OpenLease::sign_with` alone makes one. It has the private key in it.
+/// The signature of a job, with its place and its index. `OpenLease::sign_with` alone makes one. It
+/// contains the private key.
 #[derive(Drop)]
 pub struct Receipt<'j> {
     pub(crate) key: HssKey,
@@ -75,7 +76,8 @@ impl<'j> Receipt<'j> {
     pub fn signature(&self) -> &[u8]
         ensures value { result.now ≡ self.now.signature }
         ensures signed { result.now ≡ signature_of self.now.key self.now.index self.now.job }
-        ensures accepted { HssAccepts (hss_public_key (hss_key_of self.now.key)) self.now.job.message result.now }
+        ensures accepted { HssAccepts
+            (hss_public_key (hss_key_of self.now.key)) self.now.job.message result.now }
     {
         self.signature.as_slice()
     }

@@ -1,7 +1,7 @@
 //! Workers, each of which signs the jobs of the places that it claims.
 ghost use Rattle.std.specs.Prelude.{◌≡◌, ◌+◌, ◌≤◌, Some, IfSome, IfNone, length, slice_get, vec_len, vec_capacity};
-ghost use Rattle.lms_pool.specs.declared.history.Call.TheVariants.{Claim};
-ghost use Rattle.lms_pool.specs.declared.history.Reply.TheVariants.{Place};
+ghost use Rattle.lms_pool.specs.declared.call_log.Call.TheVariants.{Claim};
+ghost use Rattle.lms_pool.specs.declared.call_log.Reply.TheVariants.{Place};
 ghost use Rattle.lms_pool.specs.States.{Calls, seen};
 ghost use Rattle.lms_batch.specs.Jobs.{texts_of};
 
@@ -11,7 +11,8 @@ use crate::open_lease::OpenLease;
 use crate::receipt::Receipt;
 use lms_pool::{DrawSeat, IndexPass};
 
-/// A worker at a seat of an open lease. It has room for a receipt of each job that it may still sign.
+/// A worker at a seat of an open lease. It has capacity for a receipt of each job that it may still
+/// sign.
 #[derive(Drop)]
 pub(crate) struct Worker<'a> {
     lease: &'a OpenLease,
@@ -26,7 +27,8 @@ pub(crate) struct Worker<'a> {
 }
 
 impl<'a> Worker<'a> {
-    /// A worker for these jobs, one for each place of the lease, with room for their receipts.
+    /// A worker for these jobs, one for each place of the lease, with a list that has capacity for
+    /// their receipts.
     pub(crate) fn new(
         lease: &'a OpenLease,
         jobs: &'a [Job],
@@ -47,7 +49,8 @@ impl<'a> Worker<'a> {
         }
     }
 
-    /// Signs the jobs of the places that it claims, until no place is left. Where memory is refused, it leaves none.
+    /// Signs the jobs of the places that it claims, until no place is left. Where memory is
+    /// refused, it leaves none.
     pub(crate) fn work<G: Gate>(&mut self, gate: &G)
         ensures { seen self.new.seat ≡ self.new.lease.now.len }
     {
@@ -60,11 +63,13 @@ impl<'a> Worker<'a> {
         }
     }
 
-    /// Claims a place and signs its job. `None` where no place is left, and where memory is refused: then the pass is burnt and
-    /// the pool stopped.
+    /// Claims a place and signs its job. `None` where no place is left, and where memory is
+    /// refused: then the pass is burnt and the pool stopped.
     fn sign_next<G: Gate>(&mut self, gate: &G) -> Option<Receipt<'a>>
-        ensures one_claim { IfSome result (λ signed. Calls self.old.seat Claim (Place signed.place) self.new.seat) }
-        ensures job { IfSome result (λ signed. slice_get (texts_of self.old.jobs.now) signed.place ≡ Some signed.job) }
+        ensures one_claim { IfSome result (λ signed.
+            Calls self.old.seat Claim (Place signed.place) self.new.seat) }
+        ensures job { IfSome result (λ signed.
+            slice_get (texts_of self.old.jobs.now) signed.place ≡ Some signed.job) }
         ensures none { IfNone result (seen self.new.seat ≡ self.new.lease.now.len) }
         ensures to_sign { self.new.to_sign ≡ self.old.to_sign }
     {

@@ -4,8 +4,9 @@ mod faults;
 mod fixtures;
 mod service;
 
-use crate::tests::fixtures::{CHEAP, LEVELS, job, key_of, opened, public_key};
+use crate::tests::fixtures::{CHEAP, LEVELS, job, opened, public_key};
 use lms_batch::{Batch, Collector, Job, OpenLease, Receipt, SignFault, TakeFault};
+use lms_fixtures::key_of;
 use lms_hss::verify;
 use lms_params::{LmsType, OtsType, OutOfMemory};
 use lms_pool::{DrawSeat, IndexPass, MissingSeats};
@@ -142,7 +143,8 @@ fn signs_twice(
     Ok(is_at(alloc, &first, job, 0, start)? && is_at(alloc, &second, job, 1, start + 1)?)
 }
 
-/// Ends a lease whose one seat is there, and answers how many places were claimed, stopped and left.
+/// Ends a lease whose one seat is there, and answers how many places were claimed, stopped and
+/// left.
 fn finished(alloc: Global, lease: OpenLease, seat: DrawSeat) -> Result<(u64, u64, u64), Fail>
     requires { seat.pool ≡ lease }
 {
@@ -170,7 +172,7 @@ fn finished_with(
     }
 }
 
-/// How many places are gone, how many a stop burns, and whether no place is left then.
+/// How many places are taken, how many a stop burns, and whether no place is left then.
 fn stopped(lease: &OpenLease, seat: &mut DrawSeat, job: &Job) -> (u64, u64, bool)
     requires { seat.old.pool ≡ lease.now }
     ensures { seat.new.pool ≡ lease.now }
@@ -212,7 +214,8 @@ fn after_claims(lease: &OpenLease, seat: DrawSeat, claims: u64) -> DrawSeat
     seat
 }
 
-/// The receipt of a job that another book of a key of this seed signed, at a place of a lease from `start` on.
+/// The receipt of a job that another book of a key of this seed signed, at a place of a lease from
+/// `start` on.
 fn receipt_of_another<'j>(
     rt: &(impl AllocGlobal + Threads + Sync),
     seed: u8,
@@ -228,8 +231,8 @@ fn receipt_of_another<'j>(
     signed(&lease, &mut seat, job)
 }
 
-/// A receipt of another book: the seed of its key, where its lease begins, the place of the lease, which of two jobs, and why it is
-/// not taken.
+/// A receipt of another book: the seed of its key, where its lease begins, the place of the lease,
+/// which of two jobs, and why it is not taken.
 type Row = (u8, u64, u64, usize, Option<TakeFault>);
 
 /// Receipts of another book, one after another.
@@ -303,7 +306,8 @@ fn is_signed_so(
     Ok(signature == slow.as_slice() && verify(public, &job.message, signature))
 }
 
-/// Whether a batch is complete, from this index on, with the slow signer's signatures of these jobs, which the verifier accepts.
+/// Whether a batch is complete, from this index on, with the slow signer's signatures of these
+/// jobs, which the verifier accepts.
 pub(crate) fn is_complete(
     rt: &(impl AllocGlobal + Threads + Sync),
     batch: &Batch,
@@ -364,7 +368,8 @@ fn is_of(receipt: &Receipt, place: u64, index: u64) -> bool {
     receipt.place() == place && receipt.index() == index
 }
 
-/// Whether a collector takes receipts of its two jobs, by indices 5 and 6 of 5/2,5/2, where any request for memory may be refused.
+/// Whether a collector takes receipts of its two jobs, by indices 5 and 6 of 5/2,5/2, where any
+/// request for memory may be refused.
 fn takes_at_last<'j>(
     rt: &(impl AllocGlobal + Threads + Sync),
     collector: &mut Collector<'j>,
@@ -388,7 +393,7 @@ fn is_complete_from(batch: &Batch, first: u64) -> bool {
     }
 }
 
-/// `tests/refused` refuses each request for memory in turn.
+/// The merge check refuses each request for memory in turn.
 #[test]
 fn a_lease_signs_after_refused_memory(rt: HostRuntime) -> Result<(), Fail> {
     let jobs = two_jobs(rt.alloc(), b"abc", b"")?;

@@ -10,14 +10,15 @@ use std::io::{ErrorKind, Read};
 #[cfg(test)]
 mod tests;
 
-/// Reads once, again where it was interrupted: the first bytes of the block are then the next ones of the reader, as many as
-/// are answered, none where the reader is at its end.
+/// Reads once, again where it was interrupted: the first bytes of the block are then the next ones
+/// of the reader, as many as are answered, none where the reader is at its end.
 ///
 /// An error is the reader's own; no byte is taken from it then.
 pub fn read_block<R: Read>(reader: &mut R, block: &mut [u8]) -> io::Result<usize>
     requires { 0 < length block.old }
     ensures bound { IfOk result (λ n. n ≤ length block.new) }
-    ensures bytes { IfOk result (λ n. Consumes (R.remaining reader.old) (R.remaining reader.new) (take n block.new)) }
+    ensures bytes { IfOk result (λ n.
+        Consumes (R.remaining reader.old) (R.remaining reader.new) (take n block.new)) }
     ensures end { IfOk result (λ n. n ≡ 0 → IsAtEnd (R.remaining reader.new)) }
     ensures kept { OnErr result (Keeps (R.remaining reader.old) (R.remaining reader.new)) }
 {

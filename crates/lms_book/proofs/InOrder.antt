@@ -4,12 +4,12 @@ use Rattle.std.specs.Prelude.{AllPairs, Result, Ok, Err}
 use Rattle.std.specs.List.{AllByRecursion}
 use Rattle.lms_book.specs.declared.history.Entry.{Entry}
 use Rattle.lms_book.specs.declared.history.Entry.TheVariants.{Given, Burnt}
-use Rattle.lms_book.specs.declared.refusals.BookFault.{BookFault}
-use Rattle.lms_book.specs.declared.refusals.BookFault.TheVariants.{Exhausted, OutOfMemory, Store}
+use Rattle.lms_book.specs.declared.fault.BookFault.{BookFault}
+use Rattle.lms_book.specs.declared.fault.BookFault.TheVariants.{Exhausted, OutOfMemory, Store}
 use Rattle.lms_image.specs.Image.{HasImage}
 use Rattle.lms_book.specs.History.{Range, range_of, end, counter_of, burnt_after, leases}
-use Rattle.lms_book.specs.Stops.{Texts, MayLeave}
-use Rattle.lms_book.specs.States.{BookState, LeaseState, ReservationsState, reservations_of, IsOpenedFrom, IsSafe}
+use Rattle.lms_book.specs.Stops.{MayLeave}
+use Rattle.lms_book.specs.States.{BookState, LeaseState, ReservationsState, reservations_of, IsSameOpening, IsSafe}
 use Rattle.lms_book.specs.Books.{counter, burnt_now, Reserves, Follows, IsInOrder, ReservesInOrder}
 use Rattle.lms_book.proofs.Histories.{counter-push, burnt-push, recount, next_counted, safe_given, safe_burnt}
 use Rattle.lms_book.proofs.Leaving.{leaves_written, leaves_failed}
@@ -41,28 +41,29 @@ order_of book r is order =
     in_order book mine.counted mine.safe
 
 -- the reservations of a book whose history alone changed
-with_history : (old new : BookState) (history : List Entry) → new.key ≡ old.key → new.base ≡ old.base → new.openings ≡ old.openings → new.burnt ≡ old.burnt
-    → new.history ≡ history → reservations_of new ≡ record { key = old.key; base = old.base; openings = old.openings; burnt = old.burnt; history = history }
-with_history old new history k b o u h = λ i. record { key = k i; base = b i; openings = o i; burnt = u i; history = h i }
+with_history : (old new : BookState) (history : List Entry) → IsSameOpening old new → new.history ≡ history
+    → reservations_of new ≡ record { key = old.key; base = old.base; openings = old.openings; burnt = old.burnt; history = history }
+with_history old new history same h =
+    λ i. record { key = same.key i; base = same.base i; openings = same.openings i; burnt = same.burnt i; history = h i }
 
 pub order_stays : (n : ℕ) (old : BookState) (answer : Result LeaseState BookFault) (new : BookState) → 1 ≤ n
-    → new.key ≡ old.key → new.base ≡ old.base → new.openings ≡ old.openings → new.burnt ≡ old.burnt → IsInOrder old → Reserves n old answer new → IsInOrder new
-order_stays n old (Ok lease) new some k b o u order (room, is, history, wrote) =
+    → IsSameOpening old new → IsInOrder old → Reserves n old answer new → IsInOrder new
+order_stays n old (Ok lease) new some opening order (room, is, history, wrote) =
     let r = reservations_of old in
     let counted = next_counted old.key (counter old) old.openings (burnt_now old) n order.counted some room in
-    order_of new _ (with_history old new (old.history ++ Given n ∷ []) k b o u history) (record {
+    order_of new _ (with_history old new (old.history ++ Given n ∷ []) opening history) (record {
       counted = recount old.key (counter old) old.openings (burnt_now old) _ old.openings _ order.counted
           (omega (arith, room, counter-push old.base old.history (Given n)))
           (omega (arith, order.counted.openings_within, counter-push old.base old.history (Given n)))
           (omega (arith, order.counted.burnt_within, counter-push old.base old.history (Given n), burnt-push old.burnt old.history (Given n)));
       safe = safe_given r n old.store new.store counted (leaves_written _ old.store new.store wrote);
     })
-order_stays n old (Err (Exhausted left)) new some k b o u order (full, is, same) = subst (λ (book : BookState). IsInOrder book) (sym same) order
-order_stays n old (Err OutOfMemory) new some k b o u order (room, same) = subst (λ (book : BookState). IsInOrder book) (sym same) order
-order_stays n old (Err (Store start len)) new some k b o u order (room, s, l, history, failed) =
+order_stays n old (Err (Exhausted left)) new some opening order (full, is, same) = subst (λ (book : BookState). IsInOrder book) (sym same) order
+order_stays n old (Err OutOfMemory) new some opening order (room, same) = subst (λ (book : BookState). IsInOrder book) (sym same) order
+order_stays n old (Err (Store start len)) new some opening order (room, s, l, history, failed) =
     let r = reservations_of old in
     let counted = next_counted old.key (counter old) old.openings (burnt_now old) n order.counted some room in
-    order_of new _ (with_history old new (old.history ++ Burnt n ∷ []) k b o u history) (record {
+    order_of new _ (with_history old new (old.history ++ Burnt n ∷ []) opening history) (record {
       counted = recount old.key (counter old) old.openings (burnt_now old) _ old.openings _ order.counted
           (omega (arith, room, counter-push old.base old.history (Burnt n)))
           (omega (arith, order.counted.openings_within, counter-push old.base old.history (Burnt n)))
@@ -71,15 +72,6 @@ order_stays n old (Err (Store start len)) new some k b o u order (room, s, l, hi
     })
 
 pub reserved_in_order : (n : ℕ) (old : BookState) (answer : Result LeaseState BookFault) (new : BookState) → 1 ≤ n
-    → IsInOrder old → new.key ≡ old.key → new.base ≡ old.base → new.openings ≡ old.openings → new.burnt ≡ old.burnt
-    → ((held : Texts) → IsOpenedFrom held old → IsOpenedFrom held new) → Reserves n old answer new → ReservesInOrder n old answer new
-reserved_in_order n old answer new some order k b o u opened is = record {
-  found = order;
-  key = k;
-  base = b;
-  openings = o;
-  burnt = u;
-  opened = opened;
-  reserves = is;
-  left = order_stays n old answer new some k b o u order is;
-}
+    → IsInOrder old → IsSameOpening old new → Reserves n old answer new → ReservesInOrder n old answer new
+reserved_in_order n old answer new some order opening is =
+    record { found = order; opening = opening; reserves = is; left = order_stays n old answer new some opening order is }

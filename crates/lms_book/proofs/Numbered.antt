@@ -1,4 +1,5 @@
--- In every life of a store, an opening carries a higher number than each earlier opening that gave a lease.
+-- In every life of a store, an opening carries a higher number than each earlier opening that gave
+-- a lease.
 use Rattle.std.proofs.Common.{ℕ, zero, suc, ◌+◌, ◌<◌, ◌≤◌, List, [], ◌∷◌, arith}
 use Rattle.std.specs.Prelude.{Contains}
 use Rattle.std.specs.List.{AllByRecursion}

@@ -1,7 +1,7 @@
 pub mod Books
+pub mod Faults
 pub mod History
 pub mod Lives
 pub mod Memory
-pub mod Refusals
 pub mod States
 pub mod Stops

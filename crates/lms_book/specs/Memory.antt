@@ -5,9 +5,9 @@ use Rattle.std.proofs.Math.ListN.{set}
 use Rattle.lms_book.specs.declared.plans.Left.{Left}
 use Rattle.lms_book.specs.declared.plans.Left.TheVariants.{Old, New}
 use Rattle.lms_book.specs.declared.plans.Plan.{Plan}
-use Rattle.lms_book.specs.declared.store.ReadFault.{ReadFault}
-use Rattle.lms_book.specs.declared.store.ReadFault.TheVariants.{Device, OutOfMemory}
-use Rattle.lms_book.specs.declared.store.StoreFault.{StoreFault}
+use Rattle.lms_book.specs.declared.fault.ReadFault.{ReadFault}
+use Rattle.lms_book.specs.declared.fault.ReadFault.TheVariants.{Device, OutOfMemory}
+use Rattle.lms_book.specs.declared.fault.StoreFault.{StoreFault}
 use Rattle.lms_book.specs.Stops.{Texts, StoreView, longest_text, only, raised}
 
 pub record MemoryState : Type 0 where
@@ -16,23 +16,30 @@ pub record MemoryState : Type 0 where
   pub text : Option (List ℕ)
   -- what the last read gave, none before one
   pub given : Option (List ℕ)
-  -- how many writes it has room for
+  -- its capacity for writes
   pub room : ℕ
   pub failures : ℕ
   -- how the next writes are to fail, and whether the next reads are, eight each
   pub writes : List (Option Plan)
   pub reads : List Bool
-  -- whether the program stopped in a write
+  -- whether the program crashed in a write
   pub stopped : Bool
 
--- a stop leaves the text that is held, and none where there is none
+-- a crash leaves the text that is held, and none where there is none
 abbrev pub held : Option (List ℕ) → Texts
 held None = Some []
 held (Some text) = only text
 
 -- what contracts see of it, as of any store
 abbrev pub view_of : MemoryState → StoreView
-view_of store = record { now = held store.text; past = map held store.past; given = store.given; failures = store.failures }
+view_of store =
+    record {
+      now = held store.text;
+      past = map held store.past;
+      given = store.given;
+      failures =
+          store.failures;
+    }
 
 -- nothing recorded, given, counted or planned
 pub record IsFresh (room : ℕ) (store : MemoryState) : Type 0 where
@@ -73,11 +80,16 @@ abbrev pub is_stop : Option Plan → Bool
 is_stop None = false
 is_stop (Some plan) = plan.stops
 
--- the plans for writes come one place nearer
+-- the plans for writes move one place forward
 abbrev pub past_write : MemoryState → MemoryState
-past_write store = record store { writes = drop 1 store.writes ++ None ∷ []; stopped = store.stopped || is_stop (next_write store) }
+past_write store =
+    record store {
+      writes = drop 1 store.writes
+          ++ None ∷ [];
+      stopped = store.stopped || is_stop (next_write store);
+    }
 
--- the plans for reads come one place nearer
+-- the plans for reads move one place forward
 abbrev pub past_read : MemoryState → MemoryState
 past_read store = record store { reads = drop 1 store.reads ++ false ∷ [] }
 
@@ -95,12 +107,16 @@ left_by New store text = holding store text
 -- a write fails as it is planned to, or where the store can't take it, with the old text left
 abbrev pub FailsAsPlanned : MemoryState → List ℕ → MemoryState → Type 0
 FailsAsPlanned old text new =
-    (Takes old text × ((plan : Plan) × (next_write old ≡ Some plan) × (new ≡ failed (left_by plan.left (past_write old) text))))
+    (Takes old text
+    × ((plan : Plan) × (next_write old ≡ Some plan)
+    × (new ≡ failed (left_by plan.left (past_write old) text))))
     ⊎ ((¬ Takes old text) × (new ≡ failed (past_write old)))
 
 -- what a write of this text answers and leaves
-abbrev pub Replaces : {T : Type 0} → MemoryState → List ℕ → Result T StoreFault → MemoryState → Type 0
-Replaces old text (Ok done) new = Takes old text × (next_write old ≡ None) × (new ≡ holding (past_write old) text)
+abbrev pub Replaces : {T : Type 0} → MemoryState → List ℕ → Result T StoreFault → MemoryState
+    → Type 0
+Replaces old text (Ok done) new =
+    Takes old text × (next_write old ≡ None) × (new ≡ holding (past_write old) text)
 Replaces old text (Err fault) new = FailsAsPlanned old text new
 
 -- the store can read, and the next read is not to fail
@@ -115,6 +131,7 @@ MayFail store = ¬ CanRead store
 
 -- what a read answers and leaves
 abbrev pub Reads : MemoryState → Result (Vec ℕ) ReadFault → MemoryState → Type 0
-Reads old (Ok text) new = CanRead old × (old.text ≡ Some text.items) × (new ≡ giving (past_read old) text.items)
+Reads old (Ok text) new =
+    CanRead old × (old.text ≡ Some text.items) × (new ≡ giving (past_read old) text.items)
 Reads old (Err Device) new = (¬ CanRead old) × (new ≡ failed (past_read old))
 Reads old (Err OutOfMemory) new = CanRead old × (new ≡ past_read old)

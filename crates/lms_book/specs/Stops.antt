@@ -1,15 +1,16 @@
--- What a store is to contracts: what a stop of the program leaves in it, now and at each moment before, what it gave last, and how
--- many calls failed.
+-- What a store is to contracts: what a crash leaves in it, now and at each moment before, what its
+-- last read gave, and how many calls failed. A text is a list of bytes.
 use Rattle.std.specs.Prelude.{◌≡◌, ◌⊎◌, ℕ, ◌+◌, ◌^◌, ◌-◌, max, min, List, [], ◌∷◌, ◌++◌, Contains, drop, length, Option, Some, None, Result, Ok, Err}
 use Rattle.std.specs.Global.{Vec}
-use Rattle.lms_book.specs.declared.store.ReadFault.{ReadFault}
-use Rattle.lms_book.specs.declared.store.ReadFault.TheVariants.{Device, OutOfMemory}
+use Rattle.lms_book.specs.declared.fault.ReadFault.{ReadFault}
+use Rattle.lms_book.specs.declared.fault.ReadFault.TheVariants.{Device, OutOfMemory}
 
 -- the most bytes of a text that a store keeps without taking memory
 abbrev pub longest_text : ℕ
 longest_text = 256
 
--- the texts of which a stop leaves one, and none where there is none; `None` where it may be any text
+-- the texts of which a crash leaves one, and none where there is none; `None` where it may be any
+-- text
 abbrev pub Texts : Type 0
 Texts = Option (List (List ℕ))
 
@@ -26,15 +27,16 @@ abbrev pub or_else : List ℕ → Texts → Texts
 or_else text None = None
 or_else text (Some texts) = Some (text ∷ texts)
 
--- what contracts see of a store: the texts that a stop could leave now, those that it could leave at each moment before, the first
--- moment first, the text that the last read gave, none before one, and how many calls failed
+-- what contracts see of a store: the texts that a crash could leave now, those that it could leave
+-- at each moment before, the first moment first, the text that the last read gave, none before one,
+-- and how many calls failed
 pub record StoreView : Type 0 where
   pub now : Texts
   pub past : List Texts
   pub given : Option (List ℕ)
   pub failures : ℕ
 
--- a stop now could leave this text
+-- a crash now could leave this text
 abbrev pub MayLeave : StoreView → List ℕ → Type 0
 MayLeave store text = IsAmong store.now text
 
@@ -42,7 +44,7 @@ MayLeave store text = IsAmong store.now text
 abbrev pub raised : ℕ → ℕ
 raised n = max n (min (n + 1) (2 ^ 64 - 1))
 
--- a moment later a stop leaves one of these
+-- a moment later a crash leaves one of these
 abbrev pub moved : Texts → StoreView → StoreView
 moved texts store = record store { now = texts; past = store.past ++ store.now ∷ [] }
 
@@ -58,14 +60,16 @@ having_given text store = record store { given = Some text }
 abbrev pub after_failure : StoreView → StoreView
 after_failure store = record store { failures = raised store.failures }
 
--- what a stop leaves once a write of this text began and failed: the text, or the text or what it left before
+-- what a crash leaves once a write of this text began and failed: the text, or the text or what it
+-- left before
 abbrev pub IsLeftBy : List ℕ → Texts → Texts → Type 0
 IsLeftBy text before after = (after ≡ only text) ⊎ (after ≡ or_else text before)
 
 -- a write of this text failed, before it began or later
 abbrev pub FailsToWrite : List ℕ → StoreView → StoreView → Type 0
 FailsToWrite text old new =
-    (new ≡ after_failure old) ⊎ ((texts : Texts) × IsLeftBy text old.now texts × (new ≡ after_failure (moved texts old)))
+    (new ≡ after_failure old)
+    ⊎ ((texts : Texts) × IsLeftBy text old.now texts × (new ≡ after_failure (moved texts old)))
 
 -- what a write of this text answers and leaves
 abbrev pub WritesStore : {T E : Type 0} → List ℕ → StoreView → Result T E → StoreView → Type 0
@@ -74,14 +78,17 @@ WritesStore text old (Err fault) new = FailsToWrite text old new
 
 -- what a read answers and leaves, where the device may fail or may not
 abbrev pub ReadsStore : Type 0 → StoreView → Result (Vec ℕ) ReadFault → StoreView → Type 0
-ReadsStore may_fail old (Ok text) new = MayLeave old text.items × (new ≡ having_given text.items old)
+ReadsStore may_fail old (Ok text) new =
+    MayLeave old text.items × (new ≡ having_given text.items old)
 ReadsStore may_fail old (Err Device) new = may_fail × (new ≡ after_failure old)
 ReadsStore may_fail old (Err OutOfMemory) new = new ≡ old
 
--- the moments of a call, from what the store was to what it is: those that the call put behind the earlier ones, and the one now
+-- the moments of a call, from what the store was to what it is: those that the call added after the
+-- earlier ones, and the one now
 abbrev pub moments_since : StoreView → StoreView → List Texts
 moments_since old new = drop (length old.past) new.past ++ new.now ∷ []
 
--- a stop at some moment of a call could leave this text
+-- a crash at some moment of a call could leave this text
 abbrev pub LeavesWithin : StoreView → StoreView → List ℕ → Type 0
-LeavesWithin old new text = (texts : Texts) × Contains (moments_since old new) texts × IsAmong texts text
+LeavesWithin old new text =
+    (texts : Texts) × Contains (moments_since old new) texts × IsAmong texts text

@@ -1,21 +1,20 @@
 //! Reservations one after another, each stored before its lease is given.
-ghost use Rattle.std.specs.Prelude.{◌≡◌, ◌+◌, ◌≤◌, ◌↔◌, [], IfOk, IfErr, IsTrue, Contains};
+ghost use Rattle.std.specs.Prelude.{◌≡◌, ◌+◌, ◌≤◌, [], IfOk, IfErr};
 ghost use Rattle.lms_spec.specs.Hss.{capacity_of};
-ghost use Rattle.lms_hss.specs.Covered.{longest_lease};
+ghost use Rattle.lms_hss.specs.Covered.{most_covered};
 ghost use Rattle.lms_hss.specs.Keys.{hss_key_of};
 
-use crate::history::is_given;
-use crate::refusals::{BookFault, OpenFault};
+use crate::fault::{BookFault, OpenFault, ReadFault, StoreFault};
 use crate::reservations::Reservations;
-use crate::store::{ReadFault, StateStore, StoreFault};
-use lms_hss::{HssKey, same_key};
+use crate::store::StateStore;
+use lms_hss::HssKey;
 use lms_image::{decode_image, encode_image};
 use std::alloc::Global;
 use std::marker::Model;
 use std::ops::Deref;
 
-/// Indices of a key that were given, 1 to 1024 of them, and are never given again. A lease can't be copied, and can't
-/// be let go: it has to be spent, by `give_back` of its book or by `end`. `Book::reserve` alone makes one.
+/// 1 to 1024 indices of a key, which are given once and never again. A lease can't be copied or
+/// dropped: `give_back` of its book or `end` spends it. Only `Book::reserve` makes one.
 pub struct Lease {
     key: HssKey,
     start: u64,
@@ -52,7 +51,7 @@ impl Lease {
     pub fn len(&self) -> u64
         ensures len { result ≡ self.now.len }
         ensures some { 1 ≤ result }
-        ensures at_most { result ≤ longest_lease }
+        ensures at_most { result ≤ most_covered }
     {
         self.len
     }
@@ -67,10 +66,11 @@ impl Lease {
     }
 }
 
-/// A store, and what was reserved of its key since it was opened. Contracts see the key, the numbers that were read, the
-/// reservations, and what a crash would leave in the store.
+/// A store, and what was reserved of its key since it was opened. Contracts see the key, the
+/// numbers that were read, the reservations, and what a crash would leave in the store.
 ///
-/// `key`, `base`, `openings`, `burnt`, `history`, `counter`, `stored` and `knows` are those of its `Reservations`.
+/// `key`, `base`, `openings`, `burnt`, `history`, `counter`, `stored` and `knows` are those of its
+/// `Reservations`.
 #[derive(Drop)]
 pub struct Book<S: StateStore> {
     store: S,
@@ -108,22 +108,24 @@ impl<S: StateStore> Deref for Book<S> {
 
 impl<S: StateStore> Book<S> {
     ghost use Rattle.lms_image.specs.Image.{HasImage};
-    ghost use Rattle.lms_book.specs.History.{leases, range_of};
     ghost use Rattle.lms_book.specs.Stops.{Texts};
-    ghost use Rattle.lms_book.specs.States.{IsOpenedFrom, reservations_of};
+    ghost use Rattle.lms_book.specs.States.{IsOpenedFrom, IsSameOpening, reservations_of};
     ghost use Rattle.lms_book.specs.Books.{Reserves, IsReadFrom, HasCause, IsInOrder};
 
-    /// Reads the image that the store holds, of either version, and opens a book with its key and its numbers. Nothing is
-    /// written, so a crash leaves what it could leave before; the opening is counted by its first write.
+    /// Reads the image that the store holds, of either version, and opens a book with its key and
+    /// numbers. Nothing is written, so a crash leaves what it could leave before. The first write
+    /// counts the opening.
     ///
-    /// An `Err` hands the store back: `Store` where its read failed, `Image` with the first fault where the stored bytes
-    /// are no image, `OutOfMemory` where memory for them is refused.
+    /// An `Err` hands the store back: `Store` where its read failed, `Image` with the first fault
+    /// where the stored bytes are no image, `OutOfMemory` where memory for them is refused.
     pub fn open(alloc: Global, store: S) -> Result<Self, (OpenFault, S)>
         ensures opened { IfOk result (IsOpenedFrom (S.seen store).now) }
         ensures fresh { IfOk result (λ book. book.history ≡ []) }
         ensures found { IfOk result (IsReadFrom (S.seen store)) }
-        ensures counted { IfOk result (λ book. HasImage book.key book.base book.openings book.burnt) }
-        ensures err { IfErr result (λ e. HasCause (S.may_fail store) (S.seen store) e.0 (S.seen e.1)) }
+        ensures counted { IfOk result (λ book.
+            HasImage book.key book.base book.openings book.burnt) }
+        ensures err { IfErr result (λ e.
+            HasCause (S.may_fail store) (S.seen store) e.0 (S.seen e.1)) }
     {
         let mut store = store;
         let text = match store.read(alloc) {
@@ -140,32 +142,29 @@ impl<S: StateStore> Book<S> {
         }
     }
 
-    /// What it has reserved. Its counter is within the key's capacity, and its leases are disjoint and below every counter
-    /// that could be found in the store after a crash.
+    /// What it has reserved. Its counter is within the key's capacity, and its leases are disjoint
+    /// and below every counter that a crash could leave stored.
     pub fn reservations(&self) -> &Reservations
         ensures all { result.now ≡ reservations_of self.now }
         ensures in_order { IsInOrder self.now }
     {
-        // Its clauses bound the counter.
+        // for the proof: the counter is within the capacity
         let _counter = self.reservations.counter();
         &self.reservations
     }
 
-    /// Reserves the next n indices, 1 to 1024. An image that counts them as used, and this opening, is stored before the lease is
-    /// given. It counts the indices that were burnt before it is written, and is of version 2, whatever was read.
+    /// Reserves the next n indices, 1 to 1024. Before the lease is given, an image of version 2 is
+    /// stored that counts them as used, this opening, and the indices burnt so far.
     ///
-    /// `Exhausted` where the key has fewer than n left, with their number, and `OutOfMemory` where memory for one more
-    /// entry of the history is refused; neither changes anything. `Store` where the image may not have been stored: the
-    /// indices are burnt, this book gives them to nobody, and `stored` stays. A crash at any moment of the call leaves that
-    /// image or what it could leave before.
+    /// `Exhausted`, with the number left, where the key has fewer than n left, and `OutOfMemory`
+    /// where memory for one more entry of the history is refused; neither changes anything. `Store`
+    /// where the image may not have been stored: the indices are burnt, this book gives them to
+    /// nobody, and `stored` stays. A crash during the call leaves that image or what it could leave
+    /// before.
     pub fn reserve(&mut self, n: u64) -> Result<Lease, BookFault>
         requires some { 1 ≤ n }
-        requires at_most { n ≤ longest_lease }
-        ensures key { self.new.key ≡ self.old.key }
-        ensures base { self.new.base ≡ self.old.base }
-        ensures openings { self.new.openings ≡ self.old.openings }
-        ensures burnt { self.new.burnt ≡ self.old.burnt }
-        ensures opened { (held : Texts) → IsOpenedFrom held self.old → IsOpenedFrom held self.new }
+        requires at_most { n ≤ most_covered }
+        ensures opening { IsSameOpening self.old self.new }
         ensures reserves { Reserves n self.old result self.new }
     {
         let key = self.reservations.key();
@@ -193,8 +192,8 @@ impl<S: StateStore> Book<S> {
         lease.end()
     }
 
-    /// Ends the book and hands its store back unchanged. What it reserved counts as one opening in the laws
-    /// of lives; the contracts of `open` and `reserve` say what that opening began with.
+    /// Ends the book and hands its store back unchanged. What it reserved is one opening in the
+    /// laws of lives; the contracts of `open` and `reserve` say what that opening began with.
     pub fn close(self) -> S
         ensures store { S.seen result ≡ self.store }
         ensures opening { (held : Texts) × IsOpenedFrom held self }
@@ -204,20 +203,5 @@ impl<S: StateStore> Book<S> {
             reservations: _,
         } = self;
         store
-    }
-}
-
-impl Reservations {
-    ghost use Rattle.lms_book.specs.History.{leases, range_of};
-
-    /// Whether the lease is of this key and its range was given since the opening.
-    pub fn knows(&self, lease: &Lease) -> bool
-        ensures { IsTrue result ↔ ((lease.now.key ≡ self.now.key)
-            × Contains (leases self.now.base self.now.history) (range_of lease.now.start lease.now.len)) }
-    {
-        // Its clauses bound the counter.
-        let _counter = self.counter();
-        same_key(&lease.key(), &self.key())
-            && is_given(self.history(), self.base(), lease.start(), lease.len())
     }
 }

@@ -7,8 +7,8 @@ ghost use Rattle.lms_book.specs.History.{counter_of, leases, len_of, burnt_len, 
 pub enum Entry {
     /// Given as a lease.
     Given { len: u64 },
-    /// Given to nobody by this book: their image was not stored for certain. A later opening may give them, where the store
-    /// kept an older image.
+    /// Given to nobody by this book, since it is not certain that their image was stored. A later
+    /// opening may give them, where the store kept an older image.
     Burnt { len: u64 },
 }
 

@@ -1,11 +1,11 @@
-//! What a store's last read gave, as contracts see it. At run time nothing is kept of it.
+//! What a store's last read gave, as contracts see it. Nothing of it is kept at run time.
 ghost use Rattle.std.specs.Prelude.{◌≡◌, None, Some};
 
 use std::marker::Model;
 use std::snapshot::Snapshot;
 
-/// The bytes that the last read of a store gave, or that there was none. A store has one among its fields, for its `StoreView`.
-/// Contracts see the bytes; it takes no memory.
+/// The bytes that the last read of a store gave, or that there was no read. A store has one as a
+/// field, for its `StoreView`. Contracts see the bytes; it takes no memory.
 #[derive(Drop)]
 pub struct LastRead {
     bytes: Option<Snapshot<Vec<u8>>>,

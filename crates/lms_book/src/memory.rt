@@ -1,24 +1,26 @@
-//! A store in memory, for tests. It keeps a record of the texts that it held, and fails where it is told to.
+//! A store in memory, for tests. It records the bytes that it held, and fails as planned.
 ghost use Rattle.std.specs.Prelude.{◌≡◌, ◌⊎◌, ◌-◌, ◌<◌, ◌≤◌, [], ◌∷◌, ◌++◌, length, Some, None, true, false, ◌↔◌, IsTrue, IfOk, MatchOption, OnOk, OnErr};
 ghost use Rattle.std.proofs.Math.ListN.{set};
 ghost use Rattle.lms_book.specs.Stops.{longest_text};
 ghost use Rattle.lms_book.specs.Memory.{IsFresh, Takes, holding, giving, failed, planning, next_write, past_write, next_read, past_read};
 
+use crate::fault::{ReadFault, StoreFault};
 use crate::last_read::LastRead;
 use crate::plans::{Left, PLANS, Plan, take_first};
-use crate::store::{ReadFault, StateStore, StoreFault};
-use crate::text::{MOST_BYTES, Text};
+use crate::store::StateStore;
+use crate::stored_bytes::{MOST_BYTES, StoredBytes};
 use lms_params::OutOfMemory;
 use std::alloc::Global;
 use std::marker::Model;
 use std::mem;
 
-/// A store in memory. Contracts see the bytes that it holds, those that it held before each write, those that the last read
-/// gave, how many writes it has room for, how many calls failed, and which calls are to fail.
+/// A store in memory. Contracts see the bytes that it holds, those that it held before each write,
+/// those that the last read gave, its capacity for writes, how many calls failed, and which calls
+/// are to fail.
 #[derive(Drop)]
 pub struct MemoryStore {
-    past: Vec<Option<Text>>,
-    text: Option<Text>,
+    past: Vec<Option<StoredBytes>>,
+    text: Option<StoredBytes>,
     given: LastRead,
     room: usize,
     failures: u64,
@@ -44,12 +46,13 @@ impl Model for MemoryStore {
       stopped = store.stopped;
     } };
 
-    ghost invariant = { λ store. (vec_len store.past ≤ store.room) × (store.room ≤ vec_capacity store.past) };
+    ghost invariant = { λ store.
+        (vec_len store.past ≤ store.room) × (store.room ≤ vec_capacity store.past) };
 }
 
 impl MemoryStore {
-    /// A store that holds these bytes, at most 256, or nothing where `text` is `None`. All memory is taken here, for a
-    /// record of `room` writes; `OutOfMemory` where it is refused.
+    /// A store that holds these bytes, at most 256, or nothing where `text` is `None`. All memory
+    /// is taken here, for a record of `room` writes; `OutOfMemory` where it is refused.
     pub fn new(alloc: Global, text: Option<&[u8]>, room: usize) -> Result<Self, OutOfMemory>
         requires { MatchOption text (Unit {0}) (λ text. length text.now ≤ longest_text) }
         ensures fresh { IfOk result (IsFresh room) }
@@ -71,7 +74,8 @@ impl MemoryStore {
 
     /// The bytes that it holds, `None` where nothing is stored.
     pub fn text(&self) -> Option<&[u8]>
-        ensures { MatchOption result (self.now.text ≡ None) (λ text. self.now.text ≡ Some text.now) }
+        ensures { MatchOption result (self.now.text ≡ None) (λ text.
+            self.now.text ≡ Some text.now) }
     {
         match &self.text {
             None => None,
@@ -79,8 +83,8 @@ impl MemoryStore {
         }
     }
 
-    /// Plans that the k-th `replace` from now, 1 to 8, fails and leaves the old bytes or the new ones, as `left` says.
-    /// Plans for other calls stay.
+    /// Plans that the k-th `replace` from now, 1 to 8, fails and leaves the old bytes or the new
+    /// ones, as `left` says. Plans for other calls stay.
     pub fn fail_replace(&mut self, k: usize, left: Left)
         requires first { 1 ≤ k }
         requires at_most { k ≤ 8 }
@@ -89,8 +93,8 @@ impl MemoryStore {
         self.writes[k - 1] = Some(Plan { left, stops: false });
     }
 
-    /// Plans a crash in the k-th `replace` from now, 1 to 8: it fails, leaves the old bytes or the new ones as `left` says,
-    /// and every call after it fails. Plans for other calls stay.
+    /// Plans a crash in the k-th `replace` from now, 1 to 8: it fails, leaves the old bytes or the
+    /// new ones as `left` says, and every call after it fails. Plans for other calls stay.
     pub fn stop_replace(&mut self, k: usize, left: Left)
         requires first { 1 ≤ k }
         requires at_most { k ≤ 8 }
@@ -108,8 +112,8 @@ impl MemoryStore {
         self.reads[k - 1] = true;
     }
 
-    /// The store as the program finds it when it starts again: its bytes and its room, with an empty record, nothing given
-    /// or planned, and no failure counted.
+    /// The store as the program finds it when it starts again: its bytes and its capacity, with an
+    /// empty record, nothing given or planned, and no failure counted.
     pub fn restart(self) -> Self
         ensures text { result.text ≡ self.text }
         ensures fresh { IsFresh self.room result }
@@ -138,14 +142,14 @@ impl MemoryStore {
         }
     }
 
-    /// Whether a write of this text can be taken.
+    /// Whether it can take a write of these bytes.
     fn takes(&self, text: &[u8]) -> bool
         ensures { IsTrue result ↔ Takes self.now text.now }
     {
         !self.stopped && self.past.len() < self.room && text.len() <= MOST_BYTES
     }
 
-    /// How the next write is to fail, if it is. The plans for the others come one place nearer.
+    /// How the next write is to fail, if it is. The plans for the others move one place forward.
     fn next_write(&mut self) -> Option<Plan>
         ensures plan { result ≡ next_write self.old }
         ensures others { self.new ≡ past_write self.old }
@@ -157,7 +161,7 @@ impl MemoryStore {
         plan
     }
 
-    /// Whether the next read is to fail. The plans for the others come one place nearer.
+    /// Whether the next read is to fail. The plans for the others move one place forward.
     fn next_read(&mut self) -> bool
         ensures plan { result ≡ next_read self.old }
         ensures others { self.new ≡ past_read self.old }
@@ -165,7 +169,7 @@ impl MemoryStore {
         take_first(&mut self.reads, false)
     }
 
-    /// Holds another text from now on, and records the one before.
+    /// Holds these bytes from now on, and records those before.
     fn hold(&mut self, text: &[u8])
         requires room { length self.old.past < self.old.room }
         requires short { length text.now ≤ longest_text }
@@ -198,7 +202,8 @@ impl StateStore for MemoryStore {
 
     ghost may_fail = { MayFail };
 
-    /// Fails where it is told to, after a planned crash, and while nothing is stored (`text` answers `None`).
+    /// Fails as planned, after a planned crash, and while nothing is stored (`text` answers
+    /// `None`).
     fn read(&mut self, alloc: Global) -> Result<Vec<u8>, ReadFault>
         ensures reads { ReadsStore (MayFail self.old) (view_of self.old) result (view_of self.new) }
         ensures planned { Reads self.old result self.new }
@@ -220,8 +225,8 @@ impl StateStore for MemoryStore {
         }
     }
 
-    /// Takes no memory. Fails where it is told to and after a planned crash; and, with the old bytes left, where its record
-    /// is full or there are over 256 bytes.
+    /// Takes no memory. Fails as planned and after a planned crash; and, with the old bytes left,
+    /// where its record is full or there are over 256 bytes.
     fn replace(&mut self, text: &[u8]) -> Result<(), StoreFault>
         ensures writes { WritesStore text.now (view_of self.old) result (view_of self.new) }
         ensures planned { Replaces self.old text.now result self.new }
@@ -260,12 +265,12 @@ impl StateStore for MemoryStore {
     }
 }
 
-/// A text of these bytes.
-fn short_text(bytes: &[u8]) -> Text
+/// These bytes, which are at most 256.
+fn short_text(bytes: &[u8]) -> StoredBytes
     requires { length bytes.now ≤ longest_text }
     ensures { result ≡ bytes.now }
 {
-    match Text::new(bytes) {
+    match StoredBytes::new(bytes) {
         Some(text) => text,
         None => unreachable!(),
     }

@@ -4,9 +4,9 @@ ghost use Rattle.std.specs.Prelude.{◌≡◌, [], ◌∷◌, ◌++◌, drop, ge
 /// What a store holds after a write that failed.
 #[derive(Clone, Copy, Debug, PartialEq, Eq)]
 pub enum Left {
-    /// The text before the write.
+    /// The bytes before the write.
     Old,
-    /// The text that was to be written.
+    /// The bytes that were to be written.
     New,
 }
 
@@ -21,7 +21,8 @@ pub(crate) struct Plan {
 /// How many calls plans are kept for.
 pub(crate) const PLANS: usize = 8;
 
-/// Takes what is planned for the next call. The other plans come one place nearer, and `last` behind them.
+/// Takes what is planned for the next call. The other plans move one place forward, and `last`
+/// comes after them.
 pub(crate) fn take_first<T: Copy>(plans: &mut [T; 8], last: T) -> T
     ensures first { result ≡ get_or plans.old 0 last }
     ensures others { plans.new ≡ drop 1 plans.old ++ last ∷ [] }

@@ -1,21 +1,22 @@
 //! What a book has reserved, apart from its store.
-ghost use Rattle.std.specs.Prelude.{◌≡◌, ◌+◌, ◌-◌, ◌≤◌, [], ◌∷◌, ◌++◌, OnOk, OnErr};
+ghost use Rattle.std.specs.Prelude.{◌≡◌, ◌+◌, ◌-◌, ◌≤◌, [], ◌∷◌, ◌++◌, ◌↔◌, OnOk, OnErr, IsTrue, Contains};
 ghost use Rattle.lms_spec.specs.Hss.{capacity_of};
 ghost use Rattle.lms_hss.specs.Keys.{hss_key_of};
 ghost use Rattle.lms_image.specs.Image.{HasImage};
 ghost use Rattle.lms_book.specs.declared.history.Entry.TheVariants.{Burnt};
-ghost use Rattle.lms_book.specs.History.{counter_of, burnt_after, confirmed, stored_of};
+ghost use Rattle.lms_book.specs.History.{counter_of, burnt_after, confirmed, leases, range_of, stored_of};
 ghost use Rattle.lms_book.specs.States.{IsNextOf};
 
-use crate::history::Entry;
-use lms_hss::HssKey;
+use crate::book::Lease;
+use crate::history::{Entry, is_given};
+use lms_hss::{HssKey, same_key};
 use lms_image::Image;
 use lms_params::OutOfMemory;
 use std::alloc::Global;
 use std::marker::Model;
 
-/// A key, the counter, the openings and the burnt indices that were read when its store was opened, and the reservations since.
-/// Contracts see these five.
+/// A key, the counter, openings and burnt indices that were read when its store was opened, and the
+/// reservations since. Contracts see these five.
 #[derive(Drop)]
 pub struct Reservations {
     key: HssKey,
@@ -88,15 +89,16 @@ impl Reservations {
         self.base
     }
 
-    /// How many earlier openings stored something, as was read. This one is counted in what it stores, and not here.
+    /// How many earlier openings stored something, as was read. The images that this opening stores
+    /// count it, too.
     pub fn openings(&self) -> u64
         ensures { result ≡ self.now.openings }
     {
         self.openings
     }
 
-    /// How many of the key's indices were burnt: those that were read, and the lengths of the `Burnt` entries since. Leases that
-    /// were given back are not among them.
+    /// How many of the key's indices were burnt: those that were read, and the lengths of the
+    /// `Burnt` entries since. Leases that were given back don't count.
     pub fn burnt(&self) -> u64
         ensures { result ≡ burnt_after self.now.burnt self.now.history }
     {
@@ -114,22 +116,25 @@ impl Reservations {
     pub fn counter(&self) -> u64
         ensures counter { result ≡ counter_of self.now.base self.now.history }
         ensures within { result ≤ capacity_of (hss_key_of self.now.key) }
-        ensures counted { HasImage self.now.key result self.now.openings (burnt_after self.now.burnt self.now.history) }
+        ensures counted { HasImage self.now.key result self.now.openings
+            (burnt_after self.now.burnt self.now.history) }
     {
         self.counter
     }
 
-    /// The counter of the last image that the store took for certain, the base before any.
+    /// The counter of the last image that was stored for certain, or the base before any.
     pub fn stored(&self) -> u64
         ensures { result ≡ stored_of self.now.base self.now.history }
     {
         self.stored
     }
 
-    /// What is to be stored so that n indices more are used: this opening is counted, and the indices that were burnt so far.
+    /// The image to store so that n more indices are used. It counts this opening, and the indices
+    /// burnt so far.
     pub(crate) fn next_image(&self, n: u64) -> Image
         requires some { 1 ≤ n }
-        requires room { counter_of self.now.base self.now.history + n ≤ capacity_of (hss_key_of self.now.key) }
+        requires room { counter_of self.now.base self.now.history + n
+            ≤ capacity_of (hss_key_of self.now.key) }
         ensures { IsNextOf self.now n result }
     {
         Image {
@@ -140,11 +145,13 @@ impl Reservations {
         }
     }
 
-    /// Reserves the next n indices as burnt, which they are until their image is stored. `OutOfMemory` where memory for
-    /// the entry is refused; then nothing changes.
+    /// Reserves the next n indices as burnt, which they are until their image is stored.
+    /// `OutOfMemory`, with nothing changed, where memory for the entry is refused.
     pub(crate) fn burn(&mut self, n: u64) -> Result<(), OutOfMemory>
-        requires { counter_of self.old.base self.old.history + n ≤ capacity_of (hss_key_of self.old.key) }
-        ensures ok { OnOk result (self.new ≡ record self.old { history = self.old.history ++ Burnt n ∷ [] }) }
+        requires { counter_of self.old.base self.old.history + n
+            ≤ capacity_of (hss_key_of self.old.key) }
+        ensures ok { OnOk result
+            (self.new ≡ record self.old { history = self.old.history ++ Burnt n ∷ [] }) }
         ensures err { OnErr result (self.new ≡ self.old) }
     {
         self.history.push(Entry::Burnt { len: n })?;
@@ -162,5 +169,17 @@ impl Reservations {
             *last = Entry::Given { len: last.len() };
             self.stored = self.counter;
         }
+    }
+
+    /// Whether the lease is of this key and its range was given since the opening.
+    pub fn knows(&self, lease: &Lease) -> bool
+        ensures { IsTrue result ↔ ((lease.now.key ≡ self.now.key)
+            × Contains (leases self.now.base self.now.history)
+            (range_of lease.now.start lease.now.len)) }
+    {
+        // for the proof: the counter is within the capacity
+        let _counter = self.counter();
+        same_key(&lease.key(), &self.key())
+            && is_given(self.history(), self.base(), lease.start(), lease.len())
     }
 }

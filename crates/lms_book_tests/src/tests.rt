@@ -1,12 +1,12 @@
 ghost use Rattle.std.specs.Prelude.{◌≡◌, ◌≤◌, [], IfOk};
 
 use crate::tests::fixtures::{
-    FIRST_EXHAUSTED, FIRST_TALL, LEVELS, another_store, first_store, key_of, small_store, store_at,
-    store_of,
+    FIRST_EXHAUSTED, FIRST_TALL, LEVELS, another_store, first_store, small_store,
 };
 use lms_book::{Book, BookFault, Entry, Left, MemoryStore, OpenFault, ReadFault, StoreFault};
+use lms_fixtures::{book_of, image_with, key_of, lease_from, reserved, store_at, store_of};
 use lms_hss::HssKey;
-use lms_image::{Image, ImageFault, encode_image};
+use lms_image::ImageFault;
 use lms_params::{LmsType, OtsType};
 use std::alloc::Global;
 use std::fmt::Display;
@@ -16,42 +16,16 @@ mod fixtures;
 mod lives;
 mod memory;
 
-fn opened(alloc: Global, store: MemoryStore) -> Result<Book<MemoryStore>, Fail>
-    ensures { IfOk result (λ book. book.history ≡ []) }
-{
-    match Book::open(alloc, store) {
-        Ok(book) => Ok(book),
-        Err((OpenFault::OutOfMemory, store)) => {
-            Ok(Book::open(alloc, store).ok().ok_or("a second try opens")?)
-        }
-        Err((_, _)) => Err(Fail::from("the store opens")),
-    }
-}
-
 /// A book over a store that holds the image of 5/8 and this counter.
-fn small_book(alloc: Global, counter: u64) -> Result<Book<MemoryStore>, Fail>
+fn small_book(alloc: Global, counter: u64) -> Result<Book<MemoryStore>, &'static str>
     ensures { IfOk result (λ book. book.history ≡ []) }
 {
-    opened(alloc, small_store(alloc, counter)?)
+    book_of(alloc, small_store(alloc, counter)?)
 }
 
-/// The book after a stop of the program.
-fn reopened(alloc: Global, book: Book<MemoryStore>) -> Result<Book<MemoryStore>, Fail> {
-    opened(alloc, book.close().restart())
-}
-
-/// Reserves, and gives the lease back: the first index and the number of indices.
-fn reserved(book: &mut Book<MemoryStore>, n: u64) -> Result<(u64, u64), BookFault>
-    requires some { 1 ≤ n }
-    requires at_most { n ≤ 1024 }
-{
-    let lease = match book.reserve(n) {
-        Err(BookFault::OutOfMemory) => book.reserve(n)?,
-        answer => answer?,
-    };
-    let range = (lease.start(), lease.len());
-    book.give_back(lease);
-    Ok(range)
+/// The book after a crash of the program.
+fn reopened(alloc: Global, book: Book<MemoryStore>) -> Result<Book<MemoryStore>, &'static str> {
+    book_of(alloc, book.close().restart())
 }
 
 /// Whether the book gives the indices from `start` on.
@@ -95,16 +69,10 @@ fn tells(book: &Book<MemoryStore>, openings: u64, burnt: u64) -> bool {
 
 /// Whether the book's store holds the image of this key and these numbers.
 fn leaves(book: Book<MemoryStore>, key: HssKey, counter: u64, openings: u64, burnt: u64) -> bool {
-    if counter > key.capacity() || openings > counter || burnt > counter {
-        return false;
+    match image_with(key, counter, openings, burnt) {
+        Ok(image) => book.close().text() == Some(image.as_slice()),
+        Err(_) => false,
     }
-    let image = Image {
-        key,
-        counter,
-        openings,
-        burnt,
-    };
-    book.close().text() == Some(encode_image(&image).as_slice())
 }
 
 #[test]
@@ -129,11 +97,11 @@ fn ranges_follow_each_other(rt: HostRuntime) -> Result<(), Fail> {
     Ok(())
 }
 
-/// As many leases as a store of the tests has room for.
+/// As many leases as a store of the tests has the capacity for.
 #[test]
 fn gives_leases_of_each_length(rt: HostRuntime) -> Result<(), Fail> {
     let key = key_of(&[(LmsType::H10, OtsType::W8); 2], 0x11)?;
-    let mut book = opened(rt.alloc(), store_at(rt.alloc(), key, 0)?)?;
+    let mut book = book_of(rt.alloc(), store_at(rt.alloc(), key, 0)?)?;
     for n in 1..1025 {
         let start = book.counter();
         assert!(rt; gives(&mut book, n, start));
@@ -151,7 +119,7 @@ fn an_exhausted_key_opens(rt: HostRuntime) -> Result<(), Fail> {
     Ok(())
 }
 
-/// `tests/refused` refuses each request for memory in turn, and the second call works.
+/// The merge check refuses each request for memory in turn, and the second call works.
 #[test]
 fn a_book_works_after_refused_memory(rt: HostRuntime) -> Result<(), Fail> {
     let mut book = small_book(rt.alloc(), 5)?;
@@ -177,7 +145,7 @@ fn a_failed_write_burns(rt: HostRuntime) -> Result<(), Fail> {
     for left in [Left::Old, Left::New] {
         let mut store = small_store(rt.alloc(), 0)?;
         store.fail_replace(2, left);
-        let mut book = opened(rt.alloc(), store)?;
+        let mut book = book_of(rt.alloc(), store)?;
         assert!(rt; gives(&mut book, 10, 0));
         assert!(rt; burns(&mut book, 5, 10));
         assert!(rt; counts(&book, 0, 15, 10) && tells(&book, 0, 5));
@@ -211,7 +179,7 @@ fn a_failed_read_hands_the_store_back(rt: HostRuntime) -> Result<(), Fail> {
     store.fail_read(1);
     let (fault, store) = refused(rt.alloc(), store)?;
     assert!(rt; fault == OpenFault::Store);
-    let book = opened(rt.alloc(), store)?;
+    let book = book_of(rt.alloc(), store)?;
     assert!(rt; counts(&book, 0, 0, 0));
     Ok(())
 }
@@ -229,7 +197,7 @@ fn a_bad_text_hands_the_store_back(rt: HostRuntime) -> Result<(), Fail> {
 fn a_tall_key_is_used_up(rt: HostRuntime) -> Result<(), Fail> {
     let key = key_of(&[(LmsType::H15, OtsType::W8); 4], 0x11)?;
     let store = store_at(rt.alloc(), key, 1152921504606846975)?;
-    let mut book = opened(rt.alloc(), store)?;
+    let mut book = book_of(rt.alloc(), store)?;
     assert!(rt; refuses(&mut book, 2, 1));
     assert!(rt; gives(&mut book, 1, 1152921504606846975));
     assert!(rt; refuses(&mut book, 1, 0));
@@ -240,7 +208,7 @@ fn a_tall_key_is_used_up(rt: HostRuntime) -> Result<(), Fail> {
 
 #[test]
 fn an_exhausted_key_of_version_1_opens(rt: HostRuntime) -> Result<(), Fail> {
-    let mut book = opened(rt.alloc(), first_store(rt.alloc(), FIRST_EXHAUSTED)?)?;
+    let mut book = book_of(rt.alloc(), first_store(rt.alloc(), FIRST_EXHAUSTED)?)?;
     assert!(rt; counts(&book, 32, 32, 32) && tells(&book, 0, 0));
     assert!(rt; refuses(&mut book, 1, 0));
     Ok(())
@@ -248,23 +216,20 @@ fn an_exhausted_key_of_version_1_opens(rt: HostRuntime) -> Result<(), Fail> {
 
 #[test]
 fn a_tall_key_of_version_1_is_used_up(rt: HostRuntime) -> Result<(), Fail> {
-    let mut book = opened(rt.alloc(), first_store(rt.alloc(), FIRST_TALL)?)?;
+    let mut book = book_of(rt.alloc(), first_store(rt.alloc(), FIRST_TALL)?)?;
     assert!(rt; refuses(&mut book, 2, 1));
     assert!(rt; gives(&mut book, 1, 1152921504606846975));
     assert!(rt; refuses(&mut book, 1, 0));
     Ok(())
 }
 
-/// Whether a book reserves a lease and knows it, and another one knows it just where `by_other` says so.
+/// Whether a book reserves a lease and knows it, and another one knows it just where `by_other`
+/// says so.
 fn is_known(book: &mut Book<MemoryStore>, other: &Book<MemoryStore>, n: u64, by_other: bool) -> bool
     requires some { 1 ≤ n }
     requires at_most { n ≤ 1024 }
 {
-    let answer = match book.reserve(n) {
-        Err(BookFault::OutOfMemory) => book.reserve(n),
-        answer => answer,
-    };
-    let Ok(lease) = answer else {
+    let Ok(lease) = lease_from(book, n) else {
         return false;
     };
     let is_known = book.knows(&lease) && other.knows(&lease) == by_other;
@@ -287,7 +252,7 @@ fn a_book_knows_its_leases(rt: HostRuntime) -> Result<(), Fail> {
 #[test]
 fn a_book_knows_no_other_keys_leases(rt: HostRuntime) -> Result<(), Fail> {
     let mut book = small_book(rt.alloc(), 0)?;
-    let mut other = opened(rt.alloc(), another_store(rt.alloc())?)?;
+    let mut other = book_of(rt.alloc(), another_store(rt.alloc())?)?;
     assert!(rt; gives(&mut book, 4, 0));
     assert!(rt; is_known(&mut other, &book, 4, false));
     Ok(())

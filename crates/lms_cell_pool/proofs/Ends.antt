@@ -2,35 +2,18 @@
 use Rattle.std.proofs.Common.{◌≡◌, ℕ, ◌≤◌, ◌<◌, List, [], ◌∷◌, ◌++◌, length, map, All, Some, sym, ap, ◌∙◌, subst, arith, length-append}
 use Rattle.std.proofs.lemmas.List.Elements.{All-head}
 use mathlib.Core.Option.{some}
-use Rattle.atomic_table.specs.Seated.{TableId}
 use Rattle.atomic_table.proofs.Lists.{at_map}
-use Rattle.lms_pool.specs.declared.history.Entry.{Entry}
+use Rattle.lms_pool.specs.declared.call_log.Entry.{Entry}
 use Rattle.lms_pool.specs.Rule.{Fits}
 use Rattle.lms_pool.specs.States.{PoolState, SeatState}
-use Rattle.lms_pool.proofs.Wholes.{Whole, all_at, hand_of, hands_length, hands_of, nothing_before, stops_of, whole}
+use Rattle.lms_pool.proofs.Wholes.{Whole, hand_of, hands_length, hands_of, nothing_before, whole}
 use Rattle.lms_cell_pool.specs.declared.rule.Places.{Places}
-use Rattle.lms_cell_pool.specs.Rule.{View, found, hand_in, hands_in, known, seats_in}
-use Rattle.lms_cell_pool.specs.States.{IsCellSeat}
+use Rattle.lms_cell_pool.specs.Rule.{View, found, hands_in, known, seats_in}
 use Rattle.lms_cell_pool.proofs.Steps.{is_filled}
 
--- what `finish` knows of one seat that came
-pub record Came (pool : PoolState) (seat : SeatState) (stopped : ℕ) (table : TableId) (view : View) : Type 0 where
-  pub table_is : table ≡ pool.table
-  pub alone : view ≡ Some (known pool.seats (hand_of seat ∷ []))
-  pub stops : stopped ≡ stops_of seat
-  pub few : stopped ≤ pool.len
-
-pub came : (pool own : PoolState) (number stopped : ℕ) (table : TableId) (view : View) (seat : SeatState) (seats front back : List SeatState)
-    → IsCellSeat own number stopped table view → record { pool = own; number = number; log = (hand_in view).log } ≡ seat
-    → All (λ (s : SeatState). s.pool ≡ pool) seats → seats ≡ front ++ seat ∷ back → Came pool seat stopped table view
-came pool own number stopped table view seat seats front back is seen all placed =
-    let same : own ≡ pool = ap (λ (s : SeatState). s.pool) seen ∙ all_at (λ (s : SeatState). s.pool ≡ pool) front seat back (subst (All (λ (s : SeatState). s.pool ≡ pool)) placed all) in
-    record {
-      table_is = is.table_is ∙ ap (λ (p : PoolState). p.table) same;
-      alone = is.alone ∙ (λ i. Some (known (same i).seats (hand_of (seen i) ∷ [])));
-      stops = is.counted ∙ ap stops_of seen;
-      few = omega (arith, is.few, ap (λ (p : PoolState). p.len) same);
-    }
+-- what the token of a seat knows that has its hand alone
+abbrev pub own_view : PoolState → SeatState → View
+own_view pool seat = Some (known pool.seats (hand_of seat ∷ []))
 
 -- the length that the hands of a pool's seats know
 length_known : (len : ℕ) (log : List Entry) (pool : PoolState) (seats : List SeatState) → 0 < length seats → All (Fits len log) (hands_of seats)
@@ -39,9 +22,9 @@ length_known len log pool [] full fits own = absurd (omega arith)
 length_known len log pool (s ∷ ss) full fits own =
     sym (All-head (Fits len log) (hand_of s) (hands_of ss) fits).long ∙ ap (λ (p : PoolState). p.len) (All-head (λ (s : SeatState). s.pool ≡ pool) s ss own)
 
--- the history that all seats know, as `finish` finds it
+-- the call log that all seats know, as `finish` finds it
 pub ending : (pool : PoolState) (x : Places) (v w : View) (here joined : List SeatState) → found v x x w → v ≡ Some (known pool.seats (hands_of joined))
-    → pool.seats ≤ length (here ++ joined) → length here ≡ 0 → 1 ≤ pool.seats → All (λ (s : SeatState). s.pool ≡ pool) (here ++ joined) → Whole pool.len x.gone joined
+    → pool.seats ≤ length (here ++ joined) → length here ≡ 0 → 1 ≤ pool.seats → All (λ (s : SeatState). s.pool ≡ pool) (here ++ joined) → Whole pool.len x.taken joined
 ending pool x v w here joined told is many none one own =
     let views = told.0 in
     let id = told.1 in
@@ -50,7 +33,7 @@ ending pool x v w here joined told is many none one own =
     let enough : pool.seats ≤ length joined = omega (arith, many, none, length-append here joined) in
     let hands : length (hands_in v) ≡ length joined = ap (λ (w : View). length (hands_in w)) is ∙ hands_length joined in
     let seats : pool.seats ≡ x.seats = sym (ap seats_in is) ∙ F.count_known id v told.2 (omega (arith, hands, enough, one)) in
-    let r = whole x.len x.seats x.gone (map hands_in views) F.agree id joined there (omega (arith, seats, enough)) (omega (arith, seats, one)) in
+    let r = whole x.len x.seats x.taken (map hands_in views) F.agree id joined there (omega (arith, seats, enough)) (omega (arith, seats, one)) in
     let long = length_known x.len F.agree.log pool joined (omega (arith, enough, one)) (F.agree.fits id (hands_of joined) there)
     (subst (All (λ (s : SeatState). s.pool ≡ pool)) (nothing_before here joined none) own) in
-    subst (λ (len : ℕ). Whole len x.gone joined) long r
+    subst (λ (len : ℕ). Whole len x.taken joined) long r

@@ -1,19 +1,19 @@
 -- What a step asks of a seat, and what it leaves.
-use Rattle.std.proofs.Common.{◌≡◌, ℕ, ◌+◌, ◌≤◌, ◌<◌, min, List, [], ◌∷◌, Some, Result, Ok, Err, refl, sym, ap, ◌∙◌, subst, arith}
+use Rattle.std.proofs.Common.{◌≡◌, ℕ, ◌+◌, ◌<◌, List, [], ◌∷◌, Some, Result, Ok, Err, refl, sym, ap, ◌∙◌, subst, arith}
 use Rattle.std.specs.Result.{OnErr}
 use Rattle.atomic_table.specs.Seated.{TableId}
 use Rattle.crossbeam_utils.specs.Seq.{cell_view}
-use Rattle.lms_pool.specs.declared.history.Call.{Call}
-use Rattle.lms_pool.specs.declared.history.Call.TheVariants.{Claim}
-use Rattle.lms_pool.specs.declared.history.Reply.{Reply}
-use Rattle.lms_pool.specs.declared.history.Entry.{Entry}
-use Rattle.lms_pool.specs.declared.history.Hand.{Hand}
-use Rattle.lms_pool.specs.History.{turn, entry, calls_of, stopped_by, stopped_in}
+use Rattle.lms_pool.specs.declared.call_log.Call.{Call}
+use Rattle.lms_pool.specs.declared.call_log.Reply.{Reply}
+use Rattle.lms_pool.specs.declared.call_log.Entry.{Entry}
+use Rattle.lms_pool.specs.declared.call_log.Hand.{Hand}
+use Rattle.lms_pool.specs.CallLog.{entry, calls_of, stopped_by, stopped_in}
 use Rattle.lms_pool.specs.Rule.{hand, Makes}
-use Rattle.lms_pool.specs.States.{SeatState, Calls}
-use Rattle.lms_pool.proofs.Histories.{claim_end, claim_next, stopped_after, stopped_within}
+use Rattle.lms_pool.specs.States.{SeatState, IsSeatOf, Calls}
+use Rattle.lms_pool.proofs.CallLogs.{stopped_after, stopped_within}
+use Rattle.lms_cell_pool.specs.declared.rule.Places.{Places}
 use Rattle.lms_cell_pool.specs.declared.seat.CellSeat.TheInside.{Inside}
-use Rattle.lms_cell_pool.specs.Rule.{View, known, hand_in}
+use Rattle.lms_cell_pool.specs.Rule.{View, known, hand_in, peeked}
 use Rattle.lms_cell_pool.specs.States.{IsCellSeat}
 
 -- the seat of these fields is in order
@@ -42,33 +42,36 @@ module _ (me : Inside) (seat : IsWell me) where
   after_call c r w k is m = subst (Called me c r) (sym is) (record {
     makes = λ before same. subst (λ (s : SeatState). Calls s c r (seat_with me (Some (known me.pool.value.seats (k ∷ []))))) same (refl, refl, m.2);
     stays = λ stopped table same adds.
-        let counted : stopped ≡ stopped_in (calls_of me.number k.log) = omega (arith, adds, seat.counted, stopped_after me.pool.value.len old_log (entry me.number c r) k.log m.2) in
+        let counted : stopped ≡ stopped_in (calls_of me.number k.log) = omega (arith, adds, seat.of_pool.counted, stopped_after me.pool.value.len old_log (entry me.number c r) k.log m.2) in
         record {
-          below = seat.below;
-          table_is = same ∙ seat.table_is;
+          of_pool = record {
+            below = seat.of_pool.below;
+            table_is = same ∙ seat.of_pool.table_is;
+            counted = counted;
+            few = omega (arith, counted, stopped_within me.pool.value.len me.number k.log m.2.0);
+          };
           alone = λ i. Some (known me.pool.value.seats (hand (m.0 i) (m.1 i) k.log ∷ []));
-          counted = counted;
-          few = omega (arith, counted, stopped_within me.pool.value.len me.number k.log m.2.0);
         };
   })
+
+  -- the load of a call that found places left its hand
+  pub still : (c : Call) (x : Places) (w : View) → peeked c (cell_view me.token) x x w → x.taken < me.pool.value.len
+      → w ≡ Some (known me.pool.value.seats (own_hand me ∷ []))
+  still c x w told low =
+      let t = told me.pool.value.seats (own_hand me) seat.alone in
+      t.1 ∙ ap (λ (h : Hand). Some (known me.pool.value.seats (h ∷ []))) (t.2.0 low)
 
   -- its hand stayed
   pub unchanged : (w : View) (k : Hand) (table : TableId) → w ≡ Some (known me.pool.value.seats (k ∷ [])) → k ≡ own_hand me → table ≡ me.token.table_id
       → IsCellSeat me.pool.value me.number me.stopped table w × (seat_with me w ≡ seat_with me (cell_view me.token))
   unchanged w k table is same there =
-      let stays : w ≡ cell_view me.token = is ∙ ap (λ (h : Hand). Some (known me.pool.value.seats (h ∷ []))) same ∙ sym seat.alone in (
+      let stays : w ≡ cell_view me.token = is ∙ ap (λ (h : Hand). Some (known me.pool.value.seats (h ∷ []))) same ∙ sym seat.alone in
+      let of_pool : IsSeatOf me.pool.value me.number me.stopped table old_log =
+      record { below = seat.of_pool.below; table_is = there ∙ seat.of_pool.table_is; counted = seat.of_pool.counted; few = seat.of_pool.few } in (
         subst (λ (v : View). IsCellSeat me.pool.value me.number me.stopped table v) (sym stays)
-            (record { below = seat.below; table_is = there ∙ seat.table_is; alone = seat.alone; counted = seat.counted; few = seat.few }),
+            (record { of_pool = of_pool; alone = seat.alone }),
         ap (seat_with me) stays,
       )
-
--- a claim that finds no place leaves the count
-pub claim_stays : (len n : ℕ) → len ≤ n → (turn len (min n len) Claim).1 ≡ min n len
-claim_stays len n le = ap (λ (t : Reply × ℕ). t.1) (claim_end len (min n len) (omega arith))
-
--- another one adds 1
-pub claim_rises : (len n : ℕ) → n < len → (turn len (min n len) Claim).1 ≡ min (n + 1) len
-claim_rises len n l = ap (λ (t : Reply × ℕ). t.1) (claim_next len (min n len) (omega arith)) ∙ omega arith
 
 pub on_err : {A E P : Type 0} → (r : Result A E) → P → OnErr r P
 on_err (Ok a) p = tt

@@ -21,7 +21,7 @@ IsFull v = v ≡ Some (known (seats_in v) (hands_in v))
 module _ (x : Places) (views : List View) (F : Filled x views) (id : ℕ) (v left right : View) (at : get_elem? views id ≡ some v)
     (full_left : IsFull left) (full_right : IsFull right) (wide_left : 0 < length (hands_in left) → seats_in left ≡ x.seats)
     (wide_right : 0 < length (hands_in right) → seats_in right ≡ x.seats)
-    (agree : Agree x.len x.seats x.gone (set (map hands_in views) id (hands_in left) ++ hands_in right ∷ [])) where
+    (agree : Agree x.len x.seats x.taken (set (map hands_in views) id (hands_in left) ++ hands_in right ∷ [])) where
   cut : Filled x (set views id left ++ right ∷ [])
   cut = record {
     told = λ j u q. ⊎_elim
@@ -38,7 +38,7 @@ module _ (x : Places) (views : List View) (F : Filled x views) (id : ℕ) (v lef
         (at_set views id j left u was))
         (λ (same : right ≡ u). subst (λ (w : View). 0 < length (hands_in w) → seats_in w ≡ x.seats) same wide_right l)
         (at_snoc (set views id left) right u j q);
-    agree = subst (Agree x.len x.seats x.gone) (sym (map-append hands_in (set views id left) (right ∷ []) ∙ ap (λ (l : List Hands). l ++ hands_in right ∷ []) (map-set hands_in views id left))) agree;
+    agree = subst (Agree x.len x.seats x.taken) (sym (map-append hands_in (set views id left) (right ∷ []) ∙ ap (λ (l : List Hands). l ++ hands_in right ∷ []) (map-set hands_in views id left))) agree;
   }
 
 parts_more : (v : Hands) → (length (other_hands v) ≤ length v) × (length (first_hand v) ≤ length v)
@@ -53,7 +53,7 @@ forks id v k e x views kept at =
     inr (cut x views F id v (other_views v) (first_view v) at refl refl
     (λ l. F.count_known id v at (omega (arith, parts.0, l)))
     (λ l. F.count_known id v at (omega (arith, parts.1, l)))
-    (parted x.len x.seats x.gone id (hands_in v) (map hands_in views) F.agree (at_map hands_in views id v at)))
+    (parted x.len x.seats x.taken id (hands_in v) (map hands_in views) F.agree (at_map hands_in views id v at)))
 
 -- all hands may go to a new token
 pub hands_over : (id : ℕ) (v : View) (k : Known) → v ≡ Some k → Forks CellKept id v (handed_over v) v
@@ -62,7 +62,7 @@ hands_over id v k e x views kept at =
     let K = F.agree in
     let m : List Hands = map hands_in views in
     let there = at_map hands_in views id v at in
-    let now = same_hands x.len x.seats x.gone m (set m id [] ++ hands_in v ∷ []) K
+    let now = same_hands x.len x.seats x.taken m (set m id [] ++ hands_in v ∷ []) K
     (λ f. omega (arith, total-append (total f) (set m id []) (hands_in v ∷ []), total-set (total f) m id (hands_in v) [] there))
     (λ j u q. ⊎_elim
     (λ was. ⊎_elim
@@ -79,7 +79,7 @@ merges id v other w k e some_hand x views kept at apart there =
     let F = is_filled x views id k (at ∙ ap some e) kept in
     let m : List Hands = map hands_in views in
     let there' = subst (λ (l : List Hands). get_elem? l other ≡ some (hands_in w)) (map-set hands_in views id (together v w)) (at_map hands_in (set views id (together v w)) other w there) in
-    let now = joined x.len x.seats x.gone id (hands_in v) other (hands_in w) m F.agree (at_map hands_in views id v at) apart there' in
+    let now = joined x.len x.seats x.taken id (hands_in v) other (hands_in w) m F.agree (at_map hands_in views id v at) apart there' in
     inr (record {
       told = λ j u q. ⊎_elim
           (λ (t : (j ≡ other) × (nobody ≡ u)). subst IsFull t.1 refl)
@@ -95,6 +95,6 @@ merges id v other w k e some_hand x views kept at apart there =
           (λ (y : (j ≢ id) × (get_elem? views j ≡ some u)). F.count_known j u y.1 l)
           (at_set views id j (together v w) u t.1))
           (at_set (set views id (together v w)) other j nobody u q);
-      agree = subst (Agree x.len x.seats x.gone)
+      agree = subst (Agree x.len x.seats x.taken)
           (sym (map-set hands_in (set views id (together v w)) other nobody ∙ ap (λ (l : List Hands). set l other []) (map-set hands_in views id (together v w)))) now;
     })

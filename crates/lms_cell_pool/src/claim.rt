@@ -1,6 +1,6 @@
 //! A seat claims a place.
 ghost use Rattle.std.specs.Prelude.{◌≡◌, ◌<◌, ◌≤◌, IfOk, IfSome, IfNone, OnErr};
-ghost use Rattle.lms_pool.specs.declared.history.Call.TheVariants.{Claim};
+ghost use Rattle.lms_pool.specs.declared.call_log.Call.TheVariants.{Claim};
 ghost use Rattle.lms_pool.specs.States.{Calls, claim_reply, seen};
 ghost use Rattle.lms_cell_pool.specs.States.{place_reply};
 
@@ -18,7 +18,8 @@ impl CellPool {
         requires { me.old.pool ≡ self.now }
         ensures seat { me.new.pool ≡ self.now }
         ensures call { Calls me.old Claim (claim_reply result) me.new }
-        ensures pass { IfOk result (λ pass. (pass.pool ≡ self.now) × (seen me.old ≤ pass.place) × (pass.place < self.now.len)) }
+        ensures pass { IfOk result (λ pass.
+            (pass.pool ≡ self.now) × (seen me.old ≤ pass.place) × (pass.place < self.now.len)) }
         ensures ended { OnErr result (seen me.new ≡ self.now.len) }
     {
         let place = self.claim_place(rt, me)?;
@@ -43,7 +44,8 @@ impl CellPool {
         unreachable!()
     }
 
-    /// Claims the next place, or answers `Ended` where none is left. `None` where another step came between: no call was made then.
+    /// Claims the next place, or answers `Ended` where none is left. `None` where another step came
+    /// between; then no call was made.
     fn try_claim<R: Wait>(&self, rt: &R, me: &mut CellSeat) -> Option<Result<u64, Ended>>
         requires { me.old.pool ≡ self.now }
         ensures call { IfSome result (λ answer. Calls me.old Claim (place_reply answer) me.new) }
@@ -51,11 +53,11 @@ impl CellPool {
         ensures none { IfNone result (me.new ≡ me.old) }
     {
         let found = self.cell.load_as::<PeekClaim, R>(rt, &mut me.token);
-        if found.gone >= self.len {
+        if found.taken >= self.len {
             return Some(Err(Ended));
         }
         let next = Places {
-            gone: found.gone + 1,
+            taken: found.taken + 1,
             len: found.len,
             seats: found.seats,
         };
@@ -63,7 +65,7 @@ impl CellPool {
             .cell
             .compare_exchange_as::<Draw, R>(rt, &mut me.token, found, next)
         {
-            Ok(_) => Some(Ok(found.gone)),
+            Ok(_) => Some(Ok(found.taken)),
             Err(_) => None,
         }
     }

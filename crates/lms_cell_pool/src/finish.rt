@@ -1,6 +1,6 @@
-//! A pool comes to its end.
+//! The end of a pool.
 ghost use Rattle.std.specs.Prelude.{◌≡◌, ◌+◌, ◌≤◌, ◌↔◌, List, All, IfOk, IfErr, IsOk, vec_len};
-ghost use Rattle.lms_pool.specs.declared.history.Entry.{Entry};
+ghost use Rattle.lms_pool.specs.declared.call_log.Entry.{Entry};
 ghost use Rattle.lms_pool.specs.Ends.{IsWhole, Tallies};
 
 use crate::pool::CellPool;
@@ -10,11 +10,13 @@ use lms_pool::{MissingSeats, Tally};
 use std::sync::Wait;
 
 impl CellPool {
-    /// Ends the pool where all its seats are there. Some history is the log of one of them, begins with the log of each, and
-    /// has just the calls of each and no other; how many places it claimed, stopped and left is answered. What is left is not
-    /// given again. It takes the runtime to read the cell once more.
+    /// Ends the pool where all its seats came, and answers how many places were claimed, stopped
+    /// and left. The call log of one seat begins with the log of each, and has just the calls of
+    /// each and no other. Places that are left are not given again. It takes the runtime to read
+    /// the cell once more.
     ///
-    /// `MissingSeats` where they are not, with the pool and the seats handed back as they were.
+    /// `MissingSeats` where a seat is missing, with the pool and the seats handed back as they
+    /// were.
     pub fn finish<R: Wait>(
         self,
         rt: &R,
@@ -22,9 +24,11 @@ impl CellPool {
     ) -> Result<Tally, (MissingSeats, CellPool, Vec<CellSeat>)>
         requires { All (λ seat. seat.pool ≡ self) seats.items }
         ensures ok { IsOk result ↔ (self.seats ≤ vec_len seats) }
-        ensures history { IfOk result (λ t. (log : List Entry) × IsWhole self.len seats.items log × Tallies self.len log t) }
+        ensures history { IfOk result (λ t.
+            (log : List Entry) × IsWhole self.len seats.items log × Tallies self.len log t) }
         ensures sum { IfOk result (λ t. t.claimed + t.stopped + t.left ≡ self.len) }
-        ensures err { IfErr result (λ e. (e.0.present ≡ vec_len seats) × (e.1 ≡ self) × (e.2 ≡ seats)) }
+        ensures err { IfErr result (λ e.
+            (e.0.present ≡ vec_len seats) × (e.1 ≡ self) × (e.2 ≡ seats)) }
     {
         let present = seats.len();
         if present < self.seats {
@@ -50,7 +54,7 @@ impl CellPool {
             stopped = stopped.saturating_add(more);
         }
         let found = cell.load_as::<Find, R>(rt, &mut all);
-        let left = len.saturating_sub(found.gone);
+        let left = len.saturating_sub(found.taken);
         Ok(Tally {
             claimed: len - left - stopped,
             stopped,

@@ -1,5 +1,5 @@
-//! An index pool over one ruled cell, under the contracts of `lms_pool`'s. Its calls wait for each other. Tests and timings hold
-//! `lms_pool` against it; no product stands on it.
+//! An index pool over one ruled cell, with the contracts of `lms_pool`. Its calls wait for each
+//! other. Tests and timings compare `lms_pool` with it; no product crate uses it.
 #![tactic(auto)]
 
 mod claim;

@@ -1,4 +1,4 @@
-//! A pool is made over a lease.
+//! Makes a pool over a lease.
 ghost use Rattle.std.specs.Prelude.{◌≡◌, ◌+◌, ◌<◌, ◌≤◌, None, All, IfOk, IfErr, vec_len};
 ghost use Rattle.crossbeam_utils.specs.Seq.{cell_view};
 ghost use Rattle.lms_pool.specs.Rule.{most_seats};
@@ -15,8 +15,8 @@ use std::snapshot::Snapshot;
 use std::sync::Wait;
 
 impl CellPool {
-    /// The pool of the lease's indices, and its seats, 1 to 64, numbered from 0 on. It takes the runtime to fill the cell, where no other
-    /// call can be in its way.
+    /// The pool of the lease's indices, and its seats, 1 to 64, numbered from 0 on. It takes the
+    /// runtime to fill the cell, which no other call can use yet.
     ///
     /// `OutOfMemory` where memory is refused, with the lease handed back as it was.
     pub fn over<R: Wait>(
@@ -37,10 +37,10 @@ impl CellPool {
             return Err((OutOfMemory, lease));
         };
         let (key, start, len) = (lease.key(), lease.start(), lease.len());
-        // Its contract says at most 2^60, so that a start and a place add up to a `u64`.
+        // for the proof: the capacity is at most 2^60, so a start plus a place is a `u64`
         let _capacity = key.capacity();
         let empty = Places {
-            gone: 0,
+            taken: 0,
             len: 0,
             seats: 0,
         };
@@ -63,21 +63,22 @@ impl CellPool {
         Ok((pool, all_seats))
     }
 
-    /// Writes into the cell how many places and seats there are, by its first token, which then stands for all seats.
+    /// Writes the numbers of places and seats into the cell, by its first token, which then stands
+    /// for all seats.
     fn fill<R: Wait>(&self, rt: &R, first: &mut Token)
         requires table { first.old.table_id ≡ self.now.table }
         requires empty { cell_view first.old ≡ None }
         ensures { IsRest self.now 0 first.new.table_id (cell_view first.new) }
     {
         let all = Places {
-            gone: 0,
+            taken: 0,
             len: self.len,
             seats: self.seats as u64,
         };
         self.cell.swap_as::<Fill, R>(rt, first, all);
     }
 
-    /// Parts the seat of this number from those that are left.
+    /// Splits the seat of this number off from those that are left.
     fn part(&self, rest: &mut Token, number: usize) -> CellSeat
         requires below { number < self.now.seats }
         requires rest { IsRest self.now number rest.old.table_id (cell_view rest.old) }

@@ -1,10 +1,10 @@
-//! What a claim gives.
+//! What a claim answers.
 use crate::pool::CellPool;
 use std::marker::Model;
 use std::snapshot::Snapshot;
 
-/// Like an `IndexPass`, the right to sign by one index. It can't be copied, and can't be let go: it has to be spent, by `burn`. Contracts
-/// see its pool and its place.
+/// The right to sign with one index, as an `IndexPass` is. It can't be copied or dropped: `burn`
+/// spends it. Contracts see its pool and its place.
 pub struct CellPass {
     pub(crate) pool: Snapshot<CellPool>,
     pub(crate) place: u64,
@@ -35,7 +35,7 @@ impl CellPass {
         self.place
     }
 
-    /// The index: the lease's start and the place, added.
+    /// The index: the lease's start plus the place.
     pub fn index(&self) -> u64
         ensures index { result ≡ index_of self.now }
         ensures below { result < capacity_of (hss_key_of self.now.pool.key) }

@@ -3,7 +3,8 @@ use crate::rule::Cell;
 use lms_hss::HssKey;
 use std::marker::Model;
 
-/// The places of a lease, numbered from 0, which seats draw one after another. Contracts see of it what they see of an `IndexPool`.
+/// The places of a lease, numbered from 0, which seats claim one after another. Contracts see the
+/// same of it as of an `IndexPool`.
 #[derive(Drop)]
 pub struct CellPool {
     pub(crate) cell: Cell,

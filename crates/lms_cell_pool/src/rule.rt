@@ -1,6 +1,6 @@
-//! The rule of a pool's cell and of what its seats know, and what each step tells the seat that makes it.
+//! The rule of a pool's cell and of what its seats know, and what each step answers its seat.
 ghost use Rattle.std.specs.Prelude.{None, [], ◌∷◌};
-ghost use Rattle.lms_pool.specs.declared.history.Call.TheVariants.{Claim, Stop};
+ghost use Rattle.lms_pool.specs.declared.call_log.Call.TheVariants.{Claim, Stop};
 ghost use Rattle.lms_cell_pool.specs.Rule.{CellKept, called_look, changed, filled, first_view, found, handed_over, nobody, other_views, peeked, together};
 
 use atomic_table::{Join, Split};
@@ -10,24 +10,25 @@ use lms_pool::Hand;
 use std::alloc::Global;
 use std::collections::LinkedList;
 
-/// What the cell holds: how many places are gone, how many there are, and how many seats. No step but the fill changes the last two.
+/// What the cell holds: how many places are taken, how many there are, and how many seats. Only the
+/// fill changes the last two.
 #[derive(Clone, Copy, PartialEq, Eq)]
 pub struct Places {
-    pub gone: u64,
+    pub taken: u64,
     pub len: u64,
     pub seats: u64,
 }
 
 impl Words<3> for Places {
-    ghost words = { λ places. places.gone ∷ places.len ∷ places.seats ∷ [] };
+    ghost words = { λ places. places.taken ∷ places.len ∷ places.seats ∷ [] };
 
     fn to_words(self) -> [u64; 3] {
-        [self.gone, self.len, self.seats]
+        [self.taken, self.len, self.seats]
     }
 
     fn from_words(words: &[u64; 3]) -> Self {
-        let [gone, len, seats] = *words;
-        Places { gone, len, seats }
+        let [taken, len, seats] = *words;
+        Places { taken, len, seats }
     }
 }
 
@@ -37,7 +38,8 @@ pub struct Known {
     pub hands: LinkedList<Hand, Global>,
 }
 
-/// What a token of the cell knows: nothing before the pool is filled. Proofs alone make these values.
+/// What a token of the cell knows: nothing before the cell is filled. Only proofs make these
+/// values.
 pub type View = Option<Known>;
 
 /// The cell of a pool.
@@ -46,7 +48,7 @@ pub type Cell = RuledSeqCell<Places, View, CellRule, 3>;
 /// The right to take a step on a cell.
 pub type Token = Pass<Places, View>;
 
-/// What holds of the cell and of what seats know, between any two steps (`CellKept`).
+/// What holds of the cell and of what seats know between any two steps (`CellKept`).
 pub struct CellRule;
 
 impl Protocol<Places, View> for CellRule {
@@ -62,7 +64,7 @@ impl Outcome<Places, View> for Fill {
     ghost then = { filled };
 }
 
-/// The load of a claim, which is its event where no place is left.
+/// The load of a claim. Where no place is left it is the whole claim.
 pub struct PeekClaim;
 
 impl Outcome<Places, View> for PeekClaim {
@@ -83,7 +85,7 @@ impl Outcome<Places, View> for Look {
     ghost then = { called_look };
 }
 
-/// The load of a stop, which is its event where no place is left.
+/// The load of a stop. Where no place is left it is the whole stop.
 pub struct PeekStop;
 
 impl Outcome<Places, View> for PeekStop {
@@ -113,7 +115,7 @@ impl Split<View> for Apart {
     ghost right = { first_view };
 }
 
-/// All hands go to a new token, since a token is joined only as a split gave it.
+/// All hands go to a new token, since only a token that a split gave can be joined.
 pub struct HandOver;
 
 impl Split<View> for HandOver {

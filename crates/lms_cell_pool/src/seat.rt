@@ -4,13 +4,14 @@ use crate::rule::Token;
 use std::marker::Model;
 use std::snapshot::Snapshot;
 
-/// The right to call a pool as one seat. Contracts see of it what they see of a `DrawSeat`.
+/// The right to call a pool as one seat. Contracts see the same of it as of a `DrawSeat`.
 #[derive(Drop)]
 pub struct CellSeat {
     pub(crate) pool: Snapshot<CellPool>,
     pub(crate) token: Token,
     pub(crate) number: usize,
-    // What its stops answered, added up. The cell doesn't tell a place that was stopped from one that was claimed.
+    // The sum of what its stops answered: the cell doesn't distinguish stopped places from claimed
+    // ones.
     pub(crate) stopped: u64,
 }
 
@@ -22,7 +23,13 @@ impl Model for CellSeat {
 
     ghost Value = { SeatState };
 
-    ghost view = { λ s. record { pool = s.pool.value; number = s.number; log = (hand_in (cell_view s.token)).log } };
+    ghost view = { λ s.
+        record {
+          pool = s.pool.value;
+          number = s.number;
+          log = (hand_in (cell_view s.token)).log;
+        } };
 
-    ghost invariant = { λ s. IsCellSeat s.pool.value s.number s.stopped s.token.table_id (cell_view s.token) };
+    ghost invariant = { λ s.
+        IsCellSeat s.pool.value s.number s.stopped s.token.table_id (cell_view s.token) };
 }

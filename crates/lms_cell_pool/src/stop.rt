@@ -1,7 +1,7 @@
 //! A seat stops the pool.
 ghost use Rattle.std.specs.Prelude.{◌≡◌, IfSome, IfNone};
-ghost use Rattle.lms_pool.specs.declared.history.Call.TheVariants.{Stop};
-ghost use Rattle.lms_pool.specs.declared.history.Reply.TheVariants.{Count};
+ghost use Rattle.lms_pool.specs.declared.call_log.Call.TheVariants.{Stop};
+ghost use Rattle.lms_pool.specs.declared.call_log.Reply.TheVariants.{Count};
 ghost use Rattle.lms_pool.specs.States.{Calls};
 
 use crate::pool::CellPool;
@@ -10,7 +10,7 @@ use crate::seat::CellSeat;
 use std::sync::Wait;
 
 impl CellPool {
-    /// Ends the pool, and answers how many places that burns. It may wait for other calls.
+    /// Takes all places that are left, and answers how many these are. It may wait for other calls.
     pub fn stop<R: Wait>(&self, rt: &R, me: &mut CellSeat) -> u64
         requires { me.old.pool ≡ self.now }
         ensures seat { me.new.pool ≡ self.now }
@@ -24,18 +24,19 @@ impl CellPool {
         unreachable!()
     }
 
-    /// Ends the pool, and answers how many places that burns. `None` where another step came between: no call was made then.
+    /// Takes all places that are left, and answers how many these are. `None` where another step
+    /// came between; then no call was made.
     fn try_stop<R: Wait>(&self, rt: &R, me: &mut CellSeat) -> Option<u64>
         requires { me.old.pool ≡ self.now }
         ensures call { IfSome result (λ burnt. Calls me.old Stop (Count burnt) me.new) }
         ensures none { IfNone result (me.new ≡ me.old) }
     {
         let found = self.cell.load_as::<PeekStop, R>(rt, &mut me.token);
-        if found.gone >= self.len {
+        if found.taken >= self.len {
             return Some(0);
         }
         let next = Places {
-            gone: self.len,
+            taken: self.len,
             len: found.len,
             seats: found.seats,
         };
@@ -44,7 +45,7 @@ impl CellPool {
             .compare_exchange_as::<Halt, R>(rt, &mut me.token, found, next)
         {
             Ok(_) => {
-                let burnt = self.len - found.gone;
+                let burnt = self.len - found.taken;
                 me.stopped += burnt;
                 Some(burnt)
             }

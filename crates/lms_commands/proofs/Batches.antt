@@ -1,4 +1,4 @@
--- What a list of jobs did to a book, as told of the state in its world.
+-- What a list of jobs did to a book, in terms of the state in its world.
 use Rattle.std.proofs.Common.{◌≡◌, ◌∙◌, inl, inr, ⊎_elim, ℕ, zero, suc, ◌+◌, ◌≤◌, List, [], ◌∷◌, ◌++◌, drop, take, length, Option, None, Some, Result, Ok, Err, refl, sym, ap, subst, arith}
 use Rattle.std.specs.Prelude.{◌↔◌, IfSome, min}
 use Rattle.std.specs.Io.KnownBytes.{Appends, Keeps}
@@ -7,8 +7,8 @@ use Rattle.std.proofs.lemmas.List.Sums.{sum_by-cons}
 use Rattle.lms_image.specs.Image.{image_of, HasImage}
 use Rattle.lms_book.specs.declared.history.Entry.{Entry}
 use Rattle.lms_book.specs.declared.history.Entry.TheVariants.{Given, Burnt}
-use Rattle.lms_book.specs.declared.refusals.BookFault.{BookFault}
-use Rattle.lms_book.specs.declared.refusals.BookFault.TheVariants as book
+use Rattle.lms_book.specs.declared.fault.BookFault.{BookFault}
+use Rattle.lms_book.specs.declared.fault.BookFault.TheVariants as book
 use Rattle.lms_book.specs.Stops.{MayLeave, StoreView}
 use Rattle.lms_book.specs.States.{BookState, LeaseState}
 use Rattle.lms_book.specs.Books.{Reserves, counter, next_image}
@@ -18,14 +18,14 @@ use Rattle.lms_shared_book.specs.Desks.{Sums, plus, sums, sums_of, total}
 use Rattle.lms_shared_book.specs.Shared.{IsAfter, IsAfterEntry, IsSettled}
 use Rattle.lms_batch.specs.Answers.{CouldBeReserved, IsAnswerAfter, start_of}
 use Rattle.lms_batch.specs.declared.collector.Batch.{Batch}
-use Rattle.lms_batch.specs.declared.service.BatchFault.{BatchFault}
-use Rattle.lms_batch.specs.declared.service.BatchFault.TheVariants as unsigned
+use Rattle.lms_batch.specs.declared.fault.BatchFault.{BatchFault}
+use Rattle.lms_batch.specs.declared.fault.BatchFault.TheVariants as unsigned
 use Rattle.lms_lines.specs.AnswerLines.{answer_text, AppendsFront}
 use Rattle.lms_lines.specs.SignedLines.{IsBatchRead, IsUnsigned, signatures_in}
 use Rattle.lms_lines.specs.declared.fault.JobsFault.TheVariants as jobs
 use Rattle.lms_lines.specs.declared.signing.SignedJobs.{SignedJobs}
-use Rattle.lms_lines.specs.declared.signing.LinesFault.{LinesFault}
-use Rattle.lms_lines.specs.declared.signing.LinesFault.TheVariants as lines
+use Rattle.lms_lines.specs.declared.fault.LinesFault.{LinesFault}
+use Rattle.lms_lines.specs.declared.fault.LinesFault.TheVariants as lines
 use Rattle.lms_commands.specs.Batches.{FailsToAnswer, FailsToSignInput, IsUnprinted, SignsAllJobs, SignsAsked, SignsBatch, Streams}
 use Rattle.lms_commands.specs.Faults.{of_lines}
 use Rattle.lms_commands.specs.declared.fault.Fault.{Fault}
@@ -34,7 +34,7 @@ use Rattle.lms_commands.specs.BatchLogs.{AnswersJobs, LogsBatch, LogsJobsUnsigne
 use Rattle.lms_commands.specs.Logs.{LeavesState, WorldCalls, OpensState, StoresUse, TriesUse, state_of}
 use Rattle.lms_world.specs.Events.{PutBack}
 use Rattle.lms_commands.proofs.Logged.{left_so, stored, tried}
-use Rattle.lms_world.specs.Known.{IsOldOr, Known, Stays, Text}
+use Rattle.lms_world.specs.Known.{IsOldOr, Known, Stays, Bytes}
 use Rattle.lms_commands.specs.SharedBooks.{IsRefusedBy, IsSignedByBook, at_one_desk}
 use Rattle.lms_commands.specs.Signing.{MayBurnIndices, MayBeImageOf, MayLackIndices, Opens, MayUseIndices}
 use Rattle.lms_commands.proofs.Signings.{IsJustOpened, image_is}
@@ -110,7 +110,7 @@ refused_so start n fault could = let found = finds_start start n (Err (unsigned.
     go new (Ok lease) is follows = absurd follows
     go new (Err refused) is follows = (new, subst (λ (f : BookFault). Reserves n start (Err f) new) (sym follows) is)
 
-module _ (old new : Known) (state : Text) (start left : BookState) (store : StoreView)
+module _ (old new : Known) (state : Bytes) (start left : BookState) (store : StoreView)
     (counted : HasImage start.key start.base start.openings start.burnt)
     (opened : MayBeImageOf old state start.key start.base start.openings start.burnt) (is_fresh : IsJustOpened start) (view : store ≡ left.store)
     (taken : (text : List ℕ) → MayLeave start.store text ↔ old.may_hold state text)
@@ -226,7 +226,7 @@ module _ (old new : Known) (state : Text) (start left : BookState) (store : Stor
   failed_so before after fault (sum, (lines, same, is), settled) =
       subst (FailsToSignInput old new state before after) (sym same) (lines_failed before after lines sum is settled)
 
--- the same, as told of the calls that were made
+-- the same, in terms of the calls that were made
 module _ (start left : BookState) (view : StoreView) (before opened back : WorldCalls) (opens : OpensState start before opened) (is_fresh : IsJustOpened start)
     (view_is : view ≡ left.store) (back_is : back ≡ PutBack view ∷ opened) where
   leaves_none : (sum : Sums) → sum ≡ sums 0 0 0 → IsSettled start sum left → LeavesState (state_of start) before back
@@ -314,7 +314,7 @@ flushed_front before mid after text appends keeps =
     record { front = text; rest = []; whole = sym (append-nil _); appended = flushed before mid after text appends keeps }
 
 -- all jobs were signed and their lines printed
-pub answered_all : (old new : Known) (state : Text) (before after : Streams) (signed : SignedJobs) → SignsAsked old new state before.input after.input signed
+pub answered_all : (old new : Known) (state : Bytes) (before after : Streams) (signed : SignedJobs) → SignsAsked old new state before.input after.input signed
     → (signatures_in signed.batch ≡ signed.asked) × Appends before.output after.output (answer_text signed.batch) → SignsAllJobs old new state before after
 answered_all old new state before after signed (is, asked) (count, printed) = (
   signed.asked,
@@ -322,7 +322,7 @@ answered_all old new state before after signed (is, asked) (count, printed) = (
 )
 
 -- they were not, or not all lines were printed
-pub unprinted : (old new : Known) (state : Text) (before after : Streams) (signed : SignedJobs) → SignsAsked old new state before.input after.input signed
+pub unprinted : (old new : Known) (state : Bytes) (before after : Streams) (signed : SignedJobs) → SignsAsked old new state before.input after.input signed
     → (fault : Fault) → IsUnprinted signed before.output after.output fault → FailsToAnswer old new state before after fault
 unprinted old new state before after signed is BadLevels never = absurd never
 unprinted old new state before after signed is TooManyLevels never = absurd never

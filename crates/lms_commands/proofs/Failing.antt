@@ -4,19 +4,19 @@ use Rattle.std.specs.Prelude.{IfErr, IsErrAnd, OnOk}
 use Rattle.hex.specs.Hex.{decode_of}
 use Rattle.lms_hss.specs.declared.key.HssKey.{HssKey as KeyOfCode}
 use Rattle.lms_commands.specs.Keygen.{FailsToMakeKey, MayBeNewKey}
-use Rattle.lms_world.specs.Known.{Known, Stays, Text}
+use Rattle.lms_world.specs.Known.{Known, Stays, Bytes}
 use Rattle.lms_commands.specs.Signing.{FailsToSign, FailsUnder, MayUseIndices, SignsNext}
 use Rattle.lms_commands.specs.Faults.{of_read}
 use Rattle.lms_commands.specs.KeygenLogs.{IsUnpublished}
 use Rattle.lms_commands.specs.Verifying.{MayBeRefusedAt}
-use Rattle.lms_world.specs.declared.world.WorldFault.{WorldFault}
-use Rattle.lms_world.specs.declared.world.WorldFault.TheVariants as world
+use Rattle.lms_world.specs.declared.fault.WorldFault.{WorldFault}
+use Rattle.lms_world.specs.declared.fault.WorldFault.TheVariants as world
 use Rattle.lms_commands.specs.Logs.{IsReadRefused, WorldCalls}
 use Rattle.lms_commands.specs.declared.fault.Fault.{Fault}
 use Rattle.lms_commands.specs.declared.fault.Fault.TheVariants.{BadLevels, TooManyLevels, TooTall, BadSeed, BadId, BadRandom, BadWorkers, BadJob, TooManyJobs, StateExists, StateInUse, ReadState, BadState, WriteState, WriteStateBurnt, Exhausted, OutOfMemory, OutOfMemoryBurnt, Partial, Input, Output}
 
 -- nothing changed
-pub stays_same : (at : Known) (state : Text) → Stays at at state
+pub stays_same : (at : Known) (state : Bytes) → Stays at at state
 stays_same at state = record { kept = λ text keeps. keeps; only = at.held_is_possible state }
 
 -- two facts of what is done make a third
@@ -25,18 +25,18 @@ both_ok (Ok x) P Q R more p q = more p q
 both_ok (Err e) P Q R more p q = tt
 
 -- what is done, or failed, of each state of a lock, is so of one of them
-pub made_with : {T E : Type 0} (result : Result T E) (Of Made : Text → Type 0) (state : Text) → Of state
-    → OnOk result ((name : Text) → Of name → Made name) → OnOk result (Made state)
+pub made_with : {T E : Type 0} (result : Result T E) (Of Made : Bytes → Type 0) (state : Bytes) → Of state
+    → OnOk result ((name : Bytes) → Of name → Made name) → OnOk result (Made state)
 made_with (Ok x) Of Made state locked made = made state locked
 made_with (Err e) Of Made state locked made = tt
 
-pub failed_with : {T E : Type 0} (result : Result T E) (Of : Text → Type 0) (Fails : Text → E → Type 0) (state : Text) → Of state
-    → IfErr result (λ fault. (name : Text) → Of name → Fails name fault) → IfErr result (Fails state)
+pub failed_with : {T E : Type 0} (result : Result T E) (Of : Bytes → Type 0) (Fails : Bytes → E → Type 0) (state : Bytes) → Of state
+    → IfErr result (λ fault. (name : Bytes) → Of name → Fails name fault) → IfErr result (Fails state)
 failed_with (Ok x) Of Fails state locked failed = tt
 failed_with (Err e) Of Fails state locked failed = failed state locked
 
 -- an index is used, and no state changed after that
-pub may_use_still : (n : ℕ) (old mid new : Known) (state : Text) (key : KeyOfCode) (index : ℕ) → MayUseIndices (suc n) old mid state key index
+pub may_use_still : (n : ℕ) (old mid new : Known) (state : Bytes) (key : KeyOfCode) (index : ℕ) → MayUseIndices (suc n) old mid state key index
     → Stays mid new state → MayUseIndices (suc n) old new state key index
 may_use_still n old mid new state key index is stays = record {
   openings = is.openings;
@@ -48,7 +48,7 @@ may_use_still n old mid new state key index is stays = record {
 }
 
 -- a message was signed, and no state changed after that
-pub signed_still : (old mid new : Known) (state : Text) (random message signature : List ℕ) (index : ℕ) → SignsNext old mid state random message signature index
+pub signed_still : (old mid new : Known) (state : Bytes) (random message signature : List ℕ) (index : ℕ) → SignsNext old mid state random message signature index
     → Stays mid new state → SignsNext old new state random message signature index
 signed_still old mid new state random message signature index is stays = record {
   key = is.key;
@@ -59,7 +59,7 @@ signed_still old mid new state random message signature index is stays = record 
 }
 
 -- why a key was not made once its state may have been stored
-pub not_published : (old new : Known) (key : KeyOfCode) (state public : Text) (bytes line before printed : List ℕ) (then now : WorldCalls)
+pub not_published : (old new : Known) (key : KeyOfCode) (state public : Bytes) (bytes line before printed : List ℕ) (then now : WorldCalls)
     → MayBeNewKey old new key state → (fault : Fault) → IsUnpublished public bytes line before printed fault then now → FailsToMakeKey old new key state fault
 not_published old new key state public bytes line before printed then now made BadLevels never = absurd never
 not_published old new key state public bytes line before printed then now made TooManyLevels never = absurd never
@@ -84,7 +84,7 @@ not_published old new key state public bytes line before printed then now made I
 not_published old new key state public bytes line before printed then now made Output is = made
 
 -- why a message that was read was not signed under a lock, or not delivered
-pub failed_under : (old new : Known) (state random message : Text) (randomizer text : List ℕ) → (length randomizer ≡ 32) × (decode_of random ≡ Ok randomizer)
+pub failed_under : (old new : Known) (state random message : Bytes) (randomizer text : List ℕ) → (length randomizer ≡ 32) × (decode_of random ≡ Ok randomizer)
     → old.may_give message text → (fault : Fault) → FailsUnder old new state randomizer text fault → FailsToSign old new state random message fault
 failed_under old new state random message randomizer text read given BadLevels is = ((randomizer, read.0, read.1), (text, given), is)
 failed_under old new state random message randomizer text read given TooManyLevels is = ((randomizer, read.0, read.1), (text, given), is)
@@ -116,7 +116,7 @@ failed_under old new state random message randomizer text read given Output is =
   signed = is.2;
 }
 
--- a fault that a `?` hands on
+-- a fault that a `?` forwards
 pub handed_on : {T E : Type 0} (result : Result T E) (fault : E) (P : E → Type 0) → IsErrAnd result (λ other. other ≡ fault) → P fault → IfErr result P
 handed_on (Ok x) fault P is p = tt
 handed_on (Err other) fault P is p = subst P (sym is) p
@@ -126,7 +126,7 @@ pub unread : (cause : WorldFault) → IsReadRefused (of_read cause)
 unread world.Device = tt
 unread world.OutOfMemory = tt
 
-pub refused_unread : (at : Known) (name : Text) (fault : Fault) → MayBeRefusedAt at name fault → IsReadRefused fault
+pub refused_unread : (at : Known) (name : Bytes) (fault : Fault) → MayBeRefusedAt at name fault → IsReadRefused fault
 refused_unread at name BadLevels never = absurd never
 refused_unread at name TooManyLevels never = absurd never
 refused_unread at name TooTall never = absurd never

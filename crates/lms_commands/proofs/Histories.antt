@@ -14,7 +14,7 @@ use Rattle.lms_world.specs.Events.{Event}
 use Rattle.lms_commands.specs.Histories.{AreInOrder, Does, FindsHeld, Held, IsBeginning, IsEarlier, IsCarried, IsOnly, IsStored, IsTurn, StoresNothing, Makes, Moves, TakenTurn, Signature, Signs, Turn, Uses, UsesIndices, all_left, hands_out, image_by, is_of_store, left_in, store_calls}
 use Rattle.lms_commands.specs.Logs.{KeyState, WorldCalls, image_using}
 
--- ---- what was handed out comes behind all that was done with the state
+-- ---- what was handed out comes after all that was done with the state
 
 no_first : (event : Event) (calls : WorldCalls) (b : Bool) → is_of_store event ≡ b → store_calls (event ∷ calls) ≡ [] → store_calls calls ≡ []
 no_first event calls true is none =
@@ -143,7 +143,8 @@ each_counted count state text calls left uses only start (one ∷ later) (made, 
   each_counted count state text calls left uses only (one.index + 1) later rest,
 )
 
--- what one run leaves: in order, each counted by what is stored then, and behind what was counted by what was stored before
+-- what one run leaves: in order, each counted by what is stored then, and after what was counted by
+-- what was stored before
 record IsLeftInOrder (held left : Held) (signatures : List Signature) : Type 0 where
   pairs : AllPairs IsEarlier signatures
   counted : AllByRecursion (λ one. AllCount one left) signatures
@@ -152,7 +153,7 @@ record IsLeftInOrder (held left : Held) (signatures : List Signature) : Type 0 w
 none_left : (held left : Held) → IsLeftInOrder held left []
 none_left held left = record { pairs = λ i j d lt long. absurd (omega arith); counted = tt; behind = λ one counts. tt }
 
--- behind all that was done with the state, an image that was stored for certain is what is stored
+-- after all that was done with the state, an image that was stored for certain is what is stored
 is_certain : (run : TakenTurn) (held left : Held) (turn : IsTurn run.turn run.signatures run.whole) → IsBeginning run.begun run.whole → IsCarried run held left
     → list_any hands_out run.begun ≡ true → (image : List ℕ) → IsStored image turn.first → Moves run held left × IsOnly image left
 is_certain run held left turn (rest, begins) kept some image (before, earlier, last) =

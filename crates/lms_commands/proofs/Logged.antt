@@ -1,16 +1,16 @@
 -- What a command logged, by what its steps did.
 use Rattle.std.proofs.Common.{◌≡◌, ◌∙◌, inl, inr, Bool, true, false, sym, ℕ, ◌+◌, ◌≤◌, List, ◌∷◌, Option, Some, refl, ap, subst, arith}
 use Rattle.lms_image.specs.Image.{HasImage}
-use Rattle.lms_book.specs.declared.refusals.OpenFault.{OpenFault}
-use Rattle.lms_book.specs.declared.refusals.OpenFault.TheVariants as opening
-use Rattle.lms_book.specs.declared.refusals.BookFault.TheVariants as book
+use Rattle.lms_book.specs.declared.fault.OpenFault.{OpenFault}
+use Rattle.lms_book.specs.declared.fault.OpenFault.TheVariants as opening
+use Rattle.lms_book.specs.declared.fault.BookFault.TheVariants as book
 use Rattle.lms_book.specs.Books.{HasCause, IsReadFrom, capacity, counter, next_image}
 use Rattle.lms_book.specs.States.{BookState}
 use Rattle.lms_book.specs.Stops.{StoreView, FailsToWrite, after_write}
 use Rattle.lms_kept.specs.Signed.{IsSignedByText}
 use Rattle.lms_kept.specs.Ways.{Way}
 use Rattle.lms_world.specs.Events.{Event, PutBack, Taken, Written}
-use Rattle.lms_world.specs.Known.{Text}
+use Rattle.lms_world.specs.Known.{Bytes}
 use Rattle.lms_spec.specs.Profile.{hss_public_key}
 use Rattle.lms_hss.specs.Keys.{hss_key_of}
 use Rattle.lms_hss.specs.declared.key.HssKey.{HssKey as KeyOfCode}
@@ -21,8 +21,8 @@ use Rattle.lms_commands.specs.Faults.{of_opening, of_signing}
 use Rattle.lms_commands.specs.Logs.{LeavesState, WorldCalls, LogsKeeping, LogsUnopened, LogsUnsigned, OpensState, ReadsState, StoresUse, TriesUse, state_of}
 use Rattle.lms_commands.specs.SignLogs.{LogsSigned}
 use Rattle.lms_commands.specs.Signing.{GivesOne, SignsNothing}
-use Rattle.lms_commands.specs.declared.signing.SignFault.{SignFault}
-use Rattle.lms_commands.specs.declared.signing.SignFault.TheVariants as unsigned
+use Rattle.lms_commands.specs.declared.sign.NextFault.{NextFault}
+use Rattle.lms_commands.specs.declared.sign.NextFault.TheVariants as unsigned
 use Rattle.lms_commands.proofs.Signings.{IsJustOpened, image_is}
 
 -- two calls, and three
@@ -41,7 +41,7 @@ unopened may_fail (opening.Image bad) taken left old new (text, may, has, is) ca
 unopened may_fail opening.OutOfMemory taken left old new is calls =
     inr (taken, calls ∙ ap (λ (v : StoreView). PutBack v ∷ Taken (Some taken) ∷ old) is)
 
--- what a book read, as told of its state
+-- what a book read, in terms of its state
 pub state_read : (taken : StoreView) (book : BookState) → IsReadFrom taken book → HasImage book.key book.base book.openings book.burnt
     → ReadsState (state_of book) taken book.store
 state_read taken book is counted = record { text = is.text; left = is.left; counted = counted; image = is.image; given = is.given }
@@ -96,7 +96,7 @@ module _ (before after_it : BookState) (view : StoreView) (old opened back : Wor
     signed = signed;
   }
 
-  pub log_unsigned : (fault : SignFault) → SignsNothing before fault after_it → LogsUnsigned 1 (of_signing fault) (state_of before) old back
+  pub log_unsigned : (fault : NextFault) → SignsNothing before fault after_it → LogsUnsigned 1 (of_signing fault) (state_of before) old back
   log_unsigned (unsigned.Book (book.Exhausted left)) (full, is, same) =
       (omega (arith, full, is_fresh.used), omega (arith, is, is_fresh.used), left_so same)
   log_unsigned (unsigned.Book book.OutOfMemory) (room, same) = left_so same
@@ -104,7 +104,7 @@ module _ (before after_it : BookState) (view : StoreView) (old opened back : Wor
   log_unsigned unsigned.OutOfMemory gives = (refl, stored 1 gives.within gives.stored)
 
 -- a key's state was stored, and its public key or capacity not published
-pub unmade : (key : KeyOfCode) (public : Text) (before printed : List ℕ) (old kept new : WorldCalls)
+pub unmade : (key : KeyOfCode) (public : Bytes) (before printed : List ℕ) (old kept new : WorldCalls)
     → ((written : Bool) → WritesKey key public written old (Written public (hss_public_key (hss_key_of key)) written ∷ kept)) → (fault : Fault)
     → IsUnpublished public (hss_public_key (hss_key_of key)) (capacity_line key) before printed fault kept new → LogsUnmade key public before printed fault old new
 unmade key public before printed old kept new writes BadLevels never = absurd never

@@ -1,4 +1,5 @@
--- What `sign` and `batch` do with their state, and which signatures leave them, by the calls that they make.
+-- What `sign` and `batch` do with their state, and which signatures leave them, by the calls that
+-- they make.
 use Rattle.std.proofs.Common.{◌≡◌, ◌∙◌, ℕ, ◌+◌, ◌≤◌, Bool, true, false, List, [], ◌∷◌, ◌++◌, length, map, Option, Some, None, ap, refl, subst, sym, inl, inr, arith}
 use Rattle.std.specs.Prelude.{Vec}
 use Rattle.std.specs.Global.{Global}
@@ -11,7 +12,7 @@ use Rattle.lms_batch.specs.Answers.{IsAnswerTo, start_of}
 use Rattle.lms_batch.specs.declared.collector.Batch.{Batch}
 use Rattle.lms_batch.specs.declared.collector.Batch.TheVariants as batches
 use Rattle.lms_lines.specs.AnswerLines.{answer_line, answer_text, answers, AppendsFront}
-use Rattle.lms_world.specs.Known.{Text}
+use Rattle.lms_world.specs.Known.{Bytes}
 use Rattle.lms_world.specs.Events.{Event, Locked, NodesRead, Printing, Read, Unlocked}
 use Rattle.lms_commands.specs.BatchLogs.{AnswersJobs, LogsAnswers, LogsJobs, LogsJobsFailed, LogsJobsUnsigned, LogsNoBatch, LogsUnanswered, UsesAll}
 use Rattle.lms_commands.specs.Histories.{AreDelivered, AreInOrder, ArePrinted, AreWritten, IsSignature, IsTurn, Prints, StoresNothing, Signature, Turn, hands_out, is_of_store, signature_lines, store_calls, written_in}
@@ -28,10 +29,10 @@ abbrev pub Delivers : List ℕ → List ℕ → WorldCalls → Type 0
 Delivers before printed whole = (turn : Turn) × (signatures : List Signature) × IsTurn turn signatures whole × AreDelivered signatures whole before printed
 
 module _ (old : WorldCalls) (quiet : list_any hands_out old ≡ false) (none : store_calls old ≡ []) (no_file : written_in old ≡ []) where
-  abbrev signature_of : {random message : List ℕ} {out : Text} {written : Bool} {new : WorldCalls} → WritesSignature random message out written old new → Signature
+  abbrev signature_of : {random message : List ℕ} {out : Bytes} {written : Bool} {new : WorldCalls} → WritesSignature random message out written old new → Signature
   signature_of writes = record { key = writes.signs.state.key; index = writes.index; bytes = writes.signature }
 
-  writes_one : (random message : List ℕ) (out : Text) (written : Bool) (new : WorldCalls) (writes : WritesSignature random message out written old new)
+  writes_one : (random message : List ℕ) (out : Bytes) (written : Bool) (new : WorldCalls) (writes : WritesSignature random message out written old new)
       → (turn : Turn) × IsTurn turn (signature_of writes ∷ []) new × AreWritten (signature_of writes ∷ []) new
   writes_one random message out written new writes =
       let signs = writes.signs in
@@ -46,7 +47,7 @@ module _ (old : WorldCalls) (quiet : list_any hands_out old ≡ false) (none : s
         ap written_in writes.writes ∙ ap (λ (texts : List (List ℕ)). writes.signature ∷ texts) (kept.1 ∙ (ap written_in signs.stores.4 ∙ no_file)),
       )
 
-  delivered : (random message : List ℕ) (out : Text) (before printed : List ℕ) (new : WorldCalls) (delivers : DeliversSignature random message out before old new)
+  delivered : (random message : List ℕ) (out : Bytes) (before printed : List ℕ) (new : WorldCalls) (delivers : DeliversSignature random message out before old new)
       → Prints before printed (index_line delivers.writes) → Delivers before printed new
   delivered random message out before printed new delivers line =
       let written = writes_one random message out true delivers.until_written delivers.writes in (
@@ -60,7 +61,7 @@ module _ (old : WorldCalls) (quiet : list_any hands_out old ≡ false) (none : s
   not_signed new nodes fault (inl never) = unopened (NodesRead nodes ∷ old) quiet none new fault never
   not_signed new nodes fault (inr (state, never)) = unsigned (NodesRead nodes ∷ old) quiet none 1 state new (omega arith) fault never
 
-  undelivered : (random message : List ℕ) (out : Text) (before printed : List ℕ) (fault : Fault) (new : WorldCalls)
+  undelivered : (random message : List ℕ) (out : Bytes) (before printed : List ℕ) (fault : Fault) (new : WorldCalls)
       → LogsUndelivered random message out before printed fault old new → Delivers before printed new
   undelivered random message out before printed fault new (inl (nodes, never, same)) =
       let is = not_signed new nodes fault never in (is.0, [], is.1.takes, (is.1.unwritten ∙ no_file, inl same))
@@ -73,7 +74,7 @@ unlocked : (before printed : List ℕ) (log new : WorldCalls) → new ≡ Unlock
 unlocked before printed log new calls (turn, signatures, is, (written, line)) =
     (turn, signatures, one_more new Unlocked refl calls is, (ap written_in calls ∙ written, line))
 
-pub sign_turn : (random message state out : Text) (before printed : List ℕ) (whole : WorldCalls) → LogsSign random message state out before printed [] whole
+pub sign_turn : (random message state out : Bytes) (before printed : List ℕ) (whole : WorldCalls) → LogsSign random message state out before printed [] whole
     → Delivers before printed whole
 sign_turn random message state out before printed whole (c, text, last, decoded, (delivers, line), calls) =
     unlocked before printed last whole calls
@@ -83,7 +84,7 @@ nothing_delivered : (before printed : List ℕ) (new calls : WorldCalls) → new
     → printed ≡ before → Delivers before printed new
 nothing_delivered before printed new calls is none quiet no_file same = (StoresNothing, [], idle_as new calls is none quiet, (ap written_in is ∙ no_file, inl same))
 
-pub sign_failed_turn : (random message state out : Text) (before printed : List ℕ) (fault : Fault) (whole : WorldCalls)
+pub sign_failed_turn : (random message state out : Bytes) (before printed : List ℕ) (fault : Fault) (whole : WorldCalls)
     → LogsSignFailed random message state out before printed fault [] whole → Delivers before printed whole
 sign_failed_turn random message state out before printed fault whole (inl (bad, calls, same)) = nothing_delivered before printed whole _ calls refl refl refl same
 sign_failed_turn random message state out before printed fault whole (inr (inl (refused, calls, same))) =
@@ -242,13 +243,13 @@ module _ (old : WorldCalls) (quiet : list_any hands_out old ≡ false) (none : s
   no_batch new fault (inl never) = unopened old quiet none new fault never
   no_batch new fault (inr (state, never)) = jobs_unsigned state new fault never
 
-pub jobs_turn : (state : Text) (input rest : Option (List ℕ)) (before printed : List ℕ) (whole : WorldCalls) → LogsJobs state input rest before printed [] whole
+pub jobs_turn : (state : Bytes) (input rest : Option (List ℕ)) (before printed : List ℕ) (whole : WorldCalls) → LogsJobs state input rest before printed [] whole
     → PrintsAll before printed whole
 jobs_turn state input rest before printed whole (last, count, is, calls) =
     prints_more before printed last whole Unlocked refl refl calls
     (all_answered (Locked state true ∷ []) refl refl refl input rest before printed count count last is)
 
-pub jobs_failed_turn : (state : Text) (input rest : Option (List ℕ)) (before printed : List ℕ) (fault : Fault) (whole : WorldCalls)
+pub jobs_failed_turn : (state : Bytes) (input rest : Option (List ℕ)) (before printed : List ℕ) (fault : Fault) (whole : WorldCalls)
     → LogsJobsFailed state input rest before printed fault [] whole → PrintsAll before printed whole
 jobs_failed_turn state input rest before printed fault whole (inl (bad, calls, same)) =
     (StoresNothing, [], idle_as whole [] calls refl refl, (ap written_in calls, no_text before printed [] same))

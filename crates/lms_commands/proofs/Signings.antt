@@ -1,23 +1,23 @@
--- Why a book's next index signed nothing, as told of the state in its world.
+-- Why a book's next index signed nothing, in terms of the state in its world.
 use Rattle.std.proofs.Common.{◌≡◌, ◌∙◌, None, Some, inl, inr, ⊎_elim, ℕ, ◌+◌, List, [], refl, sym, ap, ap₂, subst, arith}
 use Rattle.std.specs.Prelude.{◌↔◌, Option, IfSome, option_map}
 use Rattle.std.proofs.lemmas.Option.{IfSome_then}
 use Rattle.lms_image.specs.Image.{image_of, HasImage}
 use Rattle.lms_book.specs.declared.history.Entry.{Entry}
-use Rattle.lms_book.specs.declared.refusals.BookFault.TheVariants as book
+use Rattle.lms_book.specs.declared.fault.BookFault.TheVariants as book
 use Rattle.lms_book.specs.History.{counter_of, burnt_after}
 use Rattle.lms_book.specs.Stops.{MayLeave, StoreView}
 use Rattle.lms_book.specs.States.{BookState}
 use Rattle.lms_book.specs.Books.{burnt_now, counter, next_image}
 use Rattle.lms_book.proofs.Leaving.{leaves_failed, only_has}
 use Rattle.lms_commands.specs.Faults.{of_signing}
-use Rattle.lms_world.specs.Known.{IsOldOr, Known, Stays, Text}
+use Rattle.lms_world.specs.Known.{IsOldOr, Known, Stays, Bytes}
 use Rattle.lms_kept.specs.Signed.{IsSignedByText}
 use Rattle.lms_kept.specs.Ways.{Way}
 use Rattle.lms_commands.specs.Keeping.{MayBeKept}
 use Rattle.lms_commands.specs.Signing.{FailsToSignNext, GivesOne, MayBeImageOf, SignsNext, SignsNothing, MayUseIndices}
-use Rattle.lms_commands.specs.declared.signing.SignFault.{SignFault}
-use Rattle.lms_commands.specs.declared.signing.SignFault.TheVariants as unsigned
+use Rattle.lms_commands.specs.declared.sign.NextFault.{NextFault}
+use Rattle.lms_commands.specs.declared.sign.NextFault.TheVariants as unsigned
 
 -- a book whose history is empty counts what was read
 pub record IsJustOpened (book : BookState) : Type 0 where
@@ -34,7 +34,7 @@ just_opened book none = record {
 pub image_is : (n : ℕ) (book : BookState) → IsJustOpened book → next_image n book ≡ image_of book.key (book.base + n) (book.openings + 1) book.burnt
 image_is n book is = ap₂ (λ (at lost : ℕ). image_of book.key (at + n) (book.openings + 1) lost) is.used is.lost
 
-module _ (old new : Known) (state : Text) (before after : BookState) (store : StoreView)
+module _ (old new : Known) (state : Bytes) (before after : BookState) (store : StoreView)
     (counted : HasImage before.key before.base before.openings before.burnt)
     (opened : MayBeImageOf old state before.key before.base before.openings before.burnt) (is_fresh : IsJustOpened before) (view : store ≡ after.store)
     (taken : (text : List ℕ) → MayLeave before.store text ↔ old.may_hold state text)
@@ -63,7 +63,7 @@ module _ (old new : Known) (state : Text) (before after : BookState) (store : St
         stored = kept text (subst (λ (s : StoreView). MayLeave s text) (sym view) there);
       }
 
-  pub next_failed : (fault : SignFault) → SignsNothing before fault after → FailsToSignNext old new state (of_signing fault)
+  pub next_failed : (fault : NextFault) → SignsNothing before fault after → FailsToSignNext old new state (of_signing fault)
   next_failed (unsigned.Book (book.Exhausted left)) (full, is, same) = (
     (before.key, before.base, before.openings, before.burnt, counted, omega (arith, full, is_fresh.used), omega (arith, is, is_fresh.used), opened),
     stays_with same,

@@ -8,7 +8,7 @@ use Rattle.lms_hss.specs.declared.key.HssKey.{HssKey as KeyOfCode}
 use Rattle.lms_image.specs.Image.{image_of}
 use Rattle.lms_book.specs.Stops.{StoreView, after_failure, after_write, having_given}
 use Rattle.lms_kept.specs.Ways.{Way}
-use Rattle.lms_world.specs.Known.{Text}
+use Rattle.lms_world.specs.Known.{Bytes}
 use Rattle.lms_world.specs.Events.{Event, Asked, Locked, Opened, Printing, PutBack, Read, Taken, Unlocked}
 use Rattle.lms_commands.specs.Histories.{AreInOrder, Does, IsOneUse, IsTurn, IsUnwritten, HandsKey, HandsNothing, HandsState, HandsVerdict, Prints, StoresNothing, Makes, Signature, Signs, Turn, Uses, hands_out, is_of_store, store_calls, written_in}
 use Rattle.lms_commands.specs.KeygenLogs.{capacity_line, LogsKeygen, LogsKeygenFailed, LogsUnmade, LogsUnstored, PublishesKey, StoresKey, WritesKey}
@@ -196,7 +196,7 @@ whole_text before printed text all = record { front = text; rest = []; whole = s
 abbrev pub Ends : (WorldCalls → List ℕ → List ℕ → Type 0) → WorldCalls → List ℕ → List ℕ → Type 0
 Ends Hands whole before printed = (turn : Turn) × IsTurn turn [] whole × Hands whole before printed
 
-describes : (read : KeyState) (state : Text) (before : List ℕ) (last whole : WorldCalls) → ReadsToPrint read before (Locked state true ∷ []) last → whole ≡ Unlocked ∷ last
+describes : (read : KeyState) (state : Bytes) (before : List ℕ) (last whole : WorldCalls) → ReadsToPrint read before (Locked state true ∷ []) last → whole ≡ Unlocked ∷ last
     → (turn : Turn) × IsTurn turn [] whole × (written_in whole ≡ [])
 describes read state before last whole is calls =
     let locked = left_so (Locked state true ∷ []) refl refl read is.until_read is.reads in (
@@ -205,11 +205,11 @@ describes read state before last whole is calls =
       ap written_in calls ∙ (ap written_in is.prints ∙ locked.1.unwritten),
     )
 
-pub info_turn : (state : Text) (before printed : List ℕ) (whole : WorldCalls) → LogsInfo state before printed [] whole → Ends HandsState whole before printed
+pub info_turn : (state : Bytes) (before printed : List ℕ) (whole : WorldCalls) → LogsInfo state before printed [] whole → Ends HandsState whole before printed
 info_turn state before printed whole (read, last, is, text, calls) =
     let turn = describes read state before last whole is calls in (turn.0, turn.1, (turn.2, inr (read, whole_text before printed (info_of read) text)))
 
-pub info_failed_turn : (state : Text) (before printed : List ℕ) (fault : Fault) (whole : WorldCalls) → LogsInfoFailed state before printed fault [] whole
+pub info_failed_turn : (state : Bytes) (before printed : List ℕ) (fault : Fault) (whole : WorldCalls) → LogsInfoFailed state before printed fault [] whole
     → Ends HandsState whole before printed
 info_failed_turn state before printed fault whole (inl (refused, calls, same)) = (StoresNothing, idle_as whole _ calls refl refl, (ap written_in calls, inl same))
 info_failed_turn state before printed fault whole (inr (last, inl (never, same), calls)) =
@@ -218,13 +218,13 @@ info_failed_turn state before printed fault whole (inr (last, inl (never, same),
 info_failed_turn state before printed fault whole (inr (last, inr (at, (read, is, text)), calls)) =
     let turn = describes read state before last whole is calls in (turn.0, turn.1, (turn.2, inr (read, text)))
 
-judged : (public message signature : Text) (key signed before : List ℕ) (last whole : WorldCalls)
+judged : (public message signature : Bytes) (key signed before : List ℕ) (last whole : WorldCalls)
     → last ≡ Read signature (Some signed) ∷ Opened message true ∷ Read public (Some key) ∷ [] → whole ≡ Printing before ∷ last
     → IsTurn StoresNothing [] whole × (written_in whole ≡ [])
 judged public message signature key signed before last whole reads calls =
     (one_more whole (Printing before) refl calls (idle_as last _ reads refl refl), ap written_in calls ∙ ap written_in reads)
 
-pub verify_turn : (public message signature : Text) (verdict : Verdict) (before printed : List ℕ) (whole : WorldCalls)
+pub verify_turn : (public message signature : Bytes) (verdict : Verdict) (before printed : List ℕ) (whole : WorldCalls)
     → LogsVerify public message signature verdict before printed [] whole → Ends HandsVerdict whole before printed
 verify_turn public message signature verdict before printed whole (key, text, signed, right, (last, reads, calls), line) =
     let turn = judged public message signature key signed before last whole reads calls in
@@ -234,7 +234,7 @@ unread : (before printed : List ℕ) (whole calls : WorldCalls) → printed ≡ 
     → written_in calls ≡ [] → Ends HandsVerdict whole before printed
 unread before printed whole calls same is none quiet no_file = (StoresNothing, idle_as whole calls is none quiet, (ap written_in is ∙ no_file, inl same))
 
-pub verify_failed_turn : (public message signature : Text) (before printed : List ℕ) (fault : Fault) (whole : WorldCalls)
+pub verify_failed_turn : (public message signature : Bytes) (before printed : List ℕ) (fault : Fault) (whole : WorldCalls)
     → LogsVerifyFailed public message signature before printed fault [] whole → Ends HandsVerdict whole before printed
 verify_failed_turn public message signature before printed fault whole (inl (refused, same, inl calls)) = unread before printed whole _ same calls refl refl refl
 verify_failed_turn public message signature before printed fault whole (inl (refused, same, inr (key, inl calls))) = unread before printed whole _ same calls refl refl refl
@@ -259,7 +259,7 @@ module _ (old : WorldCalls) (quiet : list_any hands_out old ≡ false) (none : s
     ap written_in calls ∙ no_file,
   )
 
-  writes_key : (public : Text) (written : Bool) (new : WorldCalls) → WritesKey key public written old new
+  writes_key : (public : Bytes) (written : Bool) (new : WorldCalls) → WritesKey key public written old new
       → IsTurn (Makes key) [] new × (written_in new ≡ hss_public_key (hss_key_of key) ∷ [])
   writes_key public written new is =
       let made = made_key is.until_stored is.stores in
@@ -268,7 +268,7 @@ module _ (old : WorldCalls) (quiet : list_any hands_out old ≡ false) (none : s
         ap written_in is.writes ∙ ap (λ (texts : List (List ℕ)). hss_public_key (hss_key_of key) ∷ texts) (kept.1 ∙ made.1),
       )
 
-  publishes_key : (public : Text) (before : List ℕ) (new : WorldCalls) → PublishesKey key public before old new
+  publishes_key : (public : Bytes) (before : List ℕ) (new : WorldCalls) → PublishesKey key public before old new
       → IsTurn (Makes key) [] new × (written_in new ≡ hss_public_key (hss_key_of key) ∷ [])
   publishes_key public before new is =
       let written = writes_key public true is.until_written is.writes in (one_more new _ refl is.prints written.0, ap written_in is.prints ∙ written.1)
@@ -302,7 +302,7 @@ module _ (old : WorldCalls) (quiet : list_any hands_out old ≡ false) (none : s
   unstored new Input never = absurd never
   unstored new Output never = absurd never
 
-  unmade : (public : Text) (before printed : List ℕ) (new : WorldCalls) (fault : Fault) → LogsUnmade key public before printed fault old new
+  unmade : (public : Bytes) (before printed : List ℕ) (new : WorldCalls) (fault : Fault) → LogsUnmade key public before printed fault old new
       → Ends HandsKeyAtMost new before printed
   unmade public before printed new BadLevels never = absurd never
   unmade public before printed new TooManyLevels never = absurd never
@@ -329,7 +329,7 @@ module _ (old : WorldCalls) (quiet : list_any hands_out old ≡ false) (none : s
   unmade public before printed new Output (inl (is, same)) = let written = writes_key public false new is in (Makes key, written.0, inr (key, written.1, no_text before printed _ same))
   unmade public before printed new Output (inr (is, line)) = let written = publishes_key public before new is in (Makes key, written.0, inr (key, written.1, line))
 
-pub keygen_turn : (key : KeyOfCode) (state public : Text) (before printed : List ℕ) (whole : WorldCalls) → LogsKeygen key state public before printed [] whole
+pub keygen_turn : (key : KeyOfCode) (state public : Bytes) (before printed : List ℕ) (whole : WorldCalls) → LogsKeygen key state public before printed [] whole
     → Ends HandsKeyAtMost whole before printed
 keygen_turn key state public before printed whole (last, publishes, line, calls) =
     let written = publishes_key (Locked state true ∷ []) refl refl refl key public before last publishes in (
@@ -338,7 +338,7 @@ keygen_turn key state public before printed whole (last, publishes, line, calls)
       inr (key, ap written_in calls ∙ written.1, whole_text before printed (capacity_line key) line),
     )
 
-pub keygen_failed_turn : (key : KeyOfCode) (state public : Text) (before printed : List ℕ) (fault : Fault) (whole : WorldCalls)
+pub keygen_failed_turn : (key : KeyOfCode) (state public : Bytes) (before printed : List ℕ) (fault : Fault) (whole : WorldCalls)
     → LogsKeygenFailed key state public before printed fault [] whole → Ends HandsKeyAtMost whole before printed
 keygen_failed_turn key state public before printed fault whole (inl (refused, calls, same)) =
     (StoresNothing, idle_as whole _ calls refl refl, inl (ap written_in calls, same))

@@ -6,7 +6,7 @@ use Rattle.lms_batch.specs.declared.collector.Batch.{Batch}
 use Rattle.lms_lines.specs.AnswerLines.{answer_text, AppendsFront}
 use Rattle.lms_lines.specs.JobsTexts.{ReadsJobs}
 use Rattle.lms_lines.specs.SignedLines.{signatures_in}
-use Rattle.lms_world.specs.Known.{Text}
+use Rattle.lms_world.specs.Known.{Bytes}
 use Rattle.lms_world.specs.Events.{Locked, Unlocked, Printing, after}
 use Rattle.lms_commands.specs.Logs.{IsLockRefused, KeyState, LeavesState, WorldCalls, LogsUnopened, LogsUnsigned, StoresUse}
 use Rattle.lms_commands.specs.declared.fault.Fault.{Fault}
@@ -18,7 +18,8 @@ UsesAll zero state old new = LeavesState state old new
 UsesAll (suc n) state old new = StoresUse (suc n) state old new
 
 -- the jobs of an input are signed as a batch by the next indices of a state, whose use is stored
-pub record LogsBatch (input rest : Option (List ℕ)) (batch : Batch) (old new : WorldCalls) : Type 0 where
+pub record LogsBatch (input rest : Option (List ℕ)) (batch : Batch)
+    (old new : WorldCalls) : Type 0 where
   pub state : KeyState
   pub jobs : List JobText
   pub read : ReadsJobs input rest jobs
@@ -26,46 +27,67 @@ pub record LogsBatch (input rest : Option (List ℕ)) (batch : Batch) (old new :
   pub answer : IsAnswerTo state.key (start_of batch) jobs batch
   pub next : 1 ≤ length jobs → start_of batch ≡ state.index
 
--- jobs of a state that was opened are not signed; where their lines are not read, or no memory is there for the desk, nothing is written
-abbrev pub LogsJobsUnsigned : Option (List ℕ) → Option (List ℕ) → Fault → KeyState → WorldCalls → WorldCalls → Type 0
+-- jobs of a state that was opened are not signed; where their lines are not read, or no memory is
+-- there for the desk, nothing is written
+abbrev pub LogsJobsUnsigned : Option (List ℕ) → Option (List ℕ) → Fault → KeyState → WorldCalls
+    → WorldCalls → Type 0
 LogsJobsUnsigned input rest Input state old new = LeavesState state old new
 LogsJobsUnsigned input rest (BadJob line) state old new = LeavesState state old new
 LogsJobsUnsigned input rest TooManyJobs state old new = LeavesState state old new
 LogsJobsUnsigned input rest OutOfMemory state old new = LeavesState state old new
-LogsJobsUnsigned input rest fault state old new = (jobs : List JobText) × ReadsJobs input rest jobs × (1 ≤ length jobs)
+LogsJobsUnsigned input rest fault state old new =
+    (jobs : List JobText) × ReadsJobs input rest jobs × (1 ≤ length jobs)
     × LogsUnsigned (length jobs) fault state old new
 
 -- why the jobs of an input are not signed
-abbrev pub LogsNoBatch : Option (List ℕ) → Option (List ℕ) → Fault → WorldCalls → WorldCalls → Type 0
-LogsNoBatch input rest fault old new = LogsUnopened fault old new ⊎ ((state : KeyState) × LogsJobsUnsigned input rest fault state old new)
+abbrev pub LogsNoBatch : Option (List ℕ) → Option (List ℕ) → Fault → WorldCalls → WorldCalls
+    → Type 0
+LogsNoBatch input rest fault old new =
+    LogsUnopened fault old new
+    ⊎ ((state : KeyState) × LogsJobsUnsigned input rest fault state old new)
 
--- the jobs of an input are signed, and then their lines begin to be printed, where this was printed before
-pub record AnswersJobs (input rest : Option (List ℕ)) (before : List ℕ) (batch : Batch) (old new : WorldCalls) : Type 0 where
+-- the jobs of an input are signed, and then their lines begin to be printed, where this was printed
+-- before
+pub record AnswersJobs (input rest : Option (List ℕ)) (before : List ℕ) (batch : Batch)
+    (old new : WorldCalls) : Type 0 where
   pub until_signed : WorldCalls
   pub signs : LogsBatch input rest batch old until_signed
   pub prints : new ≡ after (Printing before ∷ []) until_signed
 
 -- all lines of the jobs that were signed are printed, so many of so many
-abbrev pub LogsAnswers : Option (List ℕ) → Option (List ℕ) → List ℕ → List ℕ → ℕ → ℕ → WorldCalls → WorldCalls → Type 0
-LogsAnswers input rest before printed count asked old new = (batch : Batch) × (answers : AnswersJobs input rest before batch old new)
-    × (count ≡ signatures_in batch) × (asked ≡ length answers.signs.jobs) × (printed ≡ before ++ answer_text batch)
+abbrev pub LogsAnswers : Option (List ℕ) → Option (List ℕ) → List ℕ → List ℕ → ℕ → ℕ → WorldCalls
+    → WorldCalls → Type 0
+LogsAnswers input rest before printed count asked old new =
+    (batch : Batch) × (answers : AnswersJobs input rest before batch old new)
+    × (count ≡ signatures_in batch) × (asked ≡ length answers.signs.jobs)
+    × (printed ≡ before ++ answer_text batch)
 
--- why jobs are signed and not all answered under a lock: not all were signed, or a beginning at most of their lines is printed
-abbrev pub LogsUnanswered : Option (List ℕ) → Option (List ℕ) → List ℕ → List ℕ → Fault → WorldCalls → WorldCalls → Type 0
-LogsUnanswered input rest before printed (Partial count asked) old new = (count ≢ asked) × LogsAnswers input rest before printed count asked old new
-LogsUnanswered input rest before printed Output old new = (batch : Batch) × AnswersJobs input rest before batch old new
+-- why jobs are signed and not all answered under a lock: not all were signed, or a beginning at
+-- most of their lines is printed
+abbrev pub LogsUnanswered : Option (List ℕ) → Option (List ℕ) → List ℕ → List ℕ → Fault → WorldCalls
+    → WorldCalls → Type 0
+LogsUnanswered input rest before printed (Partial count asked) old new =
+    (count ≢ asked) × LogsAnswers input rest before printed count asked old new
+LogsUnanswered input rest before printed Output old new =
+    (batch : Batch) × AnswersJobs input rest before batch old new
     × AppendsFront (Some before) (Some printed) (answer_text batch)
 LogsUnanswered input rest before printed _ old new = ⊥
 
--- all calls of `batch`, which signs and answers all jobs, from its lock on until that is handed back
-abbrev pub LogsJobs : Text → Option (List ℕ) → Option (List ℕ) → List ℕ → List ℕ → WorldCalls → WorldCalls → Type 0
+-- all calls of `batch`, which signs and answers all jobs, from its lock on until that is handed
+-- back
+abbrev pub LogsJobs : Bytes → Option (List ℕ) → Option (List ℕ) → List ℕ → List ℕ → WorldCalls
+    → WorldCalls → Type 0
 LogsJobs state input rest before printed old new = (last : WorldCalls) × (count : ℕ)
-    × LogsAnswers input rest before printed count count (after (Locked state true ∷ []) old) last × (new ≡ after (Unlocked ∷ []) last)
+    × LogsAnswers input rest before printed count count (after (Locked state true ∷ []) old) last
+    × (new ≡ after (Unlocked ∷ []) last)
 
 -- the same, where it fails
-abbrev pub LogsJobsFailed : Text → Option (List ℕ) → Option (List ℕ) → List ℕ → List ℕ → Fault → WorldCalls → WorldCalls → Type 0
+abbrev pub LogsJobsFailed : Bytes → Option (List ℕ) → Option (List ℕ) → List ℕ → List ℕ → Fault
+    → WorldCalls → WorldCalls → Type 0
 LogsJobsFailed state input rest before printed fault old new =
     ((fault ≡ BadWorkers) × (new ≡ old) × (printed ≡ before))
     ⊎ ((IsLockRefused fault × (new ≡ after (Locked state false ∷ []) old) × (printed ≡ before))
-    ⊎ ((last : WorldCalls) × ((LogsNoBatch input rest fault (after (Locked state true ∷ []) old) last × (printed ≡ before))
-    ⊎ LogsUnanswered input rest before printed fault (after (Locked state true ∷ []) old) last) × (new ≡ after (Unlocked ∷ []) last)))
+    ⊎ ((last : WorldCalls)
+    × ((LogsNoBatch input rest fault (after (Locked state true ∷ []) old) last × (printed ≡ before))
+    ⊎ LogsUnanswered input rest before printed fault (after (Locked state true ∷ []) old) last)
+    × (new ≡ after (Unlocked ∷ []) last)))

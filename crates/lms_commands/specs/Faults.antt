@@ -1,31 +1,31 @@
 -- The texts of the program's faults and its exit statuses.
 use Rattle.std.specs.Prelude.{ℕ, List, ◌++◌, codes, decimal}
-use Rattle.lms_hss.specs.declared.levels.KeyFault.{KeyFault}
-use Rattle.lms_hss.specs.declared.levels.KeyFault.TheVariants as key
-use Rattle.lms_hss.specs.Texts.{fault_text as key_text}
-use Rattle.lms_params.specs.Memory.{out_of_memory_text}
-use Rattle.lms_book.specs.Refusals.{book_fault_text, open_fault_text, store_fault_text}
-use Rattle.lms_book.specs.declared.refusals.BookFault.{BookFault}
-use Rattle.lms_book.specs.declared.refusals.BookFault.TheVariants as book
-use Rattle.lms_book.specs.declared.refusals.OpenFault.{OpenFault}
-use Rattle.lms_book.specs.declared.refusals.OpenFault.TheVariants as opening
-use Rattle.lms_batch.specs.Texts.{batch_fault_text}
-use Rattle.lms_batch.specs.declared.service.BatchFault.{BatchFault}
-use Rattle.lms_batch.specs.declared.service.BatchFault.TheVariants as batch
-use Rattle.lms_lines.specs.Texts.{jobs_fault_text, write_fault_text}
+use Rattle.lms_hss.specs.declared.fault.KeyFault.{KeyFault}
+use Rattle.lms_hss.specs.declared.fault.KeyFault.TheVariants as key
+use Rattle.lms_hss.specs.Faults.{key_fault_text as key_text}
+use Rattle.lms_params.specs.Faults.{out_of_memory_text}
+use Rattle.lms_book.specs.Faults.{book_fault_text, open_fault_text, store_fault_text}
+use Rattle.lms_book.specs.declared.fault.BookFault.{BookFault}
+use Rattle.lms_book.specs.declared.fault.BookFault.TheVariants as book
+use Rattle.lms_book.specs.declared.fault.OpenFault.{OpenFault}
+use Rattle.lms_book.specs.declared.fault.OpenFault.TheVariants as opening
+use Rattle.lms_batch.specs.Faults.{batch_fault_text}
+use Rattle.lms_batch.specs.declared.fault.BatchFault.{BatchFault}
+use Rattle.lms_batch.specs.declared.fault.BatchFault.TheVariants as batch
+use Rattle.lms_lines.specs.Faults.{jobs_fault_text, write_fault_text}
 use Rattle.lms_lines.specs.declared.fault.JobsFault.{JobsFault}
 use Rattle.lms_lines.specs.declared.fault.JobsFault.TheVariants as jobs
-use Rattle.lms_lines.specs.declared.signing.LinesFault.{LinesFault}
-use Rattle.lms_lines.specs.declared.signing.LinesFault.TheVariants as lines
-use Rattle.lms_world.specs.declared.world.WorldFault.{WorldFault}
-use Rattle.lms_world.specs.declared.world.WorldFault.TheVariants as world
+use Rattle.lms_lines.specs.declared.fault.LinesFault.{LinesFault}
+use Rattle.lms_lines.specs.declared.fault.LinesFault.TheVariants as lines
+use Rattle.lms_world.specs.declared.fault.WorldFault.{WorldFault}
+use Rattle.lms_world.specs.declared.fault.WorldFault.TheVariants as world
 use Rattle.lms_commands.specs.declared.fault.Fault.{Fault}
 use Rattle.lms_commands.specs.declared.fault.Fault.TheVariants.{BadLevels, TooManyLevels, TooTall, BadSeed, BadId, BadRandom, BadWorkers, BadJob, TooManyJobs, StateExists, StateInUse, ReadState, BadState, WriteState, WriteStateBurnt, Exhausted, OutOfMemory, OutOfMemoryBurnt, Partial, Input, Output}
-use Rattle.lms_texts.specs.Options.{levels_fault_text}
-use Rattle.lms_texts.specs.declared.levels_fault.LevelsTextFault.{LevelsTextFault}
-use Rattle.lms_texts.specs.declared.levels_fault.LevelsTextFault.TheVariants as unread
-use Rattle.lms_commands.specs.declared.signing.SignFault.{SignFault}
-use Rattle.lms_commands.specs.declared.signing.SignFault.TheVariants as signing
+use Rattle.lms_texts.specs.Faults.{levels_fault_text}
+use Rattle.lms_texts.specs.declared.fault.LevelsTextFault.{LevelsTextFault}
+use Rattle.lms_texts.specs.declared.fault.LevelsTextFault.TheVariants as unread
+use Rattle.lms_commands.specs.declared.sign.NextFault.{NextFault}
+use Rattle.lms_commands.specs.declared.sign.NextFault.TheVariants as signing
 use Rattle.lms_commands.specs.declared.status.Status.{Status}
 use Rattle.lms_commands.specs.declared.status.Status.TheVariants as status
 
@@ -48,7 +48,8 @@ command_fault_text (WriteStateBurnt start len) = book_fault_text (book.Store sta
 command_fault_text (Exhausted left) = book_fault_text (book.Exhausted left)
 command_fault_text OutOfMemory = out_of_memory_text
 command_fault_text (OutOfMemoryBurnt count) = batch_fault_text (batch.OutOfMemory count)
-command_fault_text (Partial signed asked) = codes "partial: " ++ decimal signed ++ codes " of " ++ decimal asked ++ codes " signed"
+command_fault_text (Partial signed asked) =
+    codes "partial: " ++ decimal signed ++ codes " of " ++ decimal asked ++ codes " signed"
 command_fault_text Input = jobs_fault_text jobs.Read
 command_fault_text Output = write_fault_text
 
@@ -117,7 +118,7 @@ of_book book.OutOfMemory = OutOfMemory
 of_book (book.Store start len) = WriteStateBurnt start len
 
 -- the fault that a message not signed is
-abbrev pub of_signing : SignFault → Fault
+abbrev pub of_signing : NextFault → Fault
 of_signing (signing.Book fault) = of_book fault
 of_signing signing.OutOfMemory = OutOfMemoryBurnt 1
 

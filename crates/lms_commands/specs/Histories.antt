@@ -1,5 +1,5 @@
--- Runs of the program at one state, one after another, each perhaps cut off by a stop: what each does with the state, and which signatures
--- leave it.
+-- Runs of the program at one state, one after another, each perhaps cut off by a crash: what each
+-- does with the state, and which signatures leave it.
 use Rattle.std.specs.Prelude.{◌≡◌, ◌⊎◌, ◌+◌, ◌<◌, ◌≤◌, ℕ, List, [], ◌∷◌, ◌++◌, Bool, true, false, if◌then◌else◌, Contains, codes, filter, map, Option, Some, None}
 use Rattle.std.specs.List.{list_any}
 use Rattle.lms_spec.specs.Hss.{capacity_of}
@@ -27,14 +27,17 @@ pub record Signature : Type 0 where
 
 -- they are the standard's of some message, or one by nodes that are kept of the key's trees
 abbrev pub IsSignature : Signature → Type 0
-IsSignature one = (randomizer message : List ℕ) × ((one.bytes ≡ hss_signature (hss_key_of one.key) one.index randomizer message)
+IsSignature one =
+    (randomizer message : List ℕ)
+    × ((one.bytes ≡ hss_signature (hss_key_of one.key) one.index randomizer message)
     ⊎ ((nodes : Option Way) × IsSignedBy nodes one.key one.index randomizer message one.bytes))
 
 -- signatures by indices of a key from one on and below another, each index above those before
 abbrev pub AreInOrder : KeyOfCode → ℕ → ℕ → List Signature → Type 0
 AreInOrder key start end [] = Unit {0}
 AreInOrder key start end (one ∷ later) =
-    IsSignature one × (one.key ≡ key) × (start ≤ one.index) × (one.index < end) × AreInOrder key (one.index + 1) end later
+    IsSignature one × (one.key ≡ key) × (start ≤ one.index) × (one.index < end)
+    × AreInOrder key (one.index + 1) end later
 
 -- what a run does with its state
 pub data Turn : Type 0 where
@@ -60,7 +63,8 @@ is_of_store other = false
 abbrev pub store_calls : WorldCalls → WorldCalls
 store_calls calls = filter is_of_store calls
 
--- a call with which something leaves: bytes are written to a file, or an output begins to be printed to
+-- a call with which something leaves: bytes are written to a file, or an output begins to be
+-- printed to
 abbrev pub hands_out : Event → Bool
 hands_out (Written name bytes done) = true
 hands_out (Printing before) = true
@@ -80,16 +84,20 @@ IsOneUse taken left calls = store_calls calls ≡ PutBack left ∷ Taken (Some t
 abbrev pub Stores : List ℕ → StoreView → StoreView → Type 0
 Stores image taken left = (left ≡ after_write image taken) ⊎ FailsToWrite image taken left
 
--- nothing is stored: what a stop leaves stays
+-- nothing is stored: what a crash leaves stays
 abbrev pub IsUnwritten : StoreView → StoreView → Type 0
 IsUnwritten taken left = (left.now ≡ taken.now) × (left.past ≡ taken.past)
 
 -- a state is asked for before anything is done with it, and is not there
 abbrev pub FindsNone : WorldCalls → Type 0
-FindsNone calls = (later earlier : WorldCalls) × (calls ≡ later ++ Asked false ∷ earlier) × (store_calls earlier ≡ [])
+FindsNone calls =
+    (later earlier : WorldCalls) × (calls ≡ later ++ Asked false ∷ earlier)
+    × (store_calls earlier ≡ [])
 
--- a text is read, the image of a state, and the image that counts so many indices more is stored, for certain or not
-pub record UsesIndices (count : ℕ) (state : KeyState) (text : List ℕ) (calls : WorldCalls) : Type 0 where
+-- a text is read, the image of a state, and the image that counts so many indices more is stored,
+-- for certain or not
+pub record UsesIndices (count : ℕ) (state : KeyState) (text : List ℕ)
+    (calls : WorldCalls) : Type 0 where
   pub taken : StoreView
   pub given : StoreView
   pub left : StoreView
@@ -102,22 +110,31 @@ pub record UsesIndices (count : ℕ) (state : KeyState) (text : List ℕ) (calls
 
 -- the calls on the state that a turn makes, and no other
 abbrev pub Does : Turn → WorldCalls → Type 0
-Does StoresNothing calls = (store_calls calls ≡ []) ⊎ ((taken left : StoreView) × IsUnwritten taken left × IsOneUse taken left calls)
-Does (Makes key) calls = FindsNone calls × ((taken left : StoreView) × Stores (image_of key 0 0 0) taken left × IsOneUse taken left calls)
+Does StoresNothing calls =
+    (store_calls calls ≡ [])
+    ⊎ ((taken left : StoreView) × IsUnwritten taken left × IsOneUse taken left calls)
+Does (Makes key) calls =
+    FindsNone calls
+    × ((taken left : StoreView) × Stores (image_of key 0 0 0) taken left
+    × IsOneUse taken left calls)
 Does (Uses count state text) calls = UsesIndices count state text calls
 
 -- the last that was done with the state is that this image was stored, for certain
 abbrev pub IsStored : List ℕ → WorldCalls → Type 0
-IsStored image calls = (before : StoreView) × (earlier : WorldCalls) × (store_calls calls ≡ PutBack (after_write image before) ∷ earlier)
+IsStored image calls =
+    (before : StoreView) × (earlier : WorldCalls)
+    × (store_calls calls ≡ PutBack (after_write image before) ∷ earlier)
 
--- the signatures that leave behind these calls: none, or by indices whose use is stored for certain
+-- the signatures that leave after these calls: none, or by indices whose use is stored for certain
 abbrev pub Signs : Turn → List Signature → WorldCalls → Type 0
 Signs StoresNothing signatures calls = signatures ≡ []
 Signs (Makes key) signatures calls = signatures ≡ []
-Signs (Uses count state text) signatures calls = AreInOrder state.key state.index (state.index + count) signatures
+Signs (Uses count state text) signatures calls =
+    AreInOrder state.key state.index (state.index + count) signatures
     × ((signatures ≡ []) ⊎ IsStored (image_using count state) calls)
 
--- all calls of a run: at first those on its state, while nothing leaves; then those with which something leaves, while nothing is done with the state
+-- all calls of a run: at first those on its state, while nothing leaves; then those with which
+-- something leaves, while nothing is done with the state
 pub record IsTurn (turn : Turn) (signatures : List Signature) (whole : WorldCalls) : Type 0 where
   pub first : WorldCalls
   pub later : WorldCalls
@@ -142,12 +159,15 @@ Prints before printed text = AppendsFront (Some before) (Some printed) text
 
 -- no file is written, and what is printed is a beginning of the lines of these signatures
 abbrev pub ArePrinted : List Signature → WorldCalls → List ℕ → List ℕ → Type 0
-ArePrinted signatures whole before printed = (written_in whole ≡ []) × Prints before printed (signature_lines signatures)
+ArePrinted signatures whole before printed =
+    (written_in whole ≡ []) × Prints before printed (signature_lines signatures)
 
 -- these signatures are written to files, and at most the index of the one that there is is printed
 abbrev pub AreDelivered : List Signature → WorldCalls → List ℕ → List ℕ → Type 0
 AreDelivered signatures whole before printed = AreWritten signatures whole
-    × ((printed ≡ before) ⊎ ((one : Signature) × (signatures ≡ one ∷ []) × Prints before printed (number_line (codes "index") one.index)))
+    × ((printed ≡ before)
+    ⊎ ((one : Signature) × (signatures ≡ one ∷ [])
+    × Prints before printed (number_line (codes "index") one.index)))
 
 -- no file is written, and nothing is printed
 abbrev pub HandsNothing : WorldCalls → List ℕ → List ℕ → Type 0
@@ -155,22 +175,29 @@ HandsNothing whole before printed = (written_in whole ≡ []) × (printed ≡ be
 
 -- a public key is written to a file, and at most the key's capacity is printed
 abbrev pub HandsKey : WorldCalls → List ℕ → List ℕ → Type 0
-HandsKey whole before printed = (key : KeyOfCode) × (written_in whole ≡ hss_public_key (hss_key_of key) ∷ []) × Prints before printed (capacity_line key)
+HandsKey whole before printed =
+    (key : KeyOfCode) × (written_in whole ≡ hss_public_key (hss_key_of key) ∷ [])
+    × Prints before printed (capacity_line key)
 
 -- no file is written, and at most what a state says is printed
 abbrev pub HandsState : WorldCalls → List ℕ → List ℕ → Type 0
-HandsState whole before printed = (written_in whole ≡ []) × ((printed ≡ before) ⊎ ((read : KeyState) × Prints before printed (info_of read)))
+HandsState whole before printed =
+    (written_in whole ≡ [])
+    × ((printed ≡ before) ⊎ ((read : KeyState) × Prints before printed (info_of read)))
 
 -- no file is written, and at most a verdict is printed
 abbrev pub HandsVerdict : WorldCalls → List ℕ → List ℕ → Type 0
-HandsVerdict whole before printed = (written_in whole ≡ []) × ((printed ≡ before) ⊎ ((verdict : Verdict) × Prints before printed (line_of verdict)))
+HandsVerdict whole before printed =
+    (written_in whole ≡ [])
+    × ((printed ≡ before) ⊎ ((verdict : Verdict) × Prints before printed (line_of verdict)))
 
--- the calls that were begun before a stop, the last perhaps cut off, are the first of all that would have been
+-- the calls that were begun before a crash, the last perhaps cut off, are the first of all that
+-- would have been
 abbrev pub IsBeginning : WorldCalls → WorldCalls → Type 0
 IsBeginning begun whole = (later : WorldCalls) × (whole ≡ later ++ begun)
 
--- a run: what it does with the state, the signatures that leave it if it comes so far, all calls that it would make, and those that it began
--- before it ended or was stopped
+-- a run: what it does with the state, the signatures that leave it if it comes so far, all calls
+-- that it would make, and those that it began before it ended or crashed
 pub record TakenTurn : Type 0 where
   pub turn : Turn
   pub signatures : List Signature
@@ -195,11 +222,12 @@ FindsHeld (Uses count state text) held = Contains held (Some text)
 abbrev pub IsOnly : List ℕ → Held → Type 0
 IsOnly image held = (found : Option (List ℕ)) → Contains held found → found ≡ Some image
 
--- what a store owes, once a run came to it: it gave what it may have held; it may hold that still, or the image that was stored; and that image alone
--- where it was stored for certain
+-- what a store owes, once a run came to it: it gave what it may have held; it may hold that still,
+-- or the image that was stored; and that image alone where it was stored for certain
 pub record Moves (run : TakenTurn) (held left : Held) : Type 0 where
   pub found : FindsHeld run.turn held
-  pub one_of : (text : Option (List ℕ)) → Contains left text → Contains held text ⊎ ((image : List ℕ) × (image_by run.turn ≡ Some image) × (text ≡ Some image))
+  pub one_of : (text : Option (List ℕ)) → Contains left text → Contains held text
+      ⊎ ((image : List ℕ) × (image_by run.turn ≡ Some image) × (text ≡ Some image))
   pub certain : (image : List ℕ) → IsStored image run.begun → IsOnly image left
 
 -- what may be stored before and after a run; where it did not come to its state, that is the same
@@ -209,7 +237,8 @@ IsCarried run held left = ((store_calls run.begun ≡ []) × (left ≡ held)) �
 -- runs one after another carry along what is stored, from this on
 abbrev pub IsCarriedAlong : Held → List TakenTurn → Type 0
 IsCarriedAlong held [] = Unit {0}
-IsCarriedAlong held (run ∷ runs) = (left : Held) × IsCarried run held left × IsCarriedAlong left runs
+IsCarriedAlong held (run ∷ runs) =
+    (left : Held) × IsCarried run held left × IsCarriedAlong left runs
 
 -- all signatures that left, in order
 abbrev pub all_left : List TakenTurn → List Signature

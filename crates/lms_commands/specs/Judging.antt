@@ -4,9 +4,9 @@ use Rattle.std.proofs.Common.{subst, sym, append_assoc, append-nil}
 use Rattle.lms_spec.specs.Hss.{HssAccepts}
 use Rattle.lms_hss.specs.declared.verification.Verifier.{Verifier}
 use Rattle.lms_hss.specs.Verifying.{HasTaken as HasTakenByVerifier}
-use Rattle.lms_commands.specs.declared.verifying.Judge.{Judge}
+use Rattle.lms_commands.specs.declared.verify.Judge.{Judge}
 
--- this is what came of the message so far; with no verifier no message is accepted
+-- this was taken of the message so far; with no verifier no message is accepted
 abbrev pub IsOf : Option Verifier → List ℕ → List ℕ → List ℕ → Type 0
 IsOf (Some verifier) public signature message = HasTakenByVerifier verifier public signature message
 IsOf None public signature message = (whole : List ℕ) → ¬ HssAccepts public whole signature
@@ -20,9 +20,11 @@ Goes old bytes new = (public signature message : List ℕ)
     → HasTaken old public signature message → HasTaken new public signature (message ++ bytes)
 
 pub goes-nowhere : (judge : Judge) → Goes judge [] judge
-goes-nowhere judge public signature message taken = subst (HasTaken judge public signature) (sym (append-nil message)) taken
+goes-nowhere judge public signature message taken =
+    subst (HasTaken judge public signature) (sym (append-nil message)) taken
 
-pub goes-on : (old between new : Judge) (bytes others : List ℕ) → Goes old bytes between → Goes between others new → Goes old (bytes ++ others) new
+pub goes-on : (old between new : Judge) (bytes others : List ℕ) → Goes old bytes between
+    → Goes between others new → Goes old (bytes ++ others) new
 goes-on old between new bytes others first second public signature message taken =
     subst (HasTaken new public signature) (append_assoc message bytes others)
     (second public signature (message ++ bytes) (first public signature message taken))

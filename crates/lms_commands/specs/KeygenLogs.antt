@@ -9,7 +9,7 @@ use Rattle.lms_kept.specs.Ways.{AreGenuine, Way}
 use Rattle.lms_lines.specs.AnswerLines.{AppendsFront}
 use Rattle.lms_texts.specs.Descriptions.{number_line}
 use Rattle.lms_book.specs.Stops.{StoreView, FailsToWrite, after_write}
-use Rattle.lms_world.specs.Known.{Text}
+use Rattle.lms_world.specs.Known.{Bytes}
 use Rattle.lms_world.specs.Events.{Written, Locked, Unlocked, Asked, Taken, PutBack, Printing, after}
 use Rattle.lms_commands.specs.Logs.{IsLockRefused, WorldCalls, LogsKeeping}
 use Rattle.lms_commands.specs.declared.fault.Fault.{Fault}
@@ -18,38 +18,49 @@ use Rattle.lms_commands.specs.declared.fault.Fault.TheVariants.{StateExists, Wri
 -- a new key's state is stored for certain: nothing else is written to its store
 abbrev pub StoresKey : KeyOfCode → WorldCalls → WorldCalls → Type 0
 StoresKey key old new =
-    (taken : StoreView) × (new ≡ after (Taken (Some taken) ∷ PutBack (after_write (image_of key 0 0 0) taken) ∷ []) old)
+    (taken : StoreView)
+    × (new ≡ after (Taken (Some taken) ∷ PutBack (after_write (image_of key 0 0 0) taken) ∷ []) old)
 
 -- why it is not stored
 abbrev pub LogsUnstored : KeyOfCode → Fault → WorldCalls → WorldCalls → Type 0
 LogsUnstored key OutOfMemory old new = new ≡ after (Taken None ∷ []) old
-LogsUnstored key WriteState old new = (taken left : StoreView) × FailsToWrite (image_of key 0 0 0) taken left
+LogsUnstored key WriteState old new =
+    (taken left : StoreView) × FailsToWrite (image_of key 0 0 0) taken left
     × (new ≡ after (Taken (Some taken) ∷ PutBack left ∷ []) old)
 LogsUnstored key _ old new = ⊥
 
--- these bytes are not written to a file, and then nothing is printed, or of the line behind them a beginning at most
-abbrev pub IsUnpublished : Text → List ℕ → List ℕ → List ℕ → List ℕ → Fault → WorldCalls → WorldCalls → Type 0
-IsUnpublished name bytes line before printed OutOfMemory old new = (new ≡ after (Written name bytes false ∷ []) old) × (printed ≡ before)
-IsUnpublished name bytes line before printed Output old new = ((new ≡ after (Written name bytes false ∷ []) old) × (printed ≡ before))
-    ⊎ ((new ≡ after (Written name bytes true ∷ Printing before ∷ []) old) × AppendsFront (Some before) (Some printed) line)
+-- these bytes are not written to a file, and then nothing is printed, or at most a beginning of the
+-- line after them
+abbrev pub IsUnpublished : Bytes → List ℕ → List ℕ → List ℕ → List ℕ → Fault → WorldCalls
+    → WorldCalls → Type 0
+IsUnpublished name bytes line before printed OutOfMemory old new =
+    (new ≡ after (Written name bytes false ∷ []) old) × (printed ≡ before)
+IsUnpublished name bytes line before printed Output old new =
+    ((new ≡ after (Written name bytes false ∷ []) old) × (printed ≡ before))
+    ⊎ ((new ≡ after (Written name bytes true ∷ Printing before ∷ []) old)
+    × AppendsFront (Some before) (Some printed) line)
 IsUnpublished name bytes line before printed _ old new = ⊥
 
 -- trees of this key, where there are any, with the nodes that they have
 abbrev pub AreGenuineTrees : KeyOfCode → Option Way → Type 0
 AreGenuineTrees key trees = IfSome trees (λ way. (way.key ≡ key) × AreGenuine way)
 
--- it is stored where there was none, trees of the key may be kept, and then the public key is written to its file, once
-pub record WritesKey (key : KeyOfCode) (public : Text) (written : Bool) (old new : WorldCalls) : Type 0 where
+-- it is stored where there was none, trees of the key may be kept, and then the public key is
+-- written to its file, once
+pub record WritesKey (key : KeyOfCode) (public : Bytes) (written : Bool)
+    (old new : WorldCalls) : Type 0 where
   pub trees : Option Way
   pub genuine : AreGenuineTrees key trees
   pub until_stored : WorldCalls
   pub until_kept : WorldCalls
   pub stores : StoresKey key (after (Asked false ∷ []) old) until_stored
   pub keeps : LogsKeeping trees until_stored until_kept
-  pub writes : new ≡ after (Written public (hss_public_key (hss_key_of key)) written ∷ []) until_kept
+  pub writes : new
+      ≡ after (Written public (hss_public_key (hss_key_of key)) written ∷ []) until_kept
 
 -- then the capacity begins to be printed, where this was printed before
-pub record PublishesKey (key : KeyOfCode) (public : Text) (before : List ℕ) (old new : WorldCalls) : Type 0 where
+pub record PublishesKey (key : KeyOfCode) (public : Bytes) (before : List ℕ)
+    (old new : WorldCalls) : Type 0 where
   pub until_written : WorldCalls
   pub writes : WritesKey key public true old until_written
   pub prints : new ≡ after (Printing before ∷ []) until_written
@@ -58,24 +69,36 @@ pub record PublishesKey (key : KeyOfCode) (public : Text) (before : List ℕ) (o
 abbrev pub capacity_line : KeyOfCode → List ℕ
 capacity_line key = number_line (codes "capacity") (capacity_of (hss_key_of key))
 
--- why no key is made under a lock: where memory is refused for the tree of the public key, nothing is stored
-abbrev pub LogsUnmade : KeyOfCode → Text → List ℕ → List ℕ → Fault → WorldCalls → WorldCalls → Type 0
-LogsUnmade key public before printed StateExists old new = (new ≡ after (Asked true ∷ []) old) × (printed ≡ before)
+-- why no key is made under a lock: where memory is refused for the tree of the public key, nothing
+-- is stored
+abbrev pub LogsUnmade : KeyOfCode → Bytes → List ℕ → List ℕ → Fault → WorldCalls → WorldCalls
+    → Type 0
+LogsUnmade key public before printed StateExists old new =
+    (new ≡ after (Asked true ∷ []) old) × (printed ≡ before)
 LogsUnmade key public before printed OutOfMemory old new = ((new ≡ after (Asked false ∷ []) old)
-    ⊎ (LogsUnstored key OutOfMemory (after (Asked false ∷ []) old) new ⊎ WritesKey key public false old new)) × (printed ≡ before)
-LogsUnmade key public before printed WriteState old new = LogsUnstored key WriteState (after (Asked false ∷ []) old) new × (printed ≡ before)
-LogsUnmade key public before printed Output old new = (WritesKey key public false old new × (printed ≡ before))
-    ⊎ (PublishesKey key public before old new × AppendsFront (Some before) (Some printed) (capacity_line key))
+    ⊎ (LogsUnstored key OutOfMemory (after (Asked false ∷ []) old) new
+    ⊎ WritesKey key public false old new)) × (printed ≡ before)
+LogsUnmade key public before printed WriteState old new =
+    LogsUnstored key WriteState (after (Asked false ∷ []) old) new × (printed ≡ before)
+LogsUnmade key public before printed Output old new =
+    (WritesKey key public false old new × (printed ≡ before))
+    ⊎ (PublishesKey key public before old new
+    × AppendsFront (Some before) (Some printed) (capacity_line key))
 LogsUnmade key public before printed _ old new = ⊥
 
 -- all calls of `keygen`, from its lock on until that is handed back
-abbrev pub LogsKeygen : KeyOfCode → Text → Text → List ℕ → List ℕ → WorldCalls → WorldCalls → Type 0
+abbrev pub LogsKeygen : KeyOfCode → Bytes → Bytes → List ℕ → List ℕ → WorldCalls → WorldCalls
+    → Type 0
 LogsKeygen key state public before printed old new =
-    (last : WorldCalls) × PublishesKey key public before (after (Locked state true ∷ []) old) last × (printed ≡ before ++ capacity_line key)
+    (last : WorldCalls) × PublishesKey key public before (after (Locked state true ∷ []) old) last
+    × (printed ≡ before ++ capacity_line key)
     × (new ≡ after (Unlocked ∷ []) last)
 
 -- the same, where it fails
-abbrev pub LogsKeygenFailed : KeyOfCode → Text → Text → List ℕ → List ℕ → Fault → WorldCalls → WorldCalls → Type 0
+abbrev pub LogsKeygenFailed : KeyOfCode → Bytes → Bytes → List ℕ → List ℕ → Fault → WorldCalls
+    → WorldCalls → Type 0
 LogsKeygenFailed key state public before printed fault old new =
     (IsLockRefused fault × (new ≡ after (Locked state false ∷ []) old) × (printed ≡ before))
-    ⊎ ((last : WorldCalls) × LogsUnmade key public before printed fault (after (Locked state true ∷ []) old) last × (new ≡ after (Unlocked ∷ []) last))
+    ⊎ ((last : WorldCalls)
+    × LogsUnmade key public before printed fault (after (Locked state true ∷ []) old) last
+    × (new ≡ after (Unlocked ∷ []) last))

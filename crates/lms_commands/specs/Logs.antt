@@ -24,7 +24,8 @@ pub record KeyState : Type 0 where
 
 -- what a book read
 abbrev pub state_of : BookState → KeyState
-state_of book = record { key = book.key; index = book.base; openings = book.openings; burnt = book.burnt }
+state_of book =
+    record { key = book.key; index = book.base; openings = book.openings; burnt = book.burnt }
 
 -- the image that counts n indices more as used, and their opening
 abbrev pub image_using : ℕ → KeyState → List ℕ
@@ -40,47 +41,66 @@ pub record ReadsState (state : KeyState) (taken read : StoreView) : Type 0 where
 
 -- a store is taken out and gives this state; it is not put back yet
 abbrev pub OpensState : BookState → WorldCalls → WorldCalls → Type 0
-OpensState book old new = (taken : StoreView) × ReadsState (state_of book) taken book.store × (new ≡ after (Taken (Some taken) ∷ []) old)
+OpensState book old new =
+    (taken : StoreView) × ReadsState (state_of book) taken book.store
+    × (new ≡ after (Taken (Some taken) ∷ []) old)
 
--- a state is not opened: its store fails, its text is no image, or memory runs out; nothing is written
+-- a state is not opened: its store fails, its text is no image, or memory runs out; nothing is
+-- written
 abbrev pub LogsUnopened : Fault → WorldCalls → WorldCalls → Type 0
-LogsUnopened ReadState old new = (taken : StoreView) × (new ≡ after (Taken (Some taken) ∷ PutBack (after_failure taken) ∷ []) old)
-LogsUnopened (BadState fault) old new = (taken : StoreView) × (text : List ℕ) × MayLeave taken text × (fault_of text ≡ Some fault)
+LogsUnopened ReadState old new =
+    (taken : StoreView)
+    × (new ≡ after (Taken (Some taken) ∷ PutBack (after_failure taken) ∷ []) old)
+LogsUnopened (BadState fault) old new =
+    (taken : StoreView) × (text : List ℕ) × MayLeave taken text × (fault_of text ≡ Some fault)
     × (new ≡ after (Taken (Some taken) ∷ PutBack (having_given text taken) ∷ []) old)
 LogsUnopened OutOfMemory old new =
-    (new ≡ after (Taken None ∷ []) old) ⊎ ((taken : StoreView) × (new ≡ after (Taken (Some taken) ∷ PutBack taken ∷ []) old))
+    (new ≡ after (Taken None ∷ []) old)
+    ⊎ ((taken : StoreView) × (new ≡ after (Taken (Some taken) ∷ PutBack taken ∷ []) old))
 LogsUnopened _ old new = ⊥
 
 -- a state is read, and nothing is written
 abbrev pub LeavesState : KeyState → WorldCalls → WorldCalls → Type 0
 LeavesState state old new =
-    (taken read : StoreView) × ReadsState state taken read × (new ≡ after (Taken (Some taken) ∷ PutBack read ∷ []) old)
+    (taken read : StoreView) × ReadsState state taken read
+    × (new ≡ after (Taken (Some taken) ∷ PutBack read ∷ []) old)
 
--- a state is read, and the image that counts n indices more is stored for certain: nothing else is written
+-- a state is read, and the image that counts n indices more is stored for certain: nothing else is
+-- written
 abbrev pub StoresUse : ℕ → KeyState → WorldCalls → WorldCalls → Type 0
-StoresUse n state old new = (taken read : StoreView) × ReadsState state taken read × (state.index + n ≤ capacity_of (hss_key_of state.key))
+StoresUse n state old new =
+    (taken read : StoreView) × ReadsState state taken read
+    × (state.index + n ≤ capacity_of (hss_key_of state.key))
     × (new ≡ after (Taken (Some taken) ∷ PutBack (after_write (image_using n state) read) ∷ []) old)
 
 -- the same, where it was not stored for certain
 abbrev pub TriesUse : ℕ → KeyState → WorldCalls → WorldCalls → Type 0
-TriesUse n state old new = (taken read left : StoreView) × ReadsState state taken read × (state.index + n ≤ capacity_of (hss_key_of state.key))
-    × FailsToWrite (image_using n state) read left × (new ≡ after (Taken (Some taken) ∷ PutBack left ∷ []) old)
+TriesUse n state old new =
+    (taken read left : StoreView) × ReadsState state taken read
+    × (state.index + n ≤ capacity_of (hss_key_of state.key))
+    × FailsToWrite (image_using n state) read left
+    × (new ≡ after (Taken (Some taken) ∷ PutBack left ∷ []) old)
 
--- n indices of a state that was opened sign nothing: none is used, or their use is stored, for certain or not
+-- n indices of a state that was opened sign nothing: none is used, or their use is stored, for
+-- certain or not
 abbrev pub LogsUnsigned : ℕ → Fault → KeyState → WorldCalls → WorldCalls → Type 0
-LogsUnsigned n (Exhausted left) state old new = (capacity_of (hss_key_of state.key) < state.index + n)
+LogsUnsigned n (Exhausted left) state old new =
+    (capacity_of (hss_key_of state.key) < state.index + n)
     × (left ≡ capacity_of (hss_key_of state.key) - state.index) × LeavesState state old new
 LogsUnsigned n OutOfMemory state old new = LeavesState state old new
-LogsUnsigned n (WriteStateBurnt start len) state old new = (start ≡ state.index) × (len ≡ n) × TriesUse n state old new
+LogsUnsigned n (WriteStateBurnt start len) state old new =
+    (start ≡ state.index) × (len ≡ n) × TriesUse n state old new
 LogsUnsigned n (OutOfMemoryBurnt count) state old new = (count ≡ n) × StoresUse n state old new
 LogsUnsigned n _ state old new = ⊥
 
 -- the text of these trees is kept, which is done or fails, or nothing is
 abbrev pub LogsKeeping : Option Way → WorldCalls → WorldCalls → Type 0
 LogsKeeping trees old new =
-    (new ≡ old) ⊎ ((way : Way) × (done : Bool) × (trees ≡ Some way) × (new ≡ after (NodesWritten (nodes_text way) done ∷ []) old))
+    (new ≡ old)
+    ⊎ ((way : Way) × (done : Bool) × (trees ≡ Some way)
+    × (new ≡ after (NodesWritten (nodes_text way) done ∷ []) old))
 
--- the fault comes where a lock is not got
+-- the fault comes where a lock is not acquired
 abbrev pub IsLockRefused : Fault → Type 0
 IsLockRefused StateInUse = Unit {0}
 IsLockRefused OutOfMemory = Unit {0}

@@ -1,7 +1,7 @@
 -- The calls that `info` and `verify` make on their world: they write nothing, and store nothing.
 use Rattle.std.specs.Prelude.{◌≡◌, ◌⊎◌, List, [], ◌∷◌, ◌++◌, true, false, ℕ, Some, None}
 use Rattle.lms_lines.specs.AnswerLines.{AppendsFront}
-use Rattle.lms_world.specs.Known.{Text}
+use Rattle.lms_world.specs.Known.{Bytes}
 use Rattle.lms_world.specs.Events.{Read, Opened, Locked, Unlocked, Printing, after}
 use Rattle.lms_texts.specs.Descriptions.{info_text}
 use Rattle.lms_commands.specs.Logs.{IsLockRefused, IsReadRefused, KeyState, LeavesState, WorldCalls, LogsUnopened}
@@ -20,40 +20,56 @@ pub record ReadsToPrint (read : KeyState) (before : List ℕ) (old new : WorldCa
   pub reads : LeavesState read old until_read
   pub prints : new ≡ after (Printing before ∷ []) until_read
 
--- all calls of `info`, from its lock on until that is handed back; the lines of the state that was read are printed
-abbrev pub LogsInfo : Text → List ℕ → List ℕ → WorldCalls → WorldCalls → Type 0
-LogsInfo state before printed old new = (read : KeyState) × (last : WorldCalls) × ReadsToPrint read before (after (Locked state true ∷ []) old) last
+-- all calls of `info`, from its lock on until that is handed back; the lines of the state that was
+-- read are printed
+abbrev pub LogsInfo : Bytes → List ℕ → List ℕ → WorldCalls → WorldCalls → Type 0
+LogsInfo state before printed old new =
+    (read : KeyState) × (last : WorldCalls)
+    × ReadsToPrint read before (after (Locked state true ∷ []) old) last
     × (printed ≡ before ++ info_of read) × (new ≡ after (Unlocked ∷ []) last)
 
--- why a state is not described under a lock: it is not opened, or a beginning at most of its lines is printed
+-- why a state is not described under a lock: it is not opened, or a beginning at most of its lines
+-- is printed
 abbrev pub LogsUndescribed : List ℕ → List ℕ → Fault → WorldCalls → WorldCalls → Type 0
 LogsUndescribed before printed fault old new = (LogsUnopened fault old new × (printed ≡ before))
-    ⊎ ((fault ≡ Output) × ((read : KeyState) × ReadsToPrint read before old new × AppendsFront (Some before) (Some printed) (info_of read)))
+    ⊎ ((fault ≡ Output)
+    × ((read : KeyState) × ReadsToPrint read before old new
+    × AppendsFront (Some before) (Some printed) (info_of read)))
 
 -- the same, where it fails
-abbrev pub LogsInfoFailed : Text → List ℕ → List ℕ → Fault → WorldCalls → WorldCalls → Type 0
+abbrev pub LogsInfoFailed : Bytes → List ℕ → List ℕ → Fault → WorldCalls → WorldCalls → Type 0
 LogsInfoFailed state before printed fault old new =
     (IsLockRefused fault × (new ≡ after (Locked state false ∷ []) old) × (printed ≡ before))
-    ⊎ ((last : WorldCalls) × LogsUndescribed before printed fault (after (Locked state true ∷ []) old) last × (new ≡ after (Unlocked ∷ []) last))
+    ⊎ ((last : WorldCalls)
+    × LogsUndescribed before printed fault (after (Locked state true ∷ []) old) last
+    × (new ≡ after (Unlocked ∷ []) last))
 
 -- what `verify` reads, before it prints
-abbrev pub LogsJudging : Text → Text → Text → List ℕ → List ℕ → WorldCalls → WorldCalls → Type 0
+abbrev pub LogsJudging : Bytes → Bytes → Bytes → List ℕ → List ℕ → WorldCalls → WorldCalls → Type 0
 LogsJudging public message signature key signed old new =
-    new ≡ after (Read public (Some key) ∷ Opened message true ∷ Read signature (Some signed) ∷ []) old
+    new ≡ after
+    (Read public (Some key) ∷ Opened message true ∷ Read signature (Some signed) ∷ []) old
 
--- all calls of `verify`: its verdict, which is right for what was read and for some message, is printed
-abbrev pub LogsVerify : Text → Text → Text → Verdict → List ℕ → List ℕ → WorldCalls → WorldCalls → Type 0
-LogsVerify public message signature verdict before printed old new = (key text signed : List ℕ) × IsRightFor verdict key text signed
-    × ((last : WorldCalls) × LogsJudging public message signature key signed old last × (new ≡ after (Printing before ∷ []) last))
+-- all calls of `verify`: its verdict, which is right for what was read and for some message, is
+-- printed
+abbrev pub LogsVerify : Bytes → Bytes → Bytes → Verdict → List ℕ → List ℕ → WorldCalls → WorldCalls
+    → Type 0
+LogsVerify public message signature verdict before printed old new =
+    (key text signed : List ℕ) × IsRightFor verdict key text signed
+    × ((last : WorldCalls) × LogsJudging public message signature key signed old last
+    × (new ≡ after (Printing before ∷ []) last))
     × (printed ≡ before ++ line_of verdict)
 
 -- the same, where it fails
-abbrev pub LogsVerifyFailed : Text → Text → Text → List ℕ → List ℕ → Fault → WorldCalls → WorldCalls → Type 0
+abbrev pub LogsVerifyFailed : Bytes → Bytes → Bytes → List ℕ → List ℕ → Fault → WorldCalls
+    → WorldCalls → Type 0
 LogsVerifyFailed public message signature before printed fault old new =
     (IsReadRefused fault × (printed ≡ before) × ((new ≡ after (Read public None ∷ []) old)
     ⊎ ((key : List ℕ) × ((new ≡ after (Read public (Some key) ∷ Opened message false ∷ []) old)
     ⊎ ((new ≡ after (Read public (Some key) ∷ Opened message true ∷ Read signature None ∷ []) old)
     ⊎ ((signed : List ℕ) × LogsJudging public message signature key signed old new))))))
-    ⊎ ((fault ≡ Output) × ((verdict : Verdict) × (key text signed : List ℕ) × IsRightFor verdict key text signed
-    × ((last : WorldCalls) × LogsJudging public message signature key signed old last × (new ≡ after (Printing before ∷ []) last))
+    ⊎ ((fault ≡ Output)
+    × ((verdict : Verdict) × (key text signed : List ℕ) × IsRightFor verdict key text signed
+    × ((last : WorldCalls) × LogsJudging public message signature key signed old last
+    × (new ≡ after (Printing before ∷ []) last))
     × AppendsFront (Some before) (Some printed) (line_of verdict)))

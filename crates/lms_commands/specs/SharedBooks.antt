@@ -4,33 +4,45 @@ use Rattle.lms_book.specs.States.{BookState}
 use Rattle.lms_shared_book.specs.Desks.{SharedState, Sums, sums}
 use Rattle.lms_shared_book.specs.Shared.{IsSettled}
 use Rattle.lms_lines.specs.SignedLines.{IsSigned, IsUnsigned}
-use Rattle.lms_lines.specs.declared.signing.LinesFault.{LinesFault}
+use Rattle.lms_lines.specs.declared.fault.LinesFault.{LinesFault}
 use Rattle.lms_lines.specs.declared.signing.SignedJobs.{SignedJobs}
 use Rattle.lms_commands.specs.Faults.{of_lines}
 use Rattle.lms_commands.specs.declared.fault.Fault.{Fault}
 
 -- the lines of an input were signed, and the desk counts that
 abbrev pub IsSignedAt : SharedState → Option (List ℕ) → Option (List ℕ) → SignedJobs → Sums → Type 0
-IsSignedAt shared before after signed counted = IsSigned shared before after (sums 0 0 0) counted signed
+IsSignedAt shared before after signed counted =
+    IsSigned shared before after (sums 0 0 0) counted signed
 
 -- they were not, and the desk counts that
 abbrev pub IsRefusedAt : SharedState → Option (List ℕ) → Option (List ℕ) → Fault → Sums → Type 0
-IsRefusedAt shared before after fault counted = (lines : LinesFault) × (fault ≡ of_lines lines) × IsUnsigned shared before after (sums 0 0 0) counted lines
+IsRefusedAt shared before after fault counted =
+    (lines : LinesFault) × (fault ≡ of_lines lines)
+    × IsUnsigned shared before after (sums 0 0 0) counted lines
 
 -- the same, of the list of all desks
-abbrev pub IsSignedAtDesk : SharedState → Option (List ℕ) → Option (List ℕ) → SignedJobs → List Sums → Type 0
-IsSignedAtDesk shared before after signed desks = (counted : Sums) × (desks ≡ counted ∷ []) × IsSignedAt shared before after signed counted
+abbrev pub IsSignedAtDesk : SharedState → Option (List ℕ) → Option (List ℕ) → SignedJobs → List Sums
+    → Type 0
+IsSignedAtDesk shared before after signed desks =
+    (counted : Sums) × (desks ≡ counted ∷ []) × IsSignedAt shared before after signed counted
 
-abbrev pub IsRefusedAtDesk : SharedState → Option (List ℕ) → Option (List ℕ) → Fault → List Sums → Type 0
-IsRefusedAtDesk shared before after fault desks = (counted : Sums) × (desks ≡ counted ∷ []) × IsRefusedAt shared before after fault counted
+abbrev pub IsRefusedAtDesk : SharedState → Option (List ℕ) → Option (List ℕ) → Fault → List Sums
+    → Type 0
+IsRefusedAtDesk shared before after fault desks =
+    (counted : Sums) × (desks ≡ counted ∷ []) × IsRefusedAt shared before after fault counted
 
 abbrev pub at_one_desk : BookState → SharedState
 at_one_desk book = record { book = book; desks = 1 }
 
 -- the lines were signed, and this book is left
-abbrev pub IsSignedByBook : BookState → Option (List ℕ) → Option (List ℕ) → SignedJobs → BookState → Type 0
-IsSignedByBook book before after signed left = (counted : Sums) × IsSignedAt (at_one_desk book) before after signed counted × IsSettled book counted left
+abbrev pub IsSignedByBook : BookState → Option (List ℕ) → Option (List ℕ) → SignedJobs → BookState
+    → Type 0
+IsSignedByBook book before after signed left =
+    (counted : Sums) × IsSignedAt (at_one_desk book) before after signed counted
+    × IsSettled book counted left
 
 -- they were not, and this book is left
 abbrev pub IsRefusedBy : BookState → Option (List ℕ) → Option (List ℕ) → Fault → BookState → Type 0
-IsRefusedBy book before after fault left = (counted : Sums) × IsRefusedAt (at_one_desk book) before after fault counted × IsSettled book counted left
+IsRefusedBy book before after fault left =
+    (counted : Sums) × IsRefusedAt (at_one_desk book) before after fault counted
+    × IsSettled book counted left

@@ -4,15 +4,17 @@ use Rattle.hex.specs.Hex.{decode_of}
 use Rattle.lms_kept.specs.Signed.{IsSignedByText}
 use Rattle.lms_kept.specs.Ways.{Way}
 use Rattle.lms_lines.specs.AnswerLines.{AppendsFront}
-use Rattle.lms_world.specs.Known.{Text}
+use Rattle.lms_world.specs.Known.{Bytes}
 use Rattle.lms_world.specs.Events.{Read, Written, Locked, Unlocked, NodesRead, Printing, after}
 use Rattle.lms_texts.specs.Descriptions.{number_line}
 use Rattle.lms_commands.specs.Logs.{IsLockRefused, IsReadRefused, KeyState, WorldCalls, LogsKeeping, LogsUnopened, LogsUnsigned, StoresUse}
 use Rattle.lms_commands.specs.declared.fault.Fault.{Fault}
 use Rattle.lms_commands.specs.declared.fault.Fault.TheVariants.{BadRandom, Output}
 
--- the use of a state's next index is stored for certain, and then trees may be kept; the signature is one by that index of its key
-pub record LogsSigned (nodes : Option (List ℕ)) (random message : List ℕ) (index : ℕ) (signature : List ℕ) (old new : WorldCalls) : Type 0 where
+-- the use of a state's next index is stored for certain, and then trees may be kept; the signature
+-- is one by that index of its key
+pub record LogsSigned (nodes : Option (List ℕ)) (random message : List ℕ) (index : ℕ)
+    (signature : List ℕ) (old new : WorldCalls) : Type 0 where
   pub state : KeyState
   pub trees : Option Way
   pub until_stored : WorldCalls
@@ -23,48 +25,64 @@ pub record LogsSigned (nodes : Option (List ℕ)) (random message : List ℕ) (i
 
 -- why a message is not signed
 abbrev pub LogsNotSigned : Fault → WorldCalls → WorldCalls → Type 0
-LogsNotSigned fault old new = LogsUnopened fault old new ⊎ ((state : KeyState) × LogsUnsigned 1 fault state old new)
+LogsNotSigned fault old new =
+    LogsUnopened fault old new ⊎ ((state : KeyState) × LogsUnsigned 1 fault state old new)
 
--- kept nodes are asked for, the message is signed, and then the signature is written to its file, once
-pub record WritesSignature (random message : List ℕ) (out : Text) (written : Bool) (old new : WorldCalls) : Type 0 where
+-- kept nodes are asked for, the message is signed, and then the signature is written to its file,
+-- once
+pub record WritesSignature (random message : List ℕ) (out : Bytes) (written : Bool)
+    (old new : WorldCalls) : Type 0 where
   pub nodes : Option (List ℕ)
   pub index : ℕ
   pub signature : List ℕ
   pub until_signed : WorldCalls
-  pub signs : LogsSigned nodes random message index signature (after (NodesRead nodes ∷ []) old) until_signed
+  pub signs : LogsSigned nodes random message index signature
+      (after (NodesRead nodes ∷ []) old) until_signed
   pub writes : new ≡ after (Written out signature written ∷ []) until_signed
 
 -- then that index begins to be printed, where this was printed before
-pub record DeliversSignature (random message : List ℕ) (out : Text) (before : List ℕ) (old new : WorldCalls) : Type 0 where
+pub record DeliversSignature (random message : List ℕ) (out : Bytes) (before : List ℕ)
+    (old new : WorldCalls) : Type 0 where
   pub until_written : WorldCalls
   pub writes : WritesSignature random message out true old until_written
   pub prints : new ≡ after (Printing before ∷ []) until_written
 
 -- the line of the index that signed
-abbrev pub index_line : {random message : List ℕ} {out : Text} {written : Bool} {old new : WorldCalls} → WritesSignature random message out written old new → List ℕ
+abbrev pub index_line : {random message : List ℕ} {out : Bytes} {written : Bool}
+    {old new : WorldCalls} → WritesSignature random message out written old new → List ℕ
 index_line writes = number_line (codes "index") writes.index
 
--- why no signature is delivered under a lock: where it is not written nothing is printed, and else of the index's line a beginning at most
-abbrev pub LogsUndelivered : List ℕ → List ℕ → Text → List ℕ → List ℕ → Fault → WorldCalls → WorldCalls → Type 0
+-- why no signature is delivered under a lock: where it is not written nothing is printed, and else
+-- of the index's line a beginning at most
+abbrev pub LogsUndelivered : List ℕ → List ℕ → Bytes → List ℕ → List ℕ → Fault → WorldCalls
+    → WorldCalls → Type 0
 LogsUndelivered random message out before printed fault old new =
-    ((nodes : Option (List ℕ)) × LogsNotSigned fault (after (NodesRead nodes ∷ []) old) new × (printed ≡ before))
+    ((nodes : Option (List ℕ)) × LogsNotSigned fault (after (NodesRead nodes ∷ []) old) new
+    × (printed ≡ before))
     ⊎ ((fault ≡ Output) × ((WritesSignature random message out false old new × (printed ≡ before))
-    ⊎ ((delivers : DeliversSignature random message out before old new) × AppendsFront (Some before) (Some printed) (index_line delivers.writes))))
+    ⊎ ((delivers : DeliversSignature random message out before old new)
+    × AppendsFront (Some before) (Some printed) (index_line delivers.writes))))
 
--- all calls of `sign`: the message is read, and then from the lock on until that is handed back; that index is printed
-abbrev pub LogsSign : Text → Text → Text → Text → List ℕ → List ℕ → WorldCalls → WorldCalls → Type 0
-LogsSign random message state out before printed old new = (c text : List ℕ) × (last : WorldCalls) × (decode_of random ≡ Ok c)
-    × ((delivers : DeliversSignature c text out before (after (Read message (Some text) ∷ Locked state true ∷ []) old) last)
+-- all calls of `sign`: the message is read, and then from the lock on until that is handed back;
+-- that index is printed
+abbrev pub LogsSign : Bytes → Bytes → Bytes → Bytes → List ℕ → List ℕ → WorldCalls → WorldCalls
+    → Type 0
+LogsSign random message state out before printed old new =
+    (c text : List ℕ) × (last : WorldCalls) × (decode_of random ≡ Ok c)
+    × ((delivers : DeliversSignature c text out before
+    (after (Read message (Some text) ∷ Locked state true ∷ []) old) last)
     × (printed ≡ before ++ index_line delivers.writes))
     × (new ≡ after (Unlocked ∷ []) last)
 
 -- the same, where it fails
-abbrev pub LogsSignFailed : Text → Text → Text → Text → List ℕ → List ℕ → Fault → WorldCalls → WorldCalls → Type 0
+abbrev pub LogsSignFailed : Bytes → Bytes → Bytes → Bytes → List ℕ → List ℕ → Fault → WorldCalls
+    → WorldCalls → Type 0
 LogsSignFailed random message state out before printed fault old new =
     ((fault ≡ BadRandom) × (new ≡ old) × (printed ≡ before))
     ⊎ ((IsReadRefused fault × (new ≡ after (Read message None ∷ []) old) × (printed ≡ before))
     ⊎ (((text : List ℕ) × IsLockRefused fault
     × (new ≡ after (Read message (Some text) ∷ Locked state false ∷ []) old) × (printed ≡ before))
     ⊎ ((c text : List ℕ) × (last : WorldCalls) × (decode_of random ≡ Ok c)
-    × LogsUndelivered c text out before printed fault (after (Read message (Some text) ∷ Locked state true ∷ []) old) last
+    × LogsUndelivered c text out before printed fault
+    (after (Read message (Some text) ∷ Locked state true ∷ []) old) last
     × (new ≡ after (Unlocked ∷ []) last))))

@@ -6,7 +6,7 @@ ghost use Rattle.lms_shared_book.specs.Desks.{BlankFits, sums};
 ghost use Rattle.lms_lines.specs.AnswerLines.{answer_text};
 ghost use Rattle.lms_lines.specs.SignedLines.{signatures_in};
 ghost use Rattle.lms_commands.specs.BatchLogs.{LogsAnswers, LogsBatch, LogsJobs, LogsJobsFailed, LogsNoBatch, LogsUnanswered};
-ghost use Rattle.lms_commands.specs.Batches.{FailsToBatch, FailsToSignInput, FailsToSignJobs, IsSilent, IsUnprinted, SignsAllJobs, SignsAsked, streams};
+ghost use Rattle.lms_commands.specs.Batches.{FailsToBatch, FailsToSignInput, FailsToSignJobs, PrintsNothing, IsUnprinted, SignsAllJobs, SignsAsked, streams};
 ghost use Rattle.lms_world.specs.Known.{SameFiles, SameNodes};
 ghost use Rattle.lms_texts.specs.Options.{AreWorkers};
 ghost use Rattle.lms_commands.specs.SharedBooks.{IsRefusedAtDesk, IsRefusedBy, IsSignedAtDesk, IsSignedByBook};
@@ -17,7 +17,7 @@ use lms_batch::SigningService;
 use lms_book::{Book, StateStore};
 use lms_hss::Progress;
 use lms_lines::{SignedJobs, count_signatures, read_and_sign, write_batch};
-use lms_shared_book::{Blanks, Desk, SharedBook, Tally};
+use lms_shared_book::{Blanks, BookLedger, Desk, SharedBook};
 use lms_texts::workers_from;
 use lms_world::{Printer, World};
 use std::alloc::Global;
@@ -27,19 +27,22 @@ use std::sync::Wait;
 use std::sync::ledger::Blank;
 use std::thread::Threads;
 
-/// Signs the job lines of the whole input with the next indices of a state's key, one index a job, by 1 to `lms_batch::MOST_WORKERS`
-/// workers at once, and prints a line for each signature, in the order of the jobs. `workers` is their number, in decimal. One
-/// reservation is made, before any job is signed; where there are no jobs, none.
+/// Signs the job lines of the whole input with the next indices of a state's key, one index a job,
+/// by 1 to `lms_batch::MOST_WORKERS` workers at once, and prints a line for each signature, in the
+/// order of the jobs. `workers` is their number, in decimal. One reservation is made, before any
+/// job is signed; where there are no jobs, none.
 ///
-/// Faults, in this order: `BadWorkers`; `StateInUse` where the state's lock is not available; `ReadState`; `BadState`; `Input`
-/// where the input can't be read; `BadJob` with the number of the first line that is no job line; `TooManyJobs` over 1024;
-/// `Exhausted`; `WriteStateBurnt` where the use of the indices may not have been stored; `OutOfMemoryBurnt` where memory is
-/// refused after that, before any job is signed; `Output`, maybe after a beginning of the lines; `Partial` where memory is
-/// refused to a worker, after the lines of those that were signed. `OutOfMemory` may come anywhere before `WriteStateBurnt`. At
-/// the last three all indices of the batch are used; after `WriteStateBurnt` the state may still be the older one, which gives
-/// them again. The state stays locked while the input is read.
+/// Faults, in this order: `BadWorkers`; `StateInUse` where the state's lock is not available;
+/// `ReadState`; `BadState`; `Input` where the input can't be read; `BadJob` with the number of the
+/// first line that is no job line; `TooManyJobs` over 1024; `Exhausted`; `WriteStateBurnt` where
+/// the use of the indices may not have been stored; `OutOfMemoryBurnt` where memory is refused
+/// after that, before any job is signed; `Output`, maybe after a beginning of the lines; `Partial`
+/// where memory is refused to a worker, after the lines of those that were signed. `OutOfMemory`
+/// may come anywhere before `WriteStateBurnt`. At the last three all indices of the batch are used;
+/// after `WriteStateBurnt` the state may still be the older one, which gives them again. The state
+/// stays locked while the input is read.
 ///
-/// `progress` is told how many leaves are worked out of the trees that the batch needs.
+/// `progress` gets how many leaves of the trees that the batch needs are computed.
 pub fn sign_jobs<W: World, I: Read, O: Write>(
     rt: &(impl Threads + Wait + Sync),
     alloc: Global,
@@ -51,14 +54,21 @@ pub fn sign_jobs<W: World, I: Read, O: Write>(
     output: &mut Printer<O>,
     progress: &impl Progress,
 ) -> Result<(), Fault>
-    ensures logged { OnOk result (LogsJobs state.now (I.remaining input.old) (I.remaining input.new) output.old output.new (W.events log.old) (W.events log.new)) }
-    ensures log_failed { IfErr result (λ fault. LogsJobsFailed state.now (I.remaining input.old) (I.remaining input.new) output.old output.new fault (W.events log.old) (W.events log.new)) }
+    ensures logged { OnOk result
+        (LogsJobs state.now (I.remaining input.old) (I.remaining input.new) output.old output.new
+        (W.events log.old) (W.events log.new)) }
+    ensures log_failed { IfErr result (λ fault.
+        LogsJobsFailed state.now (I.remaining input.old)
+        (I.remaining input.new) output.old output.new fault (W.events log.old) (W.events log.new)) }
     ensures workers { OnOk result (AreWorkers workers.now) }
     ensures signed { OnOk result (SignsAllJobs (W.known world.old) (W.known world.new) state.now
-        (streams (I.remaining input.old) (Some output.old)) (streams (I.remaining input.new) (Some output.new))) }
-    ensures failed { IfErr result (FailsToBatch (W.known world.old) (W.known world.new) state.now workers.now
-        (streams (I.remaining input.old) (Some output.old)) (streams (I.remaining input.new) (Some output.new))) }
-    ensures silent { IfErr result (λ fault. IsSilent fault → output.new ≡ output.old) }
+        (streams (I.remaining input.old) (Some output.old))
+        (streams (I.remaining input.new) (Some output.new))) }
+    ensures failed { IfErr result
+        (FailsToBatch (W.known world.old) (W.known world.new) state.now workers.now
+        (streams (I.remaining input.old) (Some output.old))
+        (streams (I.remaining input.new) (Some output.new))) }
+    ensures silent { IfErr result (λ fault. PrintsNothing fault → output.new ≡ output.old) }
     ensures files { SameFiles (W.known world.old) (W.known world.new) }
     ensures nodes { SameNodes (W.known world.old) (W.known world.new) }
 {
@@ -73,7 +83,8 @@ pub fn sign_jobs<W: World, I: Read, O: Write>(
     done
 }
 
-/// The same, once the lock is got. All answers are printed after the state's store was put back.
+/// The same, once the lock is acquired. All answers are printed after the state's store was put
+/// back.
 fn sign_locked<W: World, I: Read, O: Write>(
     rt: &(impl Threads + Wait + Sync),
     alloc: Global,
@@ -87,18 +98,25 @@ fn sign_locked<W: World, I: Read, O: Write>(
 ) -> Result<(), Fault>
     requires some { 1 ≤ workers }
     requires at_most { workers ≤ most_workers }
-    ensures logged { OnOk result ((count : ℕ) × LogsAnswers (I.remaining input.old) (I.remaining input.new) output.old output.new count count
+    ensures logged { OnOk result
+        ((count : ℕ)
+        × LogsAnswers (I.remaining input.old)
+        (I.remaining input.new) output.old output.new count count
         (W.events log.old) (W.events log.new)) }
     ensures log_failed { IfErr result (λ fault.
-        (LogsNoBatch (I.remaining input.old) (I.remaining input.new) fault (W.events log.old) (W.events log.new) × (output.new ≡ output.old))
-        ⊎ LogsUnanswered (I.remaining input.old) (I.remaining input.new) output.old output.new fault (W.events log.old) (W.events log.new)) }
+        (LogsNoBatch (I.remaining input.old) (I.remaining input.new) fault (W.events log.old)
+        (W.events log.new) × (output.new ≡ output.old))
+        ⊎ LogsUnanswered (I.remaining input.old) (I.remaining input.new) output.old output.new fault
+        (W.events log.old) (W.events log.new)) }
     ensures signed { OnOk result ((state : List ℕ) → W.is_lock_of lock.now state
         → SignsAllJobs (W.known world.old) (W.known world.new) state
-        (streams (I.remaining input.old) (Some output.old)) (streams (I.remaining input.new) (Some output.new))) }
+        (streams (I.remaining input.old) (Some output.old))
+        (streams (I.remaining input.new) (Some output.new))) }
     ensures failed { IfErr result (λ fault. (state : List ℕ) → W.is_lock_of lock.now state
         → FailsToSignJobs (W.known world.old) (W.known world.new) state
-        (streams (I.remaining input.old) (Some output.old)) (streams (I.remaining input.new) (Some output.new)) fault) }
-    ensures silent { IfErr result (λ fault. IsSilent fault → output.new ≡ output.old) }
+        (streams (I.remaining input.old) (Some output.old))
+        (streams (I.remaining input.new) (Some output.new)) fault) }
+    ensures silent { IfErr result (λ fault. PrintsNothing fault → output.new ≡ output.old) }
     ensures files { SameFiles (W.known world.old) (W.known world.new) }
     ensures nodes { SameNodes (W.known world.old) (W.known world.new) }
 {
@@ -107,16 +125,15 @@ fn sign_locked<W: World, I: Read, O: Write>(
     print_answers(&signed, output)
 }
 
-/// Prints the lines of a batch. `Output` where that can't be done, maybe after a beginning of them; `Partial` where not all jobs were
-/// signed, after the lines of those that were.
+/// Prints the lines of a batch. `Output` where that can't be done, maybe after a beginning of them;
+/// `Partial` where not all jobs were signed, after the lines of those that were.
 fn print_answers<O: Write>(signed: &SignedJobs, output: &mut O) -> Result<(), Fault>
     ensures all { OnOk result ((signatures_in signed.now.batch ≡ signed.now.asked)
         × Appends (O.contents output.old) (O.contents output.new) (answer_text signed.now.batch)) }
-    ensures failed { IfErr result (IsUnprinted signed.now (O.contents output.old) (O.contents output.new)) }
+    ensures failed { IfErr result
+        (IsUnprinted signed.now (O.contents output.old) (O.contents output.new)) }
 {
-    let Ok(()) = write_batch(output, &signed.batch) else {
-        return Err(Fault::Output);
-    };
+    write_batch(output, &signed.batch)?;
     let Ok(()) = output.flush() else {
         return Err(Fault::Output);
     };
@@ -143,14 +160,18 @@ fn sign_by_state<W: World, I: Read>(
 ) -> Result<SignedJobs, Fault>
     requires some { 1 ≤ workers }
     requires at_most { workers ≤ most_workers }
-    ensures logged { IfOk result (λ signed. (signs : LogsBatch (I.remaining input.old) (I.remaining input.new) signed.batch
+    ensures logged { IfOk result (λ signed.
+        (signs : LogsBatch (I.remaining input.old) (I.remaining input.new) signed.batch
         (W.events log.old) (W.events log.new)) × (signed.asked ≡ length signs.jobs)) }
-    ensures log_failed { IfErr result (λ fault. LogsNoBatch (I.remaining input.old) (I.remaining input.new) fault
+    ensures log_failed { IfErr result (λ fault.
+        LogsNoBatch (I.remaining input.old) (I.remaining input.new) fault
         (W.events log.old) (W.events log.new)) }
     ensures signed { IfOk result (λ signed. (state : List ℕ) → W.is_lock_of lock.now state
-        → SignsAsked (W.known world.old) (W.known world.new) state (I.remaining input.old) (I.remaining input.new) signed) }
+        → SignsAsked (W.known world.old) (W.known world.new) state (I.remaining input.old)
+        (I.remaining input.new) signed) }
     ensures failed { IfErr result (λ fault. (state : List ℕ) → W.is_lock_of lock.now state
-        → FailsToSignInput (W.known world.old) (W.known world.new) state (I.remaining input.old) (I.remaining input.new) fault) }
+        → FailsToSignInput (W.known world.old) (W.known world.new) state (I.remaining input.old)
+        (I.remaining input.new) fault) }
     ensures files { SameFiles (W.known world.old) (W.known world.new) }
     ensures nodes { SameNodes (W.known world.old) (W.known world.new) }
 {
@@ -171,19 +192,21 @@ fn sign_by_book<S: StateStore, I: Read>(
 ) -> (Result<SignedJobs, Fault>, Book<S>)
     requires some { 1 ≤ workers }
     requires at_most { workers ≤ most_workers }
-    ensures signed { IfOk result.0 (λ signed. IsSignedByBook book (I.remaining input.old) (I.remaining input.new) signed result.1) }
-    ensures refused { IfErr result.0 (λ fault. IsRefusedBy book (I.remaining input.old) (I.remaining input.new) fault result.1) }
+    ensures signed { IfOk result.0 (λ signed.
+        IsSignedByBook book (I.remaining input.old) (I.remaining input.new) signed result.1) }
+    ensures refused { IfErr result.0 (λ fault.
+        IsRefusedBy book (I.remaining input.old) (I.remaining input.new) fault result.1) }
 {
     let blanks = Blanks {
         entries: Blank::new(2),
-        given: Blank::new(2),
+        received: Blank::new(2),
         burnt: Blank::new(2),
     };
     sign_shared::<Brand, Brand, Brand, S, I>(rt, alloc, book, blanks, workers, input, progress)
 }
 
 /// The same, with the ledgers of the desk. Where memory for the desk is refused, no line is read.
-fn sign_shared<E: Tally, G: Tally, B: Tally, S: StateStore, I: Read>(
+fn sign_shared<E: BookLedger, G: BookLedger, B: BookLedger, S: StateStore, I: Read>(
     rt: &(impl Threads + Wait + Sync),
     alloc: Global,
     book: Book<S>,
@@ -196,10 +219,12 @@ fn sign_shared<E: Tally, G: Tally, B: Tally, S: StateStore, I: Read>(
     requires at_most { workers ≤ most_workers }
     requires same { book ≡ E.book }
     requires entries { BlankFits blanks.entries E.name E.parts 2 }
-    requires given { BlankFits blanks.given G.name G.parts 2 }
+    requires received { BlankFits blanks.received G.name G.parts 2 }
     requires burnt { BlankFits blanks.burnt B.name B.parts 2 }
-    ensures signed { IfOk result.0 (λ signed. IsSignedByBook book (I.remaining input.old) (I.remaining input.new) signed result.1) }
-    ensures refused { IfErr result.0 (λ fault. IsRefusedBy book (I.remaining input.old) (I.remaining input.new) fault result.1) }
+    ensures signed { IfOk result.0 (λ signed.
+        IsSignedByBook book (I.remaining input.old) (I.remaining input.new) signed result.1) }
+    ensures refused { IfErr result.0 (λ fault.
+        IsRefusedBy book (I.remaining input.old) (I.remaining input.new) fault result.1) }
 {
     let (shared, mut desks) = match SharedBook::<S, E, G, B>::share(alloc, book, blanks, 1) {
         Ok(shared) => shared,
@@ -209,13 +234,13 @@ fn sign_shared<E: Tally, G: Tally, B: Tally, S: StateStore, I: Read>(
     let answer = sign_at_desk(rt, alloc, &service, &mut desks, workers, input, progress);
     match service.into_book().settle(desks) {
         Ok(left) => (answer, left),
-        // All desks have come, so that nothing is let go here.
+        // All desks have come, so that nothing is dropped here.
         Err(_) => unreachable!(),
     }
 }
 
 /// Signs job lines at the only desk of a service, which has counted nothing.
-fn sign_at_desk<E: Tally, G: Tally, B: Tally, S: StateStore, I: Read>(
+fn sign_at_desk<E: BookLedger, G: BookLedger, B: BookLedger, S: StateStore, I: Read>(
     rt: &(impl Threads + Wait + Sync),
     alloc: Global,
     service: &SigningService<S, E, G, B>,
@@ -227,8 +252,12 @@ fn sign_at_desk<E: Tally, G: Tally, B: Tally, S: StateStore, I: Read>(
     requires some { 1 ≤ workers }
     requires at_most { workers ≤ most_workers }
     requires one { desks.old ≡ sums 0 0 0 ∷ [] }
-    ensures signed { IfOk result (λ signed. IsSignedAtDesk service.now (I.remaining input.old) (I.remaining input.new) signed desks.new) }
-    ensures refused { IfErr result (λ fault. IsRefusedAtDesk service.now (I.remaining input.old) (I.remaining input.new) fault desks.new) }
+    ensures signed { IfOk result (λ signed.
+        IsSignedAtDesk service.now (I.remaining input.old)
+        (I.remaining input.new) signed desks.new) }
+    ensures refused { IfErr result (λ fault.
+        IsRefusedAtDesk service.now (I.remaining input.old)
+        (I.remaining input.new) fault desks.new) }
     ensures still { length desks.new ≡ 1 }
 {
     match read_and_sign(rt, alloc, service, input, &mut desks[0], workers, progress) {

@@ -2,7 +2,7 @@
 ghost use Rattle.std.specs.Prelude.{◌≡◌, OnErr, OnOk, Some};
 ghost use Rattle.std.specs.Io.KnownBytes.{Appends};
 ghost use Rattle.lms_lines.specs.AnswerLines.{AppendsFront};
-ghost use Rattle.lms_commands.specs.Faults.{fault_line, of_book, of_key, of_opening, of_text, status_of, command_fault_text};
+ghost use Rattle.lms_commands.specs.Faults.{fault_line, of_book, of_key, of_opening, of_read, of_text, status_of, command_fault_text};
 
 use crate::status::Status;
 use lms_batch::BatchFault;
@@ -12,6 +12,7 @@ use lms_image::ImageFault;
 use lms_lines::{JobsFault, LinesFault, WriteFault};
 use lms_params::OutOfMemory;
 use lms_texts::{LevelsTextFault, print_line};
+use lms_world::WorldFault;
 use std::error::Error;
 use std::fmt;
 use std::io::Write;
@@ -19,7 +20,7 @@ use std::io::Write;
 /// Why the program ends with a fault.
 #[derive(Clone, Copy, Debug, PartialEq, Eq)]
 pub enum Fault {
-    /// The text for the levels is no list such as `10/8,5/4`.
+    /// The text for the levels is not a list such as `10/8,5/4`.
     BadLevels,
     /// There are more than 8 levels.
     TooManyLevels,
@@ -55,9 +56,11 @@ pub enum Fault {
     OutOfMemory,
     /// Memory ran out after a reservation: `count` indices are used, and signed nothing.
     OutOfMemoryBurnt { count: u64 },
-    /// Memory ran out while a batch was signed: all its indices are used, and the lines of the signatures are printed.
+    /// Memory ran out while a batch was signed: all its indices are used, and the lines of the
+    /// signatures are printed.
     Partial { signed: usize, asked: usize },
-    /// Standard input, a file other than the state, or the program's arguments can't be read, or `/dev/null` can't be opened.
+    /// Standard input, a file other than the state, or the program's arguments can't be read, or
+    /// `/dev/null` can't be opened.
     Input,
     /// A file or standard output can't be written.
     Output,
@@ -161,6 +164,27 @@ impl From<OutOfMemory> for Fault {
     }
 }
 
+impl From<WorldFault> for Fault {
+    ghost from_gives = { λ world_fault fault. fault ≡ of_read world_fault };
+
+    fn from(fault: WorldFault) -> Self {
+        match fault {
+            WorldFault::Device => Fault::Input,
+            WorldFault::OutOfMemory => Fault::OutOfMemory,
+        }
+    }
+}
+
+impl From<WriteFault> for Fault {
+    ghost use Rattle.lms_commands.specs.declared.fault.Fault.TheVariants.{Output};
+
+    ghost from_gives = { λ _ fault. fault ≡ Output };
+
+    fn from(_: WriteFault) -> Self {
+        Fault::Output
+    }
+}
+
 impl From<OpenFault> for Fault {
     ghost from_gives = { λ open_fault fault. fault ≡ of_opening open_fault };
 
@@ -232,8 +256,10 @@ impl From<BookFault> for Fault {
 ///
 /// Where the writer fails, a beginning of it was written.
 pub fn print_fault<W: Write>(errors: &mut W, fault: Fault) -> Result<(), WriteFault>
-    ensures printed { OnOk result (Appends (W.contents errors.old) (W.contents errors.new) (fault_line fault)) }
-    ensures broken { OnErr result (AppendsFront (W.contents errors.old) (W.contents errors.new) (fault_line fault)) }
+    ensures printed { OnOk result
+        (Appends (W.contents errors.old) (W.contents errors.new) (fault_line fault)) }
+    ensures broken { OnErr result
+        (AppendsFront (W.contents errors.old) (W.contents errors.new) (fault_line fault)) }
 {
     print_line(errors, format_args!("error: {fault}"))
 }

@@ -15,17 +15,8 @@ use lms_params::OutOfMemory;
 use lms_world::{Contents, Taker, World, WorldFault};
 use std::alloc::Global;
 
-/// The fault that a refused read comes to: `Input` where a file can't be read, `OutOfMemory` where memory for it was refused.
-fn fault_of_read(fault: WorldFault) -> Fault
-    ensures { result ≡ of_read fault }
-{
-    match fault {
-        WorldFault::Device => Fault::Input,
-        WorldFault::OutOfMemory => Fault::OutOfMemory,
-    }
-}
-
-/// The bytes of a file. Faults as `fault_of_read`.
+/// The bytes of a file. `Input` where it can't be read, `OutOfMemory` where memory for it was
+/// refused.
 pub(crate) fn read_file<W: World>(
     alloc: Global,
     world: &W,
@@ -37,13 +28,10 @@ pub(crate) fn read_file<W: World>(
     ensures refused { IfErr result
         (MayBeRefusedAt (W.known world.now) name.now) }
 {
-    match world.read(alloc, log, name) {
-        Ok(bytes) => Ok(bytes),
-        Err(fault) => Err(fault_of_read(fault)),
-    }
+    Ok(world.read(alloc, log, name)?)
 }
 
-/// Opens a file to be read in pieces. Faults as `fault_of_read`.
+/// Opens a file to be read in pieces. Faults as `read_file`.
 pub(crate) fn open_file<W: World>(
     alloc: Global,
     world: &W,
@@ -59,32 +47,29 @@ pub(crate) fn open_file<W: World>(
     ensures refused { IfErr result
         (MayBeRefusedAt (W.known world.now) name.now) }
 {
-    match world.open(alloc, log, name) {
-        Ok(contents) => Ok(contents),
-        Err(fault) => Err(fault_of_read(fault)),
-    }
+    Ok(world.open(alloc, log, name)?)
 }
 
-/// Hands the bytes of a file over, piece by piece. Faults as `fault_of_read`.
+/// Hands the bytes of a file over, piece by piece. Faults as `read_file`.
 pub(crate) fn hand_over<C: Contents, T: Taker>(contents: C, taker: &mut T) -> Result<(), Fault>
-    ensures handed { OnOk result ((bytes : List ℕ) × C.may_give contents bytes × T.after taker.old bytes taker.new) }
-    ensures refused { IfErr result (λ fault. (cause : WorldFault) × C.may_refuse contents cause × (fault ≡ of_read cause)) }
+    ensures handed { OnOk result
+        ((bytes : List ℕ) × C.may_give contents bytes × T.after taker.old bytes taker.new) }
+    ensures refused { IfErr result (λ fault.
+        (cause : WorldFault) × C.may_refuse contents cause × (fault ≡ of_read cause)) }
 {
-    match contents.hand_over(taker) {
-        Ok(()) => Ok(()),
-        Err(fault) => Err(fault_of_read(fault)),
-    }
+    Ok(contents.hand_over(taker)?)
 }
 
-/// Makes these the bytes of a file, and changes no other. `Output` where it can't be written, `OutOfMemory` where memory for
-/// that was refused.
+/// Makes these the bytes of a file, and changes no other. `Output` where it can't be written,
+/// `OutOfMemory` where memory for that was refused.
 pub(crate) fn write_file<W: World>(
     world: &mut W,
     log: &mut W::Log,
     name: &str,
     bytes: &[u8],
 ) -> Result<(), Fault>
-    ensures logged { W.events log.new ≡ Written name.now bytes.now (is_done result) ∷ W.events log.old }
+    ensures logged { W.events log.new
+        ≡ Written name.now bytes.now (is_done result) ∷ W.events log.old }
     ensures given { OnOk result ((W.known world.new).may_give name.now bytes.now) }
     ensures failed { IfErr result (λ fault. (fault ≡ Fault.Output) ⊎ (fault ≡ Fault.OutOfMemory)) }
     ensures others { SameFilesBut name.now (W.known world.old) (W.known world.new) }
@@ -98,7 +83,8 @@ pub(crate) fn write_file<W: World>(
     }
 }
 
-/// The lock of a state. `StateInUse` where it is not got, `OutOfMemory` where memory for its name was refused.
+/// The lock of a state. `StateInUse` where it is not available, `OutOfMemory` where memory for its
+/// name was refused.
 pub(crate) fn lock_state<W: World>(
     alloc: Global,
     world: &W,
@@ -108,7 +94,8 @@ pub(crate) fn lock_state<W: World>(
     ensures logged { W.events log.new ≡ Locked state.now (is_done result) ∷ W.events log.old }
     ensures locked { IfOk result (λ lock. W.is_lock_of lock state.now) }
     ensures refused { IfErr result (λ fault.
-        ((fault ≡ Fault.StateInUse) × (W.known world.now).may_be_in_use state.now) ⊎ (fault ≡ Fault.OutOfMemory)) }
+        ((fault ≡ Fault.StateInUse) × (W.known world.now).may_be_in_use state.now)
+        ⊎ (fault ≡ Fault.OutOfMemory)) }
 {
     match world.lock(alloc, log, state) {
         Ok(Some(lock)) => Ok(lock),
@@ -117,8 +104,8 @@ pub(crate) fn lock_state<W: World>(
     }
 }
 
-/// Takes the state of a lock out of the world, and opens its book, whose store the caller puts back.
-/// `ReadState`, `BadState` and `OutOfMemory` leave the state where it was.
+/// Takes the state of a lock out of the world, and opens its book, whose store the caller puts
+/// back. `ReadState`, `BadState` and `OutOfMemory` leave the state where it was.
 pub(crate) fn open_state<W: World>(
     alloc: Global,
     world: &mut W,
@@ -126,12 +113,14 @@ pub(crate) fn open_state<W: World>(
     lock: &W::Lock,
 ) -> Result<Book<W::Store>, Fault>
     ensures logged { IfOk result (λ book. OpensState book (W.events log.old) (W.events log.new)) }
-    ensures unopened { IfErr result (λ fault. LogsUnopened fault (W.events log.old) (W.events log.new)) }
+    ensures unopened { IfErr result (λ fault.
+        LogsUnopened fault (W.events log.old) (W.events log.new)) }
     ensures opened { IfOk result (λ book. (state : List ℕ) → W.is_lock_of lock.now state
         → MayBeImageOf (W.known world.old) state book.key book.base book.openings book.burnt) }
     ensures counted { IfOk result (λ book. HasImage book.key book.base book.openings book.burnt) }
     ensures fresh { IfOk result (λ book. book.history ≡ []) }
-    ensures taken { IfOk result (λ book. (state : List ℕ) → W.is_lock_of lock.now state → (text : List ℕ)
+    ensures taken { IfOk result (λ book.
+        (state : List ℕ) → W.is_lock_of lock.now state → (text : List ℕ)
         → MayLeave book.store text ↔ (W.known world.old).may_hold state text) }
     ensures failed { IfErr result (λ fault. (state : List ℕ) → W.is_lock_of lock.now state
         → FailsToOpen (W.known world.old) state fault) }

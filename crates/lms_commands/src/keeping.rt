@@ -1,4 +1,4 @@
-//! What is kept of a key's trees beside its state, so that a signature need not work them out again.
+//! What is kept of a key's trees beside its state, so that a signature need not compute them again.
 ghost use Rattle.std.specs.Prelude.{◌≡◌, ◌∷◌, List, Some, ℕ, IfSome, option_map};
 ghost use Rattle.lms_commands.specs.Keeping.{KeepsOnly};
 ghost use Rattle.lms_commands.specs.Logs.{LogsKeeping};
@@ -16,14 +16,16 @@ pub(crate) fn kept_text<W: World>(
     log: &mut W::Log,
     lock: &W::Lock,
 ) -> Option<Vec<u8>>
-    ensures logged { W.events log.new ≡ NodesRead (option_map (λ text. text.items) result) ∷ W.events log.old }
-    ensures kept { (state : List ℕ) → W.is_lock_of lock.now state → IfSome result (λ text. (W.known world.now).may_keep state text.items) }
+    ensures logged { W.events log.new
+        ≡ NodesRead (option_map (λ text. text.items) result) ∷ W.events log.old }
+    ensures kept { (state : List ℕ) → W.is_lock_of lock.now state
+        → IfSome result (λ text. (W.known world.now).may_keep state text.items) }
 {
     world.read_nodes(alloc, log, lock, MOST_TEXT_LEN)
 }
 
-/// Keeps these trees beside the state of a lock, where that can be done. Nothing is said where it can't: whoever finds nothing right there
-/// works all out.
+/// Keeps these trees beside the state of a lock, where that can be done. Where it can't, nothing is
+/// reported: whoever finds nothing right there computes all again.
 pub(crate) fn keep_trees<W: World>(
     alloc: Global,
     world: &mut W,

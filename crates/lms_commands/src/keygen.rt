@@ -16,6 +16,7 @@ use lms_book::{StateStore, StoreFault};
 use lms_hss::{HssKey, Levels, Progress};
 use lms_image::{Image, encode_image};
 use lms_kept::KeptTrees;
+use lms_params::HASH_LEN;
 use lms_texts::{print_capacity, read_bytes, read_levels};
 use lms_world::{Printer, World};
 use std::alloc::Global;
@@ -24,8 +25,8 @@ use std::thread::Threads;
 
 /// The key of these levels, of this seed of 64 hexadecimal digits and of this identifier of 32.
 ///
-/// The first of these faults: `BadLevels`, `TooManyLevels`, `TooTall`, `BadSeed`, `BadId`; or `OutOfMemory` where memory for
-/// the levels was refused.
+/// The first of these faults: `BadLevels`, `TooManyLevels`, `TooTall`, `BadSeed`, `BadId`; or
+/// `OutOfMemory` where memory for the levels was refused.
 pub fn key_from(alloc: Global, levels: &str, seed: &str, id: &str) -> Result<HssKey, Fault>
     ensures key { IfOk result (IsKeyOf levels.now seed.now id.now) }
     ensures refused { IfErr result (IsNoKey levels.now seed.now id.now) }
@@ -38,27 +39,31 @@ pub fn key_from(alloc: Global, levels: &str, seed: &str, id: &str) -> Result<Hss
 }
 
 /// The key of these levels, seed and identifier.
-fn key_of(levels: Levels, seed: [u8; 32], id: [u8; 16]) -> HssKey
+fn key_of(levels: Levels, seed: [u8; HASH_LEN], id: [u8; 16]) -> HssKey
     ensures levels { result.levels ≡ levels }
     ensures seed { result.seed ≡ seed }
     ensures id { result.i ≡ id }
     ensures taken { IsTaken result }
 {
-    // Its clause says that the signer takes the levels.
+    // for the proof: the clause says that the signer takes the levels.
     let _sets = levels.as_slice();
     HssKey::new(levels, seed, id)
 }
 
-/// Stores the state of a new key with no index used, writes its public key to a file and prints its capacity.
+/// Stores the state of a new key with no index used, writes its public key to a file and prints its
+/// capacity.
 ///
-/// In this order: `StateInUse` where the state's lock is not got, `StateExists` where the state is there, `WriteState`
-/// where it may not have been stored, and `Output` where the public key can't be written or the capacity not printed: the
-/// state is the new key's then. `OutOfMemory` may come before the state is written, which stays as it was, or while the
-/// public key is written, and then the state is the new key's. No file is written before the state is stored, and the lock is held to the end.
+/// In this order: `StateInUse` where the state's lock is not available, `StateExists` where the
+/// state is there, `WriteState` where it may not have been stored, and `Output` where the public
+/// key can't be written or the capacity not printed: the state is the new key's then. `OutOfMemory`
+/// may come before the state is written, which stays as it was, or while the public key is written,
+/// and then the state is the new key's. No file is written before the state is stored, and the lock
+/// is held to the end.
 ///
-/// The top tree's nodes are kept beside the state, once that is stored, for the first signature. Where that can't be done nothing is said.
+/// The top tree's nodes are kept beside the state, once that is stored, for the first signature.
+/// Where that can't be done, nothing is reported.
 ///
-/// `progress` is told how many leaves of the top tree are worked out.
+/// `progress` gets how many leaves of the top tree are computed.
 pub fn make_key<W: World, O: Write>(
     rt: &(impl Threads + Sync),
     alloc: Global,
@@ -70,13 +75,17 @@ pub fn make_key<W: World, O: Write>(
     output: &mut Printer<O>,
     progress: &impl Progress,
 ) -> Result<(), Fault>
-    ensures logged { OnOk result (LogsKeygen key state.now public.now output.old output.new (W.events log.old) (W.events log.new)) }
-    ensures log_failed { IfErr result (λ fault. LogsKeygenFailed key state.now public.now output.old output.new fault
+    ensures logged { OnOk result
+        (LogsKeygen key state.now public.now output.old output.new (W.events log.old)
+        (W.events log.new)) }
+    ensures log_failed { IfErr result (λ fault.
+        LogsKeygenFailed key state.now public.now output.old output.new fault
         (W.events log.old) (W.events log.new)) }
     ensures made { OnOk result (MakesKey (W.known world.old)
         (W.known world.new) key state.now public.now
         (Some output.old) (Some output.new)) }
-    ensures failed { IfErr result (FailsToMakeKey (W.known world.old) (W.known world.new) key state.now) }
+    ensures failed { IfErr result
+        (FailsToMakeKey (W.known world.old) (W.known world.new) key state.now) }
     ensures silent { IfErr result (λ fault. fault ≢ Fault.Output → output.new ≡ output.old) }
     ensures files { SameFilesBut public.now (W.known world.old) (W.known world.new) }
     ensures nodes { KeepsWhereStored (W.known world.old) (W.known world.new) key state.now }
@@ -87,7 +96,7 @@ pub fn make_key<W: World, O: Write>(
     made
 }
 
-/// The same, once the lock is got.
+/// The same, once the lock is acquired.
 fn make_locked<W: World, O: Write>(
     rt: &(impl Threads + Sync),
     alloc: Global,
@@ -99,17 +108,22 @@ fn make_locked<W: World, O: Write>(
     output: &mut Printer<O>,
     progress: &impl Progress,
 ) -> Result<(), Fault>
-    ensures logged { OnOk result (PublishesKey key public.now output.old (W.events log.old) (W.events log.new)
+    ensures logged { OnOk result
+        (PublishesKey key public.now output.old (W.events log.old) (W.events log.new)
         × (output.new ≡ output.old ++ capacity_line key)) }
-    ensures log_failed { IfErr result (λ fault. LogsUnmade key public.now output.old output.new fault (W.events log.old) (W.events log.new)) }
-    ensures made { OnOk result ((state : List ℕ) → W.is_lock_of lock.now state → MakesKey (W.known world.old)
+    ensures log_failed { IfErr result (λ fault.
+        LogsUnmade key public.now output.old output.new fault (W.events log.old)
+        (W.events log.new)) }
+    ensures made { OnOk result
+        ((state : List ℕ) → W.is_lock_of lock.now state → MakesKey (W.known world.old)
         (W.known world.new) key state public.now
         (Some output.old) (Some output.new)) }
     ensures failed { IfErr result (λ fault. (state : List ℕ) → W.is_lock_of lock.now state
         → FailsToMakeKey (W.known world.old) (W.known world.new) key state fault) }
     ensures silent { IfErr result (λ fault. fault ≢ Fault.Output → output.new ≡ output.old) }
     ensures files { SameFilesBut public.now (W.known world.old) (W.known world.new) }
-    ensures nodes { (state : List ℕ) → W.is_lock_of lock.now state → KeepsWhereStored (W.known world.old) (W.known world.new) key state }
+    ensures nodes { (state : List ℕ) → W.is_lock_of lock.now state
+        → KeepsWhereStored (W.known world.old) (W.known world.new) key state }
 {
     if world.exists(log, lock) {
         return Err(Fault::StateExists);
@@ -120,8 +134,8 @@ fn make_locked<W: World, O: Write>(
     publish(world, log, public, &trees.public(), key.capacity(), output)
 }
 
-/// Writes a public key to a file, and then prints its capacity. `OutOfMemory` where memory for the file was refused,
-/// `Output` where it can't be written, or the capacity not printed.
+/// Writes a public key to a file, and then prints its capacity. `OutOfMemory` where memory for the
+/// file was refused, `Output` where it can't be written, or the capacity not printed.
 fn publish<W: World, O: Write>(
     world: &mut W,
     log: &mut W::Log,
@@ -131,8 +145,11 @@ fn publish<W: World, O: Write>(
     output: &mut Printer<O>,
 ) -> Result<(), Fault>
     ensures logged { OnOk result (W.events log.new
-        ≡ after (Written name.now public_key.now true ∷ Printing output.old ∷ []) (W.events log.old)) }
-    ensures failed { IfErr result (λ fault. IsUnpublished name.now public_key.now (number_line (codes "capacity") capacity) output.old output.new fault
+        ≡ after (Written name.now public_key.now true ∷ Printing output.old ∷ [])
+        (W.events log.old)) }
+    ensures failed { IfErr result (λ fault.
+        IsUnpublished name.now public_key.now
+        (number_line (codes "capacity") capacity) output.old output.new fault
         (W.events log.old) (W.events log.new)) }
     ensures given { OnOk result ((W.known world.new).may_give name.now public_key.now) }
     ensures printed { OnOk result (Appends (Some output.old) (Some output.new)
@@ -144,13 +161,11 @@ fn publish<W: World, O: Write>(
 {
     write_file(world, log, name, public_key)?;
     world.begin_printing(log, output);
-    match print_capacity(output, capacity) {
-        Ok(()) => Ok(()),
-        Err(_) => Err(Fault::Output),
-    }
+    Ok(print_capacity(output, capacity)?)
 }
 
-/// Stores a key's state, that of the lock, with no index used. `OutOfMemory`, or `WriteState` where it was not stored for certain.
+/// Stores a key's state, that of the lock, with no index used. `OutOfMemory`, or `WriteState` where
+/// it was not stored for certain.
 fn store_key<W: World>(
     alloc: Global,
     world: &mut W,
@@ -159,7 +174,8 @@ fn store_key<W: World>(
     key: HssKey,
 ) -> Result<(), Fault>
     ensures logged { OnOk result (StoresKey key (W.events log.old) (W.events log.new)) }
-    ensures unstored { IfErr result (λ fault. LogsUnstored key fault (W.events log.old) (W.events log.new)) }
+    ensures unstored { IfErr result (λ fault.
+        LogsUnstored key fault (W.events log.old) (W.events log.new)) }
     ensures stored { OnOk result ((state : List ℕ) → W.is_lock_of lock.now state
         → (W.known world.new).may_hold state (image_of key 0 0 0)) }
     ensures failed { IfErr result (λ fault. (state : List ℕ) → W.is_lock_of lock.now state
@@ -176,15 +192,11 @@ fn store_key<W: World>(
     }
 }
 
-/// Stores a key's image with no index used. A crash at any moment leaves what it could leave before, or that image.
+/// Stores a key's image with no index used. A crash at any moment leaves what it could leave
+/// before, or that image.
 fn store_unused<S: StateStore>(store: &mut S, key: HssKey) -> Result<(), StoreFault>
     ensures { WritesStore (image_of key 0 0 0) (S.seen store.old) result (S.seen store.new) }
 {
-    let image = encode_image(&Image {
-        key,
-        counter: 0,
-        openings: 0,
-        burnt: 0,
-    });
+    let image = encode_image(&Image::unused(key));
     store.replace(image.as_slice())
 }

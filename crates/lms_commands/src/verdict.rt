@@ -34,8 +34,10 @@ impl Verdict {
 ///
 /// On a fault, a beginning of it was printed.
 pub(crate) fn print_verdict<W: Write>(output: &mut W, verdict: Verdict) -> Result<(), WriteFault>
-    ensures printed { OnOk result (Appends (W.contents output.old) (W.contents output.new) (line_of verdict)) }
-    ensures broken { OnErr result (AppendsFront (W.contents output.old) (W.contents output.new) (line_of verdict)) }
+    ensures printed { OnOk result
+        (Appends (W.contents output.old) (W.contents output.new) (line_of verdict)) }
+    ensures broken { OnErr result
+        (AppendsFront (W.contents output.old) (W.contents output.new) (line_of verdict)) }
 {
     match verdict {
         Verdict::Valid => print_line(output, "valid"),

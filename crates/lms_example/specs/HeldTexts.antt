@@ -10,14 +10,21 @@ pub record HeldTexts : Type 0 where
   pub given : Option (List ℕ)
   pub failures : ℕ
 
--- a stop leaves the text that is held, and none where there is none
+-- a crash leaves the text that is held, and none where there is none
 abbrev pub held : Option (List ℕ) → Texts
 held None = Some []
 held (Some text) = only text
 
 -- what contracts see of it, as of any store
 abbrev pub view_of : HeldTexts → StoreView
-view_of store = record { now = held store.text; past = map held store.past; given = store.given; failures = store.failures }
+view_of store =
+    record {
+      now = held store.text;
+      past = map held store.past;
+      given = store.given;
+      failures =
+          store.failures;
+    }
 
 -- another text is held, and the one before recorded
 abbrev pub holding : HeldTexts → List ℕ → HeldTexts

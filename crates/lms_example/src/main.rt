@@ -1,4 +1,5 @@
-//! Makes a key, stores its state in a store of the program's own, signs two messages and verifies them.
+//! Makes a key, stores its state in a store of the program's own, signs two messages and verifies
+//! them.
 #![tactic(auto)]
 
 ghost use Rattle.std.specs.Prelude.{◌≡◌};
@@ -14,7 +15,8 @@ use lms_params::{LmsType, OtsType, OutOfMemory};
 use std::alloc::Global;
 use std::thread::Threads;
 
-// A real program takes the seed, the identifier and each randomizer from a true random source. Whoever knows the seed signs.
+// A real program takes the seed, the identifier and each randomizer from a true random source.
+// Whoever knows the seed signs.
 const SEED: [u8; 32] = [7; 32];
 
 const IDENTIFIER: [u8; 16] = [8; 16];
@@ -29,7 +31,7 @@ fn main(rt: HostRuntime) -> Result<()> {
     let public = key.public_key(&rt, rt.alloc())?;
     let mut book = new_book(rt.alloc(), key)?;
     let lease = book.reserve(2)?;
-    // A lease can't be let go, so the `?` of what it is used for comes after `give_back`.
+    // A lease can't be dropped, so the `?` of what it is used for comes after `give_back`.
     let signed = sign_messages(&rt, rt.alloc(), &lease);
     book.give_back(lease);
     for ((index, signature), message) in signed?.iter().zip(MESSAGES) {
@@ -43,20 +45,17 @@ fn main(rt: HostRuntime) -> Result<()> {
     Ok(())
 }
 
-/// Stores that no index of a new key is used, and opens the book on it. A key's first image is stored once in its life.
+/// Stores that no index of a new key is used, and opens the book on it. A key's first image is
+/// stored once in its life.
 fn new_book(alloc: Global, key: HssKey) -> Result<Book<OneText>> {
     let mut store = OneText::new(alloc);
-    let unused = Image {
-        key,
-        counter: 0,
-        openings: 0,
-        burnt: 0,
-    };
+    let unused = Image::unused(key);
     store.replace(encode_image(&unused).as_slice())?;
     Ok(Book::open(alloc, store).map_err(|(fault, _)| fault)?)
 }
 
-/// Signs the messages with the two indices of a lease, each with one of its own, and answers each index and its signature.
+/// Signs the messages with the two indices of a lease, each with one of its own, and answers each
+/// index and its signature.
 fn sign_messages(
     rt: &(impl Threads + Sync),
     alloc: Global,

@@ -8,8 +8,8 @@ use std::alloc::Global;
 use std::marker::Model;
 use std::mem;
 
-/// One byte string in memory, and those before it, so that contracts can say what a crash could have left. A real store keeps
-/// its bytes where they outlive the program.
+/// One byte string in memory, and those before it, so that contracts can say what a crash could
+/// have left. A real store keeps its bytes where they outlive the program.
 #[derive(Drop)]
 pub(crate) struct OneText {
     alloc: Global,
@@ -34,7 +34,7 @@ impl Model for OneText {
 }
 
 impl OneText {
-    /// A store that holds no text yet.
+    /// A store that holds no bytes yet.
     pub(crate) fn new(alloc: Global) -> Self
         ensures { result.text ≡ None }
     {
@@ -47,7 +47,7 @@ impl OneText {
         }
     }
 
-    /// Holds this text from now on. All memory is taken first, so that an error changes nothing.
+    /// Holds these bytes from now on. All memory is taken first, so that an error changes nothing.
     fn hold(&mut self, text: &[u8]) -> Result<(), OutOfMemory>
         ensures held { OnOk result (self.new ≡ holding self.old text.now) }
         ensures same { OnErr result (self.new ≡ self.old) }
@@ -67,7 +67,7 @@ impl StateStore for OneText {
 
     ghost may_fail = { λ store. store.text ≡ None };
 
-    /// Fails while there is no text.
+    /// Fails while it holds no bytes.
     fn read(&mut self, alloc: Global) -> Result<Vec<u8>, ReadFault> {
         match &self.text {
             Some(text) => {
@@ -82,7 +82,7 @@ impl StateStore for OneText {
         }
     }
 
-    /// Fails where memory is refused, and the text before stays.
+    /// Fails where memory is refused. It then holds what it held before.
     fn replace(&mut self, text: &[u8]) -> Result<(), StoreFault> {
         match self.hold(text) {
             Ok(()) => Ok(()),

@@ -1,13 +1,14 @@
 -- A key and a signature have one bottom level.
-use Rattle.std.proofs.Common.{ℕ, zero, suc, ◌≡◌, ◌+◌, ◌-◌, ◌^◌, ◌<◌, ◌≤◌, List, ◌++◌, length, sym, refl, ◌∙◌, ap, ap₂, arith, subst₂, length-append}
-use Rattle.lms_spec.specs.Parameters.{lms_signature_length}
+use Rattle.std.proofs.Common.{ℕ, zero, suc, ◌≡◌, ◌+◌, ◌-◌, ◌^◌, ◌<◌, ◌≤◌, List, ◌++◌, length, sym, refl, ◌∙◌, ap, ap₂, arith, subst, subst₂, length-append}
+use Rattle.lms_spec.specs.Parameters.{OtsSet, LmsSet, lms_signature_length}
 use Rattle.lms_spec.specs.Bytes.{u32str}
 use Rattle.lms_spec.specs.Tree.{LmsAccepts}
 use Rattle.lms_spec.specs.Hss.{most_levels}
 use Rattle.lms_spec.proofs.FirstNumber.{first-number-same, rest-same}
 use Rattle.lms_spec.proofs.Parts.{key-parts-same}
 use Rattle.lms_spec.proofs.Pieces.{same-front, same-rest}
-use Rattle.lms_tree.specs.Parts.{HasSignaturesOf, HasParts}
+use Rattle.lms_tree.specs.Parts.{IsLmsPublicKey, HasSignaturesOf, HasParts}
+use Rattle.lms_tree.proofs.Acceptance.{key-of-accepted}
 use Rattle.lms_tree.specs.Heads.{lms_head}
 use Rattle.lms_hss.specs.SignedKeys.{IsFirstSignedKey}
 use Rattle.lms_hss.specs.Bottoms.{Reaches, IsBottom, IsMessageHead}
@@ -42,7 +43,8 @@ cut-one signer text signature key rest signature' key' rest' a b =
       same-rest (n + 56) (signature ++ key) (signature' ++ key') rest rest' front_long front_long' e,
     )
 
--- where a bottom level is reached, the first signed key is accepted, and the level is reached below it
+-- where a bottom level is reached, the first signed key is accepted, and the level is reached below
+-- it
 pub reaches-parts : (count : ℕ) (signer text first next rest key signature : List ℕ)
     → IsFirstSignedKey signer text first next rest → Reaches (suc count) signer text key signature
     → LmsAccepts signer next first × Reaches count next rest key signature
@@ -51,6 +53,14 @@ reaches-parts count signer text first next rest key signature cut (first', next'
       subst₂ (LmsAccepts signer) same.1 same.0 accepted,
       subst₂ (λ next rest. Reaches count next rest key signature) same.1 same.2 below,
     )
+
+-- from what is no public key no bottom level is reached that has parts
+pub never-reaches : (count : ℕ) (signer text key signature : List ℕ)
+    → ((m : LmsSet) (t : OtsSet) (id root : List ℕ) → ¬ IsLmsPublicKey m t id root signer) → Reaches count signer text key signature → ¬ HasParts key signature
+never-reaches zero signer text key signature none reached has =
+    none has.lms has.ots has.id has.root (subst (IsLmsPublicKey has.lms has.ots has.id has.root) (sym reached.0) has.key_parts)
+never-reaches (suc count) signer text key signature none (first, next, rest, cut, a, below) has =
+    none a.lms a.ots a.id a.root (key-of-accepted signer next first a)
 
 reaches-one : (count : ℕ) (signer text key signature key' signature' : List ℕ)
     → Reaches count signer text key signature → Reaches count signer text key' signature' → (key ≡ key') × (signature ≡ signature')
@@ -96,3 +106,11 @@ pub head-one : (public_key signature key text head : List ℕ)
 head-one public_key signature key text head bottom is =
     let same = bottom-one public_key signature is.bottom_key is.bottom_signature key text is.bottom bottom in
     is.head_is ∙ ap₂ lms_head same.0 same.1
+
+-- a top key that is no public key leaves no message head
+pub no-head-by-numbers : (levels signed_keys : ℕ) (public_key top_key signature signatures head : List ℕ)
+    → levels < 2 ^ 32 → signed_keys < 2 ^ 32 → public_key ≡ u32str levels ++ top_key → signature ≡ u32str signed_keys ++ signatures
+    → ((key text : List ℕ) → Reaches signed_keys top_key signatures key text → ¬ HasParts key text) → ¬ IsMessageHead public_key signature head
+no-head-by-numbers levels signed_keys public_key top_key signature signatures head fits fits' ek es never is =
+    let found = reached-by-numbers levels signed_keys public_key top_key signature signatures is.bottom_key is.bottom_signature fits fits' ek es is.bottom in
+    never is.bottom_key is.bottom_signature found.3 is.bottom.has_parts

@@ -1,11 +1,12 @@
 -- The first signed key of a text that is accepted.
-use Rattle.std.proofs.Common.{ℕ, suc, ◌≡◌, ◌+◌, ◌≤◌, List, ◌++◌, length, take, drop, sym, ◌∙◌, ap, arith, subst, subst₂, append_assoc, length-append}
+use Rattle.std.proofs.Common.{ℕ, zero, suc, ◌≡◌, ◌+◌, ◌≤◌, List, ◌++◌, length, take, drop, sym, ◌∙◌, ap, arith, subst, subst₂, append_assoc, length-append}
 use Rattle.std.proofs.lemmas.List.{take_at, drop_at}
-use Rattle.lms_spec.specs.Parameters.{lms_signature_length}
+use Rattle.lms_spec.specs.Parameters.{OtsSet, LmsSet, lms_signature_length}
 use Rattle.lms_spec.specs.Tree.{LmsAccepts}
 use Rattle.lms_spec.specs.Hss.{AcceptsThrough}
 use Rattle.lms_spec.proofs.HierarchyParts.{through-parts, through-length}
-use Rattle.lms_tree.specs.Parts.{HasSignaturesOf}
+use Rattle.lms_tree.specs.Parts.{IsLmsPublicKey, HasSignaturesOf}
+use Rattle.lms_tree.proofs.Acceptance.{key-of-accepted}
 use Rattle.lms_hss.specs.SignedKeys.{IsFirstSignedKey}
 
 -- a text that is accepted has room for a signature and a key
@@ -45,3 +46,10 @@ pub accepts-parts : (count : ℕ) (signer message text signature key rest : List
     → IsFirstSignedKey signer text signature key rest → LmsAccepts signer key signature → AcceptsThrough count key message rest
     → AcceptsThrough (suc count) signer message text
 accepts-parts count signer message text signature key rest cut first others = (signature, key, rest, cut.parts, first, others)
+
+-- nothing is accepted under what is no public key
+pub never-through : (count : ℕ) (signer message text : List ℕ)
+    → ((m : LmsSet) (t : OtsSet) (id root : List ℕ) → ¬ IsLmsPublicKey m t id root signer) → ¬ AcceptsThrough count signer message text
+never-through zero signer message text none a = none a.lms a.ots a.id a.root (key-of-accepted signer message text a)
+never-through (suc count) signer message text none (signature, key, rest, parts, a, others) =
+    none a.lms a.ots a.id a.root (key-of-accepted signer key signature a)

@@ -7,7 +7,8 @@ use Rattle.lms_tree.specs.Heads.{lms_head}
 use Rattle.lms_tree.specs.Parts.{HasParts}
 use Rattle.lms_hss.specs.SignedKeys.{IsFirstSignedKey}
 
--- the key and the signature below so many signed keys, each accepted by the key above it (6.2 and 6.3)
+-- the key and the signature below so many signed keys, each accepted by the key above it (6.2 and
+-- 6.3)
 abbrev pub Reaches : ℕ → List ℕ → List ℕ → List ℕ → List ℕ → Type 0
 Reaches zero signer text key signature = (signer ≡ key) × (text ≡ signature)
 Reaches (suc count) signer text key signature =
@@ -16,7 +17,8 @@ Reaches (suc count) signer text key signature =
     × LmsAccepts signer next first
     × Reaches count next rest key signature
 
--- the bottom level's key, and its signature of the message, in an HSS public key and an HSS signature (6.1 and 6.2)
+-- the bottom level's key, and its signature of the message, in an HSS public key and an HSS
+-- signature (6.1 and 6.2)
 pub record IsBottom (public_key signature bottom_key bottom_signature : List ℕ) : Type 0 where
   pub levels : ℕ
   pub top_key : List ℕ

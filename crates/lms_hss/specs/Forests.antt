@@ -26,7 +26,8 @@ pub record AreLeaves (h : ℕ) (leaves : Leaves) : Type 0 where
 abbrev pub signature_head : HssKey → ℕ → ℕ → List ℕ
 signature_head key g k = u32str (length key.levels - 1) ++ concat (map (signed_key key g) (below k))
 
--- the tree of level k that index g goes through, which serves the leaf there, with what stands before its signatures
+-- the tree of level k that index g goes through, which serves the leaf there, with what stands
+-- before its signatures
 pub record IsSignedTree (key : HssKey) (g k : ℕ) (signed_tree : SignedTree) : Type 0 where
   pub tree : tree_of signed_tree.tree.key ≡ tree_at key g k
   pub from : signed_tree.tree.first ≤ leaf_at key g k
@@ -34,18 +35,22 @@ pub record IsSignedTree (key : HssKey) (g k : ℕ) (signed_tree : SignedTree) : 
   pub head : signed_tree.head.items ≡ signature_head key g k
 
 -- the tree of these sets below leaf q of another, signed by that leaf, which serves these leaves
-pub record IsChild (parent : SignedTree) (q : ℕ) (sets : LmsType × OtsType) (leaves : Leaves) (signed_tree : SignedTree) : Type 0 where
+pub record IsChild (parent : SignedTree) (q : ℕ) (sets : LmsType × OtsType) (leaves : Leaves)
+    (signed_tree : SignedTree) : Type 0 where
   pub tree : tree_of signed_tree.tree.key ≡ child (tree_of parent.tree.key) q (level_of sets)
   pub first : signed_tree.tree.first ≡ leaves.first
   pub last : signed_tree.tree.last ≡ leaves.last
   pub head : signed_tree.head.items ≡ parent.head.items
-      ++ lms_signature (tree_of parent.tree.key) q (derived (tree_of parent.tree.key) q for_randomizer) (public_key_of (tree_of signed_tree.tree.key))
+      ++ lms_signature (tree_of parent.tree.key) q
+      (derived (tree_of parent.tree.key) q for_randomizer)
+      (public_key_of (tree_of signed_tree.tree.key))
       ++ public_key_of (tree_of signed_tree.tree.key)
 
 -- trees of level k side by side, from number `first` on, for the indices from `start` to `last`
 abbrev pub HoldsTrees : HssKey → ℕ → ℕ → ℕ → ℕ → List SignedTree → Type 0
 HoldsTrees key k start last first trees =
-    (g : ℕ) (other : SignedTree) → start ≤ g → g ≤ last → first ≤ tree_number key g k → tree_number key g k < first + length trees
+    (g : ℕ) (other : SignedTree) → start ≤ g → g ≤ last → first ≤ tree_number key g k
+    → tree_number key g k < first + length trees
     → IsSignedTree key g k (slice_index_or trees (tree_number key g k - first) other)
 
 -- the trees of level k that the indices from `start` to `last` go through

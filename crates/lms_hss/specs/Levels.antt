@@ -8,8 +8,8 @@ use Rattle.lms_params.specs.declared.lms_type.LmsType.{LmsType}
 use Rattle.lms_params.specs.declared.ots_type.OtsType.{OtsType}
 use Rattle.lms_params.specs.declared.lms_type.LmsType.TheVariants.{H5}
 use Rattle.lms_params.specs.declared.ots_type.OtsType.TheVariants.{W1}
-use Rattle.lms_hss.specs.declared.levels.KeyFault.{KeyFault}
-use Rattle.lms_hss.specs.declared.levels.KeyFault.TheVariants.{NoLevels, TooManyLevels, TooTall}
+use Rattle.lms_hss.specs.declared.fault.KeyFault.{KeyFault}
+use Rattle.lms_hss.specs.declared.fault.KeyFault.TheVariants.{NoLevels, TooManyLevels, TooTall}
 
 -- the sets of a level
 abbrev pub level_of : LmsType × OtsType → Level
@@ -40,9 +40,11 @@ pub record IsHeld (count : ℕ) (sets : List (LmsType × OtsType)) : Type 0 wher
   pub admitted : IsAdmitted (take count sets)
 
 -- what is answered for a list of levels: the list, or the first fault that it has
-abbrev pub JudgesLevels : List (LmsType × OtsType) → Result (List (LmsType × OtsType)) KeyFault → Type 0
+abbrev pub JudgesLevels : List (LmsType × OtsType) → Result (List (LmsType × OtsType)) KeyFault
+    → Type 0
 JudgesLevels levels (Ok taken) = (taken ≡ levels) × IsAdmitted levels
 JudgesLevels levels (Err NoLevels) = length levels ≡ 0
 JudgesLevels levels (Err TooManyLevels) = most_levels < length levels
 JudgesLevels levels (Err TooTall) =
-    (1 ≤ length levels) × (length levels ≤ most_levels) × (most_height < height_of (levels_of levels))
+    (1 ≤ length levels) × (length levels ≤ most_levels)
+    × (most_height < height_of (levels_of levels))

@@ -1,5 +1,6 @@
 pub mod Bottoms
 pub mod Covered
+pub mod Faults
 pub mod Forests
 pub mod Keys
 pub mod Levels

@@ -1,4 +1,4 @@
--- Levels as they are written and read, `5/8,10/4`, and why a list of them is refused.
+-- Levels as they are written and read, `5/8,10/4`.
 use Rattle.std.specs.Prelude.{ℕ, ◌++◌, List, codes}
 use Rattle.std.specs.Fmt.{decimal}
 use Rattle.std.specs.List.{join_by}
@@ -6,8 +6,6 @@ use Rattle.lms_params.specs.LmsType.{lms_set_of}
 use Rattle.lms_params.specs.OtsType.{ots_set_of}
 use Rattle.lms_params.specs.declared.lms_type.LmsType.{LmsType}
 use Rattle.lms_params.specs.declared.ots_type.OtsType.{OtsType}
-use Rattle.lms_hss.specs.declared.levels.KeyFault.{KeyFault}
-use Rattle.lms_hss.specs.declared.levels.KeyFault.TheVariants.{NoLevels, TooManyLevels, TooTall}
 
 -- a set's height, in decimal
 abbrev pub height_text : LmsType → List ℕ
@@ -24,8 +22,3 @@ pair_text pair = height_text pair.0 ++ codes "/" ++ width_text pair.1
 -- levels from the top, with a comma between each two
 abbrev pub levels_text : List (LmsType × OtsType) → List ℕ
 levels_text pairs = join_by pair_text (codes ",") pairs
-
-abbrev pub fault_text : KeyFault → List ℕ
-fault_text NoLevels = codes "no levels"
-fault_text TooManyLevels = codes "too many levels"
-fault_text TooTall = codes "too tall"

@@ -1,15 +1,17 @@
-//! What is derived at a leaf for the tree below it: the key of that tree, and the randomizer of the signature on its public
-//! key. Both follow from the leaf alone, so an upper one-time key signs one text only, whatever message is signed below it.
+//! What is derived at a leaf for the tree below it: the key of that tree, and the randomizer of the
+//! signature on its public key. Both follow from the leaf alone, so an upper one-time key signs
+//! only one public key, whatever message is signed below it.
 ghost use Rattle.std.specs.Prelude.{◌≡◌};
 ghost use Rattle.lms_spec.specs.Profile.{child as child_of, derived as derived_of, for_nodes, for_randomizer};
 ghost use Rattle.lms_tree.specs.TreeKey.{tree_of};
 ghost use Rattle.lms_hss.specs.Levels.{level_of};
 
 use lms_ots::{OtsId, secret};
-use lms_params::{LmsType, OtsType};
+use lms_params::{HASH_LEN, LmsType, OtsType};
 use lms_tree::TreeKey;
 
-// The numbers of what is derived. No chain of a one-time key has so high a number, so no chain's secret is derived here.
+// The numbers of what is derived. No chain of a one-time key has so high a number, so no secret of
+// a chain is derived here.
 const FOR_NODES: u16 = 0xfffc;
 
 const FOR_RANDOMIZER: u16 = 0xfffd;
@@ -34,21 +36,22 @@ pub(crate) fn child_key(parent: &TreeKey, q: u32, sets: (LmsType, OtsType)) -> T
 }
 
 /// The randomizer of leaf q's signature on the public key of the tree below it.
-pub fn randomizer(parent: &TreeKey, q: u32) -> [u8; 32]
+pub fn randomizer(parent: &TreeKey, q: u32) -> [u8; HASH_LEN]
     ensures { result ≡ derived_of (tree_of parent.now) q for_randomizer }
 {
     derived(parent, q, FOR_RANDOMIZER)
 }
 
-/// What the check value of kept nodes goes by, derived at leaf 0 of the key's top tree.
-pub fn nodes_secret(top: &TreeKey) -> [u8; 32]
+/// The secret of the check value of kept nodes, derived at leaf 0 of the key's top tree.
+pub fn nodes_secret(top: &TreeKey) -> [u8; HASH_LEN]
     ensures { result ≡ derived_of (tree_of top.now) 0 for_nodes }
 {
     derived(top, 0, FOR_NODES)
 }
 
-/// The value that is derived at leaf q under a number. It is hashed as the secret of a chain of that number would be.
-fn derived(parent: &TreeKey, q: u32, number: u16) -> [u8; 32]
+/// The value that is derived at leaf q under a number: the hash that gives the secret of a chain of
+/// that number.
+fn derived(parent: &TreeKey, q: u32, number: u16) -> [u8; HASH_LEN]
     ensures { result ≡ derived_of (tree_of parent.now) q number }
 {
     secret(&parent.seed, OtsId { i: parent.i, q }, number)

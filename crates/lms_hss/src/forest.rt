@@ -1,29 +1,29 @@
 //! The trees that a range of indices needs, and signatures from them.
-ghost use Rattle.std.specs.Prelude.{◌≡◌, ◌+◌, ◌-◌, ◌≤◌, ◌↔◌, length, IsTrue, IfOk};
-ghost use Rattle.lms_spec.specs.Hss.{capacity_of, HssAccepts};
+ghost use Rattle.std.specs.Prelude.{◌≡◌, ◌-◌, ◌↔◌, length, IsTrue, IfOk};
+ghost use Rattle.lms_spec.specs.Hss.{HssAccepts};
 ghost use Rattle.lms_spec.specs.Profile.{hss_signature, hss_public_key};
 ghost use Rattle.lms_hss.specs.Keys.{hss_key_of};
-ghost use Rattle.lms_hss.specs.Covered.{IsCovered, longest_lease};
+ghost use Rattle.lms_hss.specs.Covered.{CanCover, IsCovered};
 ghost use Rattle.lms_hss.specs.Forests.{IsSignedTree};
 
-use crate::key::HssKey;
+use crate::key::{HSS_KEY_LEN, HssKey};
 use crate::level_trees::LevelTrees;
 use crate::signed_tree::SignedTree;
-use lms_params::OutOfMemory;
+use lms_params::{HASH_LEN, OutOfMemory};
 use lms_tree::{Begun, Progress, Unwatched};
 use std::alloc::Global;
 use std::marker::Model;
 use std::thread::Threads;
 
-/// All that is needed to sign with a range of a key's indices: the trees of the bottom level that these go through, with the
-/// nodes that their signatures need, and the signatures of the levels above, each made once; and the public key. Contracts
-/// see the key and the range.
+/// All that is needed to sign with a range of a key's indices: the public key, the trees of the
+/// bottom level that the indices go through, with the nodes that their signatures need, and the
+/// signatures of the levels above, each made once. Contracts see the key and the range.
 #[derive(Drop)]
 pub struct Forest {
     key: HssKey,
     start: u64,
     len: u64,
-    public: [u8; 60],
+    public: [u8; HSS_KEY_LEN],
     bottom: LevelTrees,
     alloc: Global,
 }
@@ -40,13 +40,14 @@ impl Model for Forest {
 
     ghost view = { λ a. record { key = a.key; start = a.start; len = a.len } };
 
-    ghost invariant = { λ a. HoldsBottom a.key a.start a.len a.bottom × (a.public ≡ hss_public_key (hss_key_of a.key)) };
+    ghost invariant = { λ a.
+        HoldsBottom a.key a.start a.len a.bottom × (a.public ≡ hss_public_key (hss_key_of a.key)) };
 }
 
 impl Forest {
-    /// Works out what signs the indices from `start` to `start + len - 1`, 1 to 1024 indices below the key's capacity. The
-    /// trees are worked out level by level from the top, each by as many threads at once as there are processors, up to 32.
-    /// `OutOfMemory` where memory is refused.
+    /// Computes what signs the indices from `start` to `start + len - 1`, 1 to 1024 indices below
+    /// the key's capacity. The trees are computed level by level from the top, each by as many
+    /// threads as there are processors, at most 32. `OutOfMemory` where memory is refused.
     pub fn cover(
         rt: &(impl Threads + Sync),
         alloc: Global,
@@ -54,15 +55,13 @@ impl Forest {
         start: u64,
         len: u64,
     ) -> Result<Self, OutOfMemory>
-        requires some { 1 ≤ len }
-        requires at_most { len ≤ longest_lease }
-        requires within { start + len ≤ capacity_of (hss_key_of key) }
+        requires { CanCover key start len }
         ensures { IfOk result (λ forest. forest ≡ record { key = key; start = start; len = len }) }
     {
         Forest::cover_watched(rt, alloc, key, start, len, &Unwatched)
     }
 
-    /// The same, and tells `progress` how many leaves of all these trees are worked out.
+    /// As `cover`. The leaves of all these trees are reported to `progress`.
     pub fn cover_watched(
         rt: &(impl Threads + Sync),
         alloc: Global,
@@ -71,9 +70,7 @@ impl Forest {
         len: u64,
         progress: &impl Progress,
     ) -> Result<Self, OutOfMemory>
-        requires some { 1 ≤ len }
-        requires at_most { len ≤ longest_lease }
-        requires within { start + len ≤ capacity_of (hss_key_of key) }
+        requires { CanCover key start len }
         ensures { IfOk result (λ forest. forest ≡ record { key = key; start = start; len = len }) }
     {
         let below_top = key.levels.as_slice().len() - 1;
@@ -94,8 +91,8 @@ impl Forest {
         })
     }
 
-    /// The public key, 60 bytes (RFC 8554, 6.1), of the top tree that the forest was made from. No tree is worked out again.
-    pub fn public(&self) -> [u8; 60]
+    /// The public key (RFC 8554, 6.1), computed when the forest was made.
+    pub fn public(&self) -> [u8; HSS_KEY_LEN]
         ensures { result ≡ hss_public_key (hss_key_of self.now.key) }
     {
         self.public
@@ -108,13 +105,16 @@ impl Forest {
         g >= self.start && g - self.start < self.len
     }
 
-    /// The signature of a message by index g under the randomizer `c` (RFC 8554, 6.2), `HssKey::sig_len` bytes. The forest
-    /// must cover g. Each index must sign one message only, which nothing here checks. `OutOfMemory` where the one request
-    /// for memory, the signature's, is refused: no part of a signature exists then.
-    pub fn sign(&self, g: u64, c: &[u8; 32], msg: &[u8]) -> Result<Vec<u8>, OutOfMemory>
+    /// The signature of a message by index g under the randomizer `c` (RFC 8554, 6.2),
+    /// `HssKey::sig_len` bytes. The forest must cover g. Each index must sign one message only,
+    /// which is not checked here. `OutOfMemory` where the one request for memory is refused, before
+    /// anything is signed.
+    pub fn sign(&self, g: u64, c: &[u8; HASH_LEN], msg: &[u8]) -> Result<Vec<u8>, OutOfMemory>
         requires { IsCovered self.now g }
-        ensures signature { IfOk result (λ text. text.items ≡ hss_signature (hss_key_of self.now.key) g c.now msg.now) }
-        ensures accepted { IfOk result (λ text. HssAccepts (hss_public_key (hss_key_of self.now.key)) msg.now text.items) }
+        ensures signature { IfOk result (λ text.
+            text.items ≡ hss_signature (hss_key_of self.now.key) g c.now msg.now) }
+        ensures accepted { IfOk result (λ text.
+            HssAccepts (hss_public_key (hss_key_of self.now.key)) msg.now text.items) }
     {
         let bottom = self.key.levels.as_slice().len() - 1;
         let tree = self.bottom_tree(g, bottom);

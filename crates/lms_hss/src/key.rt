@@ -5,18 +5,20 @@ ghost use Rattle.lms_spec.specs.Hss.{height_of, hss_signature_length, capacity_o
 ghost use Rattle.lms_spec.specs.Profile.{hss_public_key, leaf_at, tree_at};
 ghost use Rattle.lms_tree.specs.TreeKey.{tree_of};
 ghost use Rattle.lms_hss.specs.Levels.{levels_of, most_height};
-ghost use Rattle.lms_hss.specs.Covered.{longest_lease};
+ghost use Rattle.lms_hss.specs.Covered.{most_covered};
 ghost use Rattle.lms_hss.specs.Keys.{hss_key_of, tree_number as number_of};
 ghost use Rattle.lms_hss.specs.Forests.{AreLeaves};
 
 use crate::child_key::child_key;
 use crate::levels::{Levels, MOST_LEVELS};
-use crate::verification::LMS_KEY_LEN;
 use byteorder::{BigEndian, ByteOrder};
-use lms_params::{OutOfMemory, lms_sig_len};
-use lms_tree::{BandTree, Begun, Progress, TreeKey, Unwatched, public_bytes};
+use lms_params::{HASH_LEN, OutOfMemory, lms_sig_len};
+use lms_tree::{BandTree, Begun, LMS_KEY_LEN, Progress, TreeKey, Unwatched, public_bytes};
 use std::alloc::Global;
 use std::thread::Threads;
+
+/// The bytes of an HSS public key (6.1): the number of levels and the top tree's public key.
+pub const HSS_KEY_LEN: usize = 4 + LMS_KEY_LEN;
 
 /// The leaves of a tree from one to another.
 #[derive(Clone, Copy)]
@@ -25,18 +27,18 @@ pub(crate) struct Leaves {
     pub(crate) last: u32,
 }
 
-/// A private key of HSS (RFC 8554, 6.1): its levels, and the seed and the identifier I of the top tree, from which all
-/// trees below follow. There is no `Debug`, which would print the seed.
+/// A private key of HSS (RFC 8554, 6.1): its levels, and the seed and the identifier I of the top
+/// tree, from which all trees below follow. There is no `Debug`, which would print the seed.
 #[derive(Clone, Copy, PartialEq, Eq)]
 pub struct HssKey {
     pub levels: Levels,
-    pub seed: [u8; 32],
+    pub seed: [u8; HASH_LEN],
     pub i: [u8; 16],
 }
 
 impl HssKey {
     /// The key of these levels with this seed and this identifier.
-    pub fn new(levels: Levels, seed: [u8; 32], i: [u8; 16]) -> Self
+    pub fn new(levels: Levels, seed: [u8; HASH_LEN], i: [u8; 16]) -> Self
         ensures levels { result.levels ≡ levels }
         ensures seed { result.seed ≡ seed }
         ensures id { result.i ≡ i }
@@ -64,12 +66,14 @@ impl HssKey {
         length
     }
 
-    /// The leaves that index g goes through, from the top level down, and zeros past the last level. Indices count the
-    /// one-time keys of the bottom level from 0. The index is below the capacity.
+    /// The leaves that index g goes through, from the top level down, and zeros past the last
+    /// level. Indices count the one-time keys of the bottom level from 0. The index is below the
+    /// capacity.
     pub fn places(&self, g: u64) -> [u32; MOST_LEVELS]
         requires { g < capacity_of (hss_key_of self.now) }
         ensures { result
-            ≡ map (leaf_at (hss_key_of self.now) g) (below (length self.now.levels)) ++ replicate (most_levels - length self.now.levels) 0 }
+            ≡ map (leaf_at (hss_key_of self.now) g) (below (length self.now.levels))
+            ++ replicate (most_levels - length self.now.levels) 0 }
     {
         let mut places = [0; MOST_LEVELS];
         for k in 0..self.levels.as_slice().len() {
@@ -78,25 +82,25 @@ impl HssKey {
         places
     }
 
-    /// The public key, 60 bytes (RFC 8554, 6.1). All leaves of the top tree are worked out, by as many threads at once as there are
-    /// processors, up to 32. `OutOfMemory` where memory is refused.
+    /// The public key (RFC 8554, 6.1). All leaves of the top tree are computed, by as many threads
+    /// as there are processors, at most 32. `OutOfMemory` where memory is refused.
     pub fn public_key(
         &self,
         rt: &(impl Threads + Sync),
         alloc: Global,
-    ) -> Result<[u8; 60], OutOfMemory>
+    ) -> Result<[u8; HSS_KEY_LEN], OutOfMemory>
         ensures { IfOk result (λ text. text ≡ hss_public_key (hss_key_of self.now)) }
     {
         self.public_key_watched(rt, alloc, &Unwatched)
     }
 
-    /// The same, and tells `progress` how many leaves of the top tree are worked out.
+    /// As `public_key`. The leaves of the top tree are reported to `progress`.
     pub fn public_key_watched(
         &self,
         rt: &(impl Threads + Sync),
         alloc: Global,
         progress: &impl Progress,
-    ) -> Result<[u8; 60], OutOfMemory>
+    ) -> Result<[u8; HSS_KEY_LEN], OutOfMemory>
         ensures { IfOk result (λ text. text ≡ hss_public_key (hss_key_of self.now)) }
     {
         let (lms, _) = self.levels.as_slice()[0];
@@ -106,7 +110,7 @@ impl HssKey {
     }
 
     /// The public key by the tree of level 0.
-    pub(crate) fn public_key_over(&self, top: &BandTree) -> [u8; 60]
+    pub(crate) fn public_key_over(&self, top: &BandTree) -> [u8; HSS_KEY_LEN]
         requires { tree_of top.now.key ≡ tree_at (hss_key_of self.now) 0 0 }
         ensures { result ≡ hss_public_key (hss_key_of self.now) }
     {
@@ -145,20 +149,27 @@ impl HssKey {
         (self.tree_number(g, k + 1) % (1 << lms.height())) as u32
     }
 
-    /// The leaves of tree `number` of level k that the indices from `start` to `last` go through, the first and the last of them.
-    /// At least one of these indices goes through that tree.
+    /// The leaves of tree `number` of level k that the indices from `start` to `last` go through,
+    /// the first and the last of them. At least one of these indices goes through that tree.
     pub(crate) fn leaves(&self, start: u64, last: u64, k: usize, number: u64) -> Leaves
         requires there { k < length self.now.levels }
         requires order { start ≤ last }
-        requires at_most { last - start < longest_lease }
+        requires at_most { last - start < most_covered }
         requires from { number_of (hss_key_of self.now) start k ≤ number }
         requires to { number ≤ number_of (hss_key_of self.now) last k }
-        ensures first { result.first ≡ number_of (hss_key_of self.now) start (k + 1) - number * 2 ^ (level (hss_key_of self.now) k).lms.h }
-        ensures last { result.last ≡ min (number_of (hss_key_of self.now) last (k + 1) - number * 2 ^ (level (hss_key_of self.now) k).lms.h)
+        ensures first { result.first
+            ≡ number_of (hss_key_of self.now) start (k + 1) - number * 2 ^
+            (level (hss_key_of self.now) k).lms.h }
+        ensures last { result.last
+            ≡ min
+            (number_of (hss_key_of self.now) last (k + 1) - number * 2 ^
+            (level (hss_key_of self.now) k).lms.h)
             (2 ^ (level (hss_key_of self.now) k).lms.h - 1) }
         ensures leaves { AreLeaves (level (hss_key_of self.now) k).lms.h result }
-        ensures from { (g : ℕ) → start ≤ g → number_of (hss_key_of self.now) g k ≡ number → result.first ≤ leaf_at (hss_key_of self.now) g k }
-        ensures to { (g : ℕ) → g ≤ last → number_of (hss_key_of self.now) g k ≡ number → leaf_at (hss_key_of self.now) g k ≤ result.last }
+        ensures from { (g : ℕ) → start ≤ g → number_of (hss_key_of self.now) g k ≡ number
+            → result.first ≤ leaf_at (hss_key_of self.now) g k }
+        ensures to { (g : ℕ) → g ≤ last → number_of (hss_key_of self.now) g k ≡ number
+            → leaf_at (hss_key_of self.now) g k ≤ result.last }
     {
         let (lms, _) = self.levels.as_slice()[k];
         let before = number << lms.height();
@@ -170,7 +181,8 @@ impl HssKey {
         }
     }
 
-    /// How many leaves there are in the trees of level k that the indices from `start` to `last` go through.
+    /// How many leaves there are in the trees of level k that the indices from `start` to `last` go
+    /// through.
     pub(crate) fn leaves_of_trees(&self, start: u64, last: u64, k: usize) -> u64
         requires { k < length self.now.levels }
     {
@@ -183,7 +195,8 @@ impl HssKey {
             .saturating_mul(1 << lms.height())
     }
 
-    /// The number of the tree of level k that stands above tree `number` of the next level, and the leaf of it that does.
+    /// The number of the tree of level k above tree `number` of the next level, and the leaf of it
+    /// that signs that tree.
     pub(crate) fn parent(&self, number: u64, k: usize) -> (u64, u32)
         requires { k < length self.now.levels }
         ensures tree { result.0 ≡ number / 2 ^ (level (hss_key_of self.now) k).lms.h }
@@ -194,8 +207,8 @@ impl HssKey {
         (number >> height, (number % (1 << height)) as u32)
     }
 
-    /// The number of the tree of level k that index g goes through, counted in its level from 0; with k the number of
-    /// levels, the index itself.
+    /// The number of the tree of level k that index g goes through, counted in its level from 0.
+    /// For k equal to the number of levels it is the index itself.
     pub fn tree_number(&self, g: u64, k: usize) -> u64
         requires { k ≤ length self.now.levels }
         ensures { result ≡ number_of (hss_key_of self.now) g k }
@@ -212,10 +225,10 @@ pub fn same_key(a: &HssKey, b: &HssKey) -> bool
 }
 
 /// The public key over this LMS public key of the top tree (6.1).
-pub fn public_key_bytes(levels: u32, top: &[u8; 56]) -> [u8; 60]
+pub fn public_key_bytes(levels: u32, top: &[u8; LMS_KEY_LEN]) -> [u8; HSS_KEY_LEN]
     ensures { result ≡ u32str levels ++ top.now }
 {
-    let mut text = [0; 60];
+    let mut text = [0; HSS_KEY_LEN];
     BigEndian::write_u32(&mut text, levels);
     text[4..].copy_from_slice(top);
     text

@@ -1,7 +1,7 @@
 //! The trees of one level that a range of indices goes through.
 ghost use Rattle.std.specs.Prelude.{ℕ, ◌≡◌, ◌+◌, ◌-◌, ◌<◌, ◌≤◌, length, slice_index_or, IfOk};
 ghost use Rattle.lms_spec.specs.Hss.{capacity_of};
-ghost use Rattle.lms_hss.specs.Covered.{longest_lease};
+ghost use Rattle.lms_hss.specs.Covered.{most_covered};
 ghost use Rattle.lms_hss.specs.Keys.{hss_key_of};
 ghost use Rattle.lms_hss.specs.Forests.{HoldsLevel};
 
@@ -12,7 +12,7 @@ use lms_tree::{Begun, Progress};
 use std::alloc::Global;
 use std::thread::Threads;
 
-/// Trees of one level that stand side by side, the first of them being number `first` of the level.
+/// Adjacent trees of one level, from number `first` of the level on.
 #[derive(Drop)]
 pub(crate) struct LevelTrees {
     first: u64,
@@ -31,7 +31,7 @@ impl LevelTrees {
     ) -> Result<Self, OutOfMemory>
         requires some { 1 ≤ length key.now.levels }
         requires order { start ≤ last }
-        requires at_most { last - start < longest_lease }
+        requires at_most { last - start < most_covered }
         requires within { last < capacity_of (hss_key_of key.now) }
         ensures { IfOk result (λ trees. HoldsLevel (hss_key_of key.now) 0 start last trees) }
     {
@@ -45,13 +45,15 @@ impl LevelTrees {
     pub(crate) fn tree(&self, number: u64) -> &SignedTree
         requires from { self.now.first ≤ number }
         requires to { number < self.now.first + length self.now.trees.items }
-        ensures { result.now ≡ slice_index_or self.now.trees.items (number - self.now.first) result.now }
+        ensures { result.now
+            ≡ slice_index_or self.now.trees.items (number - self.now.first) result.now }
     {
         &self.trees[(number - self.first) as usize]
     }
 
-    /// From the trees of level k, those of level k + 1 that the indices from `start` to `last` go through. Each is signed by the
-    /// one above it, and serves the leaves that these indices go through.
+    /// From the trees of level k, those of level k + 1 that the indices from `start` to `last` go
+    /// through. Each is signed by the one above it, and serves the leaves that these indices go
+    /// through.
     pub(crate) fn below(
         &self,
         rt: &(impl Threads + Sync),
@@ -64,7 +66,7 @@ impl LevelTrees {
     ) -> Result<Self, OutOfMemory>
         requires below { k + 1 < length key.now.levels }
         requires order { start ≤ last }
-        requires at_most { last - start < longest_lease }
+        requires at_most { last - start < most_covered }
         requires within { last < capacity_of (hss_key_of key.now) }
         requires level { HoldsLevel (hss_key_of key.now) k start last self.now }
         ensures { IfOk result (λ trees. HoldsLevel (hss_key_of key.now) (k + 1) start last trees) }
@@ -76,8 +78,8 @@ impl LevelTrees {
         for number in first..end {
             let (parent, leaf) = key.parent(number, k);
             let leaves = key.leaves(start, last, k + 1, number);
-            let parent = self.tree(parent);
-            trees.push_reserved(parent.child(rt, alloc, leaf, sets, leaves, begun)?);
+            let above = self.tree(parent);
+            trees.push_reserved(above.child(rt, alloc, leaf, sets, leaves, begun)?);
         }
         Ok(LevelTrees { first, trees })
     }

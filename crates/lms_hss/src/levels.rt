@@ -1,12 +1,10 @@
 //! The levels of a key that signs.
-ghost use Rattle.std.specs.Prelude.{◌≡◌, ◌≤◌, length, drop, Some};
+ghost use Rattle.std.specs.Prelude.{◌≡◌, ◌≤◌, length, drop};
 ghost use Rattle.lms_spec.specs.Hss.{height_of, most_levels};
-ghost use Rattle.lms_hss.specs.Texts.{fault_text};
 ghost use Rattle.lms_hss.specs.Levels.{levels_of, padded as padded_of, most_height, IsAdmitted, JudgesLevels};
 
+use crate::fault::KeyFault;
 use lms_params::{LmsType, OtsType};
-use std::error::Error;
-use std::fmt;
 use std::marker::Model;
 
 /// The most levels of a key (RFC 8554, 6).
@@ -15,36 +13,11 @@ pub const MOST_LEVELS: usize = 8;
 /// The most that the heights of a signer's levels sum to, so that an index fits 64 bits.
 const MOST_HEIGHT: u32 = 60;
 
-/// What a `Levels` keeps in its places where none is used.
+/// What a `Levels` has in its unused places.
 const NO_SETS: [(LmsType, OtsType); MOST_LEVELS] = [(LmsType::H5, OtsType::W1); MOST_LEVELS];
 
-/// Why a list of levels was refused.
-#[derive(Clone, Copy, Debug, PartialEq, Eq)]
-pub enum KeyFault {
-    /// It is empty.
-    NoLevels,
-    /// It has more than `MOST_LEVELS`.
-    TooManyLevels,
-    /// Its heights sum to more than 60.
-    TooTall,
-}
-
-impl fmt::Display for KeyFault {
-    ghost output = { λ fault. Some (fault_text fault) };
-
-    fn fmt<W: fmt::Write>(&self, f: &mut fmt::Formatter<W>) -> fmt::Result {
-        match *self {
-            KeyFault::NoLevels => f.write_str("no levels"),
-            KeyFault::TooManyLevels => f.write_str("too many levels"),
-            KeyFault::TooTall => f.write_str("too tall"),
-        }
-    }
-}
-
-impl Error for KeyFault {}
-
-/// The levels of a key that signs, from the top: the LMS set and the LM-OTS set of each. There are 1 to 8, whose heights sum to
-/// at most 60. Contracts see the list.
+/// The levels of a key that signs, from the top: the LMS set and the LM-OTS set of each. There are
+/// 1 to 8, whose heights sum to at most 60. Contracts see the list.
 #[derive(Clone, Copy, PartialEq, Eq)]
 pub struct Levels {
     sets: [(LmsType, OtsType); MOST_LEVELS],
@@ -67,12 +40,13 @@ impl Model for Levels {
 
     ghost inverse = { λ levels. record { sets = padded levels; count = length levels } };
 
-    ghost inverse_ok = { λ a held i. record { sets = sym held.others_unused i; count = held.count_is i } };
+    ghost inverse_ok = { λ a held i.
+        record { sets = sym held.others_unused i; count = held.count_is i } };
 }
 
 impl Levels {
-    /// Takes a list of levels, from the top. The first of these faults is answered: `NoLevels`, `TooManyLevels` for more
-    /// than 8, `TooTall` for heights that sum to over 60.
+    /// Takes a list of levels, from the top. The first of these faults is answered: `NoLevels`,
+    /// `TooManyLevels` for more than 8, `TooTall` for heights that sum to over 60.
     pub fn new(sets: &[(LmsType, OtsType)]) -> Result<Self, KeyFault>
         ensures { JudgesLevels sets.now result }
     {

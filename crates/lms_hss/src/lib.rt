@@ -1,10 +1,14 @@
 //! HSS, the hierarchy of LMS trees (RFC 8554, section 6).
 //!
-//! An index signs one message. Two messages under one index give a forger what he needs: who calls `Forest::sign` keeps the
-//! indices apart.
+//! An index signs one message. Two messages under one index let a forger sign others: a caller of
+//! `Forest::sign` must never use an index twice.
+//!
+//! What a caller needs of the lower crates is exported here, too: the sets of a level (`LmsType`,
+//! `OtsType`), `OutOfMemory`, `Progress`, and how chains are taken to their ends (`ChainEnds`).
 #![tactic(auto)]
 
 mod child_key;
+mod fault;
 mod forest;
 mod key;
 mod level_trees;
@@ -14,10 +18,13 @@ mod text;
 mod verification;
 
 pub use crate::child_key::{nodes_secret, randomizer};
+pub use crate::fault::KeyFault;
 pub use crate::forest::Forest;
-pub use crate::key::{HssKey, public_key_bytes, same_key};
-pub use crate::levels::{KeyFault, Levels, MOST_LEVELS};
+pub use crate::key::{HSS_KEY_LEN, HssKey, public_key_bytes, same_key};
+pub use crate::levels::{Levels, MOST_LEVELS};
 pub use crate::text::LevelsText;
-pub use crate::verification::{LMS_KEY_LEN, Verifier, verify, verify_with};
-pub use lms_params::OutOfMemory;
-pub use lms_tree::{ByEights, ChainEnds, OneByOne, Progress, Unwatched};
+pub use crate::verification::{Verifier, verify, verify_with};
+pub use lms_params::{LmsType, OtsType, OutOfMemory};
+pub use lms_tree::{
+    ByEights, ChainEnds, LMS_KEY_LEN, MESSAGE_HEAD_LEN, OneByOne, Progress, Unwatched,
+};

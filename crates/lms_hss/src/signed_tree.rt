@@ -10,15 +10,15 @@ ghost use Rattle.lms_hss.specs.Forests.{AreLeaves, IsChild, IsSignedTree};
 ghost use Rattle.lms_hss.specs.Levels.{level_of};
 
 use crate::child_key::{child_key, randomizer};
-use crate::key::{HssKey, Leaves};
-use crate::verification::LMS_KEY_LEN;
-use lms_params::{LmsType, OtsType, OutOfMemory, lms_sig_len};
-use lms_tree::{BandTree, Begun, NodeSource, Progress, public_bytes, sign_into};
+use crate::key::{HSS_KEY_LEN, HssKey, Leaves};
+use lms_params::{HASH_LEN, LmsType, OtsType, OutOfMemory, lms_sig_len};
+use lms_tree::{BandTree, Begun, LMS_KEY_LEN, NodeSource, Progress, public_bytes, sign_into};
 use std::alloc::Global;
 use std::thread::Threads;
 
-/// A tree that serves some of its leaves, and what the HSS signatures by these begin with: the number of signed public keys, and
-/// those of the levels from the top to its own (RFC 8554, 6.2).
+/// A tree that serves some of its leaves, and the bytes that all HSS signatures by these begin
+/// with: the number of signed public keys, and those of the levels from the top to its own (RFC
+/// 8554, 6.2).
 #[derive(Drop)]
 pub(crate) struct SignedTree {
     tree: BandTree,
@@ -35,7 +35,9 @@ impl SignedTree {
         begun: &Begun<impl Progress>,
     ) -> Result<Self, OutOfMemory>
         requires { AreLeaves (level (hss_key_of key.now) 0).lms.h leaves }
-        ensures { IfOk result (λ tree. (g : ℕ) → leaves.first ≤ leaf_at (hss_key_of key.now) g 0 → leaf_at (hss_key_of key.now) g 0 ≤ leaves.last
+        ensures { IfOk result (λ tree.
+            (g : ℕ) → leaves.first ≤ leaf_at (hss_key_of key.now) g 0
+            → leaf_at (hss_key_of key.now) g 0 ≤ leaves.last
             → IsSignedTree (hss_key_of key.now) g 0 tree) }
     {
         let signed_keys = key.levels.as_slice().len() as u32 - 1;
@@ -51,8 +53,8 @@ impl SignedTree {
         Ok(SignedTree { tree, head })
     }
 
-    /// The tree of these sets below leaf q, which signs its public key and must be among the leaves served. The new tree serves
-    /// `leaves`. All memory is asked for before it is worked out.
+    /// The tree of these sets below leaf q, which signs its public key and must be among the leaves
+    /// served. The new tree serves `leaves`. All memory is requested before it is computed.
     pub(crate) fn child(
         &self,
         rt: &(impl Threads + Sync),
@@ -83,24 +85,27 @@ impl SignedTree {
     }
 
     /// The public key of the HSS key whose tree of level 0 this is.
-    pub(crate) fn public_key(&self, key: &HssKey) -> [u8; 60]
+    pub(crate) fn public_key(&self, key: &HssKey) -> [u8; HSS_KEY_LEN]
         requires { tree_of self.now.tree.key ≡ tree_at (hss_key_of key.now) 0 0 }
         ensures { result ≡ hss_public_key (hss_key_of key.now) }
     {
         key.public_key_over(&self.tree)
     }
 
-    /// The head and the LMS signature of a message by leaf q, which is served, under the randomizer `c`.
+    /// The head and the LMS signature of a message by leaf q, which is served, under the randomizer
+    /// `c`.
     pub(crate) fn signed(
         &self,
         alloc: Global,
         q: u32,
-        c: &[u8; 32],
+        c: &[u8; HASH_LEN],
         msg: &[u8],
     ) -> Result<Vec<u8>, OutOfMemory>
         requires from { self.now.tree.first ≤ q }
         requires to { q ≤ self.now.tree.last }
-        ensures { IfOk result (λ text. text.items ≡ self.now.head.items ++ lms_signature (tree_of self.now.tree.key) q c.now msg.now) }
+        ensures { IfOk result (λ text.
+            text.items ≡ self.now.head.items
+            ++ lms_signature (tree_of self.now.tree.key) q c.now msg.now) }
     {
         let key = self.tree.key();
         let mut text = vec![in alloc; 0; self.head.len() + lms_sig_len(key.lms, key.ots)]?;
@@ -109,11 +114,14 @@ impl SignedTree {
     }
 
     /// Writes the head, the LMS signature of a public key by leaf q, and that key.
-    fn sign_key_into(&self, q: u32, c: &[u8; 32], public: &[u8; LMS_KEY_LEN], out: &mut [u8])
+    fn sign_key_into(&self, q: u32, c: &[u8; HASH_LEN], public: &[u8; LMS_KEY_LEN], out: &mut [u8])
         requires from { self.now.tree.first ≤ q }
         requires to { q ≤ self.now.tree.last }
-        requires room { length out.old ≡ length self.now.head.items + signature_length_under self.now.tree.key + lms_public_key_length }
-        ensures { out.new ≡ self.now.head.items ++ lms_signature (tree_of self.now.tree.key) q c.now public.now ++ public.now }
+        requires room { length out.old
+            ≡ length self.now.head.items + signature_length_under self.now.tree.key
+            + lms_public_key_length }
+        ensures { out.new ≡ self.now.head.items
+            ++ lms_signature (tree_of self.now.tree.key) q c.now public.now ++ public.now }
     {
         let signed = out.len() - LMS_KEY_LEN;
         self.sign_into(q, c, public, &mut out[..signed]);
@@ -121,11 +129,13 @@ impl SignedTree {
     }
 
     /// Writes the head and the LMS signature of a message by leaf q.
-    fn sign_into(&self, q: u32, c: &[u8; 32], msg: &[u8], out: &mut [u8])
+    fn sign_into(&self, q: u32, c: &[u8; HASH_LEN], msg: &[u8], out: &mut [u8])
         requires from { self.now.tree.first ≤ q }
         requires to { q ≤ self.now.tree.last }
-        requires room { length out.old ≡ length self.now.head.items + signature_length_under self.now.tree.key }
-        ensures { out.new ≡ self.now.head.items ++ lms_signature (tree_of self.now.tree.key) q c.now msg.now }
+        requires room { length out.old
+            ≡ length self.now.head.items + signature_length_under self.now.tree.key }
+        ensures { out.new ≡ self.now.head.items
+            ++ lms_signature (tree_of self.now.tree.key) q c.now msg.now }
     {
         let start = self.head.len();
         out[..start].copy_from_slice(&self.head);

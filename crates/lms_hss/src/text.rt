@@ -19,8 +19,8 @@ impl fmt::Display for PairText {
     }
 }
 
-/// The text of levels, from the top, as `5/8,10/4`: the height of each, and the width of its digits. The signer need not take
-/// them.
+/// The text of levels, from the top, as `5/8,10/4`: the height of each, and the width of its
+/// digits. It is made for any levels, also those that `Levels::new` refuses.
 #[derive(Clone, Copy)]
 pub struct LevelsText<'a>(pub &'a [(LmsType, OtsType)]);
 

@@ -7,13 +7,12 @@ mod keys;
 mod pieces;
 mod verification;
 
-use lms_hss::{Forest, HssKey, KeyFault, Levels, Progress};
+use lms_hss::{Forest, HssKey, KeyFault, Levels};
 use lms_params::{LmsType, OtsType};
 use lms_slow::vectors::{VECTORS, Vector};
 use lms_slow::{PlantedTexts, SlowKey, slow_public, slow_sign};
 use std::alloc::{AllocError, Global};
 use std::process::Abort;
-use std::sync::atomic::{AtomicU64, Ordering};
 use std::test::Fail;
 use std::thread::Threads;
 
@@ -22,7 +21,7 @@ const RANDOMIZER: [u8; 32] = [0x33; 32];
 /// A level of 5/8.
 const LEVEL: (LmsType, OtsType) = (LmsType::H5, OtsType::W8);
 
-/// A level whose trees are worked out quickly.
+/// A level whose trees are computed quickly.
 const QUICK: (LmsType, OtsType) = (LmsType::H5, OtsType::W2);
 
 /// Three levels of different widths.
@@ -86,44 +85,4 @@ fn sign(
 ) -> Result<Vec<u8>, Fail> {
     assert!(rt; forest.covers(g), "{g}");
     Ok(forest.sign(g, c, msg)?)
-}
-
-/// Counts the calls that begin, adds up what they are to work out and what is done, and counts those that begin in the midst of another one.
-#[derive(Drop)]
-struct Sums {
-    begun: AtomicU64,
-    to_do: AtomicU64,
-    done: AtomicU64,
-    in_between: AtomicU64,
-}
-
-impl Progress for Sums {
-    fn begin(&self, leaves: u64) {
-        self.begun.fetch_add(1, Ordering::SeqCst);
-        let before = self.to_do.fetch_add(leaves, Ordering::SeqCst);
-        if self.done.load(Ordering::SeqCst) != before {
-            self.in_between.fetch_add(1, Ordering::SeqCst);
-        }
-    }
-
-    fn done(&self, leaves: u64) {
-        self.done.fetch_add(leaves, Ordering::SeqCst);
-    }
-}
-
-fn no_sums() -> Sums {
-    Sums {
-        begun: AtomicU64::new(0),
-        to_do: AtomicU64::new(0),
-        done: AtomicU64::new(0),
-        in_between: AtomicU64::new(0),
-    }
-}
-
-/// So many calls began, each before its first leaf, and so many leaves were to be worked out by all, and were.
-fn check_sums(rt: &impl Abort, sums: &Sums, calls: u64, leaves: u64) {
-    assert_eq!(rt; sums.begun.load(Ordering::SeqCst), calls);
-    assert_eq!(rt; sums.in_between.load(Ordering::SeqCst), 0);
-    assert_eq!(rt; sums.to_do.load(Ordering::SeqCst), leaves);
-    assert_eq!(rt; sums.done.load(Ordering::SeqCst), leaves);
 }

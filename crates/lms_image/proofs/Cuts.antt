@@ -6,12 +6,13 @@ use Rattle.std.specs.Int.{w32, w64, from_be_bytes}
 use Rattle.std.proofs.lemmas.Bool.{cases_lt}
 use Rattle.std.proofs.lemmas.List.{length-take-le, get_or-take, get_or-drop, get_or_past, nil_from_length}
 use Rattle.std.proofs.lemmas.List.Elements.{All-nil, All-cons, All-from_get_or}
-use Rattle.std.proofs.lemmas.Nat.{be_bytes_4, be_bytes_8}
-use Rattle.lms_spec.specs.Bytes.{u32str, number_of}
+use Rattle.std.proofs.lemmas.Nat.{be_bytes_4}
+use Rattle.lms_spec.specs.Bytes.{u32str, u64str, number_of}
+use Rattle.lms_spec.proofs.FirstNumber.{eight-and-rest}
 use Rattle.lms_spec.proofs.Numbers.{number_of-u32}
 use Rattle.lms_image.specs.declared.version.Version.{Version}
 use Rattle.lms_image.specs.declared.version.Version.TheVariants.{First, Second}
-use Rattle.lms_image.specs.Image.{u64str, later_text, later_length}
+use Rattle.lms_image.specs.Image.{later_text, later_length}
 use Rattle.lms_image.specs.Reading.{IsCut, ReadsLater}
 use Rattle.lms_image.proofs.LevelTexts.{Is8}
 
@@ -66,14 +67,6 @@ concat-chunks zero bytes h = sym (nil_from_length bytes (omega arith))
 concat-chunks (suc n) bytes h =
     ap (λ rest. take 8 bytes ++ rest) (concat-chunks n (drop 8 bytes) (omega (arith, length-drop 8 bytes)))
     ∙ take-append-drop 8 bytes
-
--- a text is the number that its first eight bytes make, and the rest
-pub eight-and-rest : (bytes front rest : List ℕ) (n : ℕ) → IsBytes bytes → 8 ≤ length bytes
-    → front ≡ take 8 bytes → rest ≡ drop 8 bytes → n ≡ from_be_bytes w64 front → bytes ≡ u64str n ++ rest
-eight-and-rest bytes front rest n small long ef er en =
-    let eight = length-take-le 8 bytes long in
-    let number : u64str n ≡ take 8 bytes = be_bytes_8 (take 8 bytes) n eight (bytes-take 8 bytes small) (en ∙ ap (from_be_bytes w64) ef) in
-    sym (take-append-drop 8 bytes) ∙ ap₂ (λ x y. x ++ y) (sym number) (sym er)
 
 -- the numbers behind the counter are read
 pub reads-later : (v : Version) (text : List ℕ) → IsBytes text → later_length v ≤ length text

@@ -13,7 +13,7 @@ use Rattle.lms_spec.specs.Parameters.{OtsSet, LmsSet, ots_set, lms_set}
 use Rattle.lms_spec.specs.Bytes.{u32str}
 use Rattle.lms_spec.specs.Hss.{height_of, capacity_of}
 use Rattle.lms_spec.proofs.Sets.{by_ots_set, by_lms_set}
-use Rattle.lms_spec.proofs.FirstNumber.{number-and-rest}
+use Rattle.lms_spec.proofs.FirstNumber.{number-and-rest, eight-and-rest}
 use Rattle.lms_params.specs.LmsType.{lms_set_of}
 use Rattle.lms_params.specs.OtsType.{ots_set_of}
 use Rattle.lms_params.specs.declared.lms_type.LmsType.{LmsType}
@@ -23,8 +23,8 @@ use Rattle.lms_params.specs.declared.ots_type.OtsType.TheVariants.{W1, W2, W4, W
 use Rattle.lms_hss.specs.Levels.{levels_of, IsAdmitted}
 use Rattle.lms_hss.specs.Keys.{hss_key_of}
 use Rattle.lms_hss.specs.declared.key.HssKey.{HssKey as KeyOfCode}
-use Rattle.lms_image.specs.declared.image.ImageFault.{ImageFault}
-use Rattle.lms_image.specs.declared.image.ImageFault.TheVariants.{Truncated, NotAnImage, UnknownVersion, BadLevels, WrongLength, Damaged, BadType, TooTall, CounterTooHigh, OpeningTooHigh, BurntTooHigh}
+use Rattle.lms_image.specs.declared.fault.ImageFault.{ImageFault}
+use Rattle.lms_image.specs.declared.fault.ImageFault.TheVariants.{Truncated, NotAnImage, UnknownVersion, BadLevels, WrongLength, Damaged, BadType, TooTall, CounterTooHigh, OpeningTooHigh, BurntTooHigh}
 use Rattle.lms_image.specs.declared.version.Version.{Version}
 use Rattle.lms_image.specs.declared.version.Version.TheVariants.{First, Second}
 use Rattle.lms_image.specs.Image.{Fields, magic, code_of, level_text, is_level, height_in, heights_in, number_at, stated_length, version_in, count_in, levels_in, counter_in, openings_in, burnt_in, body_in, digest_in, has_fault, faults, fault_of, IsImage, HasImage, later_length}
@@ -34,7 +34,7 @@ use Rattle.lms_image.proofs.Fields.{u32-at}
 use Rattle.lms_image.proofs.LevelTexts.{Is8, level-read, heights-of-texts}
 use Rattle.lms_image.proofs.Faults.{first_among, fault-of}
 use Rattle.lms_image.proofs.Parts.{laid-out, whole, length-by-code}
-use Rattle.lms_image.proofs.Cuts.{IsBytes, bytes-take, bytes-drop, four-fit, eight-fit, number-back, chunks-are-bytes, eight-and-rest, reads-later, cut-parts}
+use Rattle.lms_image.proofs.Cuts.{IsBytes, bytes-take, bytes-drop, four-fit, eight-fit, number-back, chunks-are-bytes, reads-later, cut-parts}
 use Rattle.lms_image.proofs.Images.{read-image, read-counted, image-has-no-fault}
 
 -- ---- levels

@@ -4,8 +4,8 @@ use Rattle.std.proofs.lemmas.Bool.{cond-true, cond-false, lt-ltb, le-ltb, eq-eqb
 use Rattle.std.proofs.lemmas.Slice.Eq.{bytes_eq-Decides}
 use Rattle.std.specs.Str.{bytes_eq}
 use Rattle.lms_spec.specs.Bytes.{u32str}
-use Rattle.lms_image.specs.declared.image.ImageFault.{ImageFault}
-use Rattle.lms_image.specs.declared.image.ImageFault.TheVariants.{Truncated, NotAnImage, UnknownVersion, BadLevels}
+use Rattle.lms_image.specs.declared.fault.ImageFault.{ImageFault}
+use Rattle.lms_image.specs.declared.fault.ImageFault.TheVariants.{Truncated, NotAnImage, UnknownVersion, BadLevels}
 use Rattle.lms_image.specs.declared.version.Version.{Version}
 use Rattle.lms_image.specs.declared.version.Version.TheVariants.{First, Second}
 use Rattle.lms_image.specs.Image.{magic, code_of, version_in, count_in, has_fault, faults, fault_of}

@@ -1,9 +1,9 @@
 -- The numbers that stand in a text.
 use Rattle.std.proofs.Common.{ℕ, ◌≡◌, ◌^◌, ◌<◌, List, ◌++◌, length, take, drop, refl, ◌∙◌, ap, arith}
 use Rattle.std.proofs.lemmas.List.{take_at, drop_at}
-use Rattle.lms_spec.specs.Bytes.{u32str, number_of}
+use Rattle.lms_spec.specs.Bytes.{u32str, u64str, number_of}
 use Rattle.lms_spec.proofs.Numbers.{number_of-u32}
-use Rattle.lms_image.specs.Image.{u64str, number_at}
+use Rattle.lms_image.specs.Image.{number_at}
 
 pub number_of-u64 : (n : ℕ) → n < 2 ^ 64 → number_of (u64str n) ≡ n
 unfolding number_of

@@ -1,4 +1,5 @@
--- Images of keys and their numbers: they have no fault, and each is that of one key and of one of each number.
+-- Images of keys and their numbers: they have no fault, and each is that of one key and of one of
+-- each number.
 use Rattle.std.proofs.Common.{ℕ, ◌≡◌, inl, inr, ◌+◌, ◌^◌, ◌<◌, ◌≤◌, List, ◌++◌, length, map, All, Some, None, sum_by, refl, sym, ◌∙◌, ap, ap₂, arith, subst, append_assoc, length-append}
 use Rattle.std.specs.List.{concat, list_all}
 use Rattle.std.proofs.lemmas.Bool.{not_from_true}
@@ -6,7 +7,7 @@ use Rattle.std.proofs.lemmas.Slice.Eq.{bytes_eq-Decides}
 use Rattle.std.proofs.lemmas.List.{length-map}
 use Rattle.sha2.specs.Sha256.{sha256}
 use Rattle.sha2.proofs.Facts256.{length-sha256}
-use Rattle.lms_spec.specs.Bytes.{u32str}
+use Rattle.lms_spec.specs.Bytes.{u32str, u64str}
 use Rattle.lms_spec.specs.Hss.{height_of, capacity_of}
 use Rattle.lms_spec.proofs.Pieces.{same-front, same-rest}
 use Rattle.lms_params.specs.declared.lms_type.LmsType.{LmsType}
@@ -15,10 +16,10 @@ use Rattle.lms_hss.specs.Levels.{levels_of, IsAdmitted}
 use Rattle.lms_hss.specs.Keys.{hss_key_of}
 use Rattle.lms_hss.proofs.Keys.{capacity-limit}
 use Rattle.lms_hss.specs.declared.key.HssKey.{HssKey as KeyOfCode}
-use Rattle.lms_image.specs.declared.image.ImageFault.TheVariants.{CounterTooHigh, OpeningTooHigh, BurntTooHigh}
+use Rattle.lms_image.specs.declared.fault.ImageFault.TheVariants.{CounterTooHigh, OpeningTooHigh, BurntTooHigh}
 use Rattle.lms_image.specs.declared.version.Version.{Version}
 use Rattle.lms_image.specs.declared.version.Version.TheVariants.{First, Second}
-use Rattle.lms_image.specs.Image.{Fields, magic, code_of, u64str, level_text, head_text, later_text, body_text, sealed, fields_of, image_of, first_image_of, IsImage, is_level, height_in, body_in, levels_in, counter_in, openings_in, burnt_in, fault_of, HasImage}
+use Rattle.lms_image.specs.Image.{Fields, magic, code_of, level_text, head_text, later_text, body_text, sealed, fields_of, image_of, first_image_of, IsImage, is_level, height_in, body_in, levels_in, counter_in, openings_in, burnt_in, fault_of, HasImage}
 use Rattle.lms_image.specs.Reading.{IsHeaded, IsCut, AreLater}
 use Rattle.lms_image.specs.Laws.{ImagesAreFaultless, ImagesAreToldApart}
 use Rattle.lms_image.proofs.LevelTexts.{levels-same, levels-of-texts, heights-of-texts, texts-are-8}

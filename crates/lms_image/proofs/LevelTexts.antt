@@ -20,8 +20,8 @@ use Rattle.lms_params.specs.declared.lms_type.LmsType.TheVariants.{H5, H10, H15,
 use Rattle.lms_params.specs.declared.ots_type.OtsType.TheVariants.{W1, W2, W4, W8}
 use Rattle.lms_params.proofs.KnownSets.{known_lms_set, known_ots_set}
 use Rattle.lms_hss.specs.Levels.{level_of, levels_of, JudgesLevels}
-use Rattle.lms_hss.specs.declared.levels.KeyFault.{KeyFault}
-use Rattle.lms_hss.specs.declared.levels.KeyFault.TheVariants.{NoLevels, TooManyLevels, TooTall}
+use Rattle.lms_hss.specs.declared.fault.KeyFault.{KeyFault}
+use Rattle.lms_hss.specs.declared.fault.KeyFault.TheVariants.{NoLevels, TooManyLevels, TooTall}
 use Rattle.lms_image.specs.declared.version.Version.{Version}
 use Rattle.lms_image.specs.Image.{magic, code_of, head_text, level_text, is_level, height_in, number_at}
 use Rattle.lms_image.specs.Reading.{ReadsLevels, refused_as}

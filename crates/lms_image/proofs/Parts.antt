@@ -9,12 +9,12 @@ use Rattle.std.proofs.lemmas.Slice.Eq.{bytes_eq-Decides}
 use Rattle.std.proofs.lemmas.List.{take_at, drop_at}
 use Rattle.std.proofs.lemmas.List.Elements.{All-head, All-tail}
 use Rattle.sha2.specs.Sha256.{sha256}
-use Rattle.lms_spec.specs.Bytes.{u32str}
-use Rattle.lms_image.specs.declared.image.ImageFault.{ImageFault}
-use Rattle.lms_image.specs.declared.image.ImageFault.TheVariants.{WrongLength, Damaged, BadType, TooTall, CounterTooHigh, OpeningTooHigh, BurntTooHigh}
+use Rattle.lms_spec.specs.Bytes.{u32str, u64str}
+use Rattle.lms_image.specs.declared.fault.ImageFault.{ImageFault}
+use Rattle.lms_image.specs.declared.fault.ImageFault.TheVariants.{WrongLength, Damaged, BadType, TooTall, CounterTooHigh, OpeningTooHigh, BurntTooHigh}
 use Rattle.lms_image.specs.declared.version.Version.{Version}
 use Rattle.lms_image.specs.declared.version.Version.TheVariants.{First, Second}
-use Rattle.lms_image.specs.Image.{Fields, magic, code_of, u64str, head_text, later_text, body_text, sealed, is_level, height_in, heights_in, number_at, later_number, stated_length, version_in, count_in, levels_in, counter_in, openings_in, burnt_in, body_in, digest_in, has_fault, faults, fault_of, later_length}
+use Rattle.lms_image.specs.Image.{Fields, magic, code_of, head_text, later_text, body_text, sealed, is_level, height_in, heights_in, number_at, later_number, stated_length, version_in, count_in, levels_in, counter_in, openings_in, burnt_in, body_in, digest_in, has_fault, faults, fault_of, later_length}
 use Rattle.lms_image.specs.Reading.{IsHeaded, IsCut, AreLater, ReadsLevels}
 use Rattle.lms_image.proofs.Fields.{u64-at}
 use Rattle.lms_image.proofs.LevelTexts.{Is8, length-texts}

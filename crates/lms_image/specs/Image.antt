@@ -1,15 +1,14 @@
--- The text that a store keeps of a key, of how many of its indices are used, of how many openings stored something and of
--- how many indices were burnt: the state image, in its two versions. Its numbers are big-endian. A text is a list of numbers
--- below 256.
+-- The state image, in its two versions: the text that a store keeps of a key, of how many of its
+-- indices are used, of how many openings stored something and of how many indices were burnt. Its
+-- numbers are big-endian. A text is a list of bytes, numbers below 256.
 use Rattle.std.specs.Prelude.{ℕ, ◌≡◌, ◌⊎◌, ◌+◌, ◌-◌, ◌*◌, ◌^◌, ◌<◌, ◌≤◌, Bool, not, ◌||◌, ◌&&◌, ◌==◌, nat_lt, if◌then◌else◌, List, [], ◌∷◌, ◌++◌, length, map, take, drop, sum_by, find, All, Option, is_some, option_map, unwrap_or, codes}
 use Rattle.std.specs.List.{concat, list_all}
 use Rattle.std.specs.Str.{bytes_eq}
-use Rattle.std.specs.Int.{w64, to_be_bytes}
 use Rattle.std.specs.Simd.{first_chunks}
 use Rattle.sha2.specs.Sha256.{sha256}
 use Rattle.lms_spec.specs.HashLength.{hash_length}
 use Rattle.lms_spec.specs.Parameters.{ots_set, lms_set}
-use Rattle.lms_spec.specs.Bytes.{u32str, number_of}
+use Rattle.lms_spec.specs.Bytes.{u32str, u64str, number_of}
 use Rattle.lms_spec.specs.Hss.{capacity_of, most_levels}
 use Rattle.lms_params.specs.LmsType.{lms_set_of}
 use Rattle.lms_params.specs.OtsType.{ots_set_of}
@@ -18,14 +17,10 @@ use Rattle.lms_params.specs.declared.ots_type.OtsType.{OtsType}
 use Rattle.lms_hss.specs.Levels.{IsAdmitted, most_height}
 use Rattle.lms_hss.specs.Keys.{hss_key_of}
 use Rattle.lms_hss.specs.declared.key.HssKey.{HssKey as KeyOfCode}
-use Rattle.lms_image.specs.declared.image.ImageFault.{ImageFault}
-use Rattle.lms_image.specs.declared.image.ImageFault.TheVariants.{Truncated, NotAnImage, UnknownVersion, BadLevels, WrongLength, Damaged, BadType, TooTall, CounterTooHigh, OpeningTooHigh, BurntTooHigh}
+use Rattle.lms_image.specs.declared.fault.ImageFault.{ImageFault}
+use Rattle.lms_image.specs.declared.fault.ImageFault.TheVariants.{Truncated, NotAnImage, UnknownVersion, BadLevels, WrongLength, Damaged, BadType, TooTall, CounterTooHigh, OpeningTooHigh, BurntTooHigh}
 use Rattle.lms_image.specs.declared.version.Version.{Version}
 use Rattle.lms_image.specs.declared.version.Version.TheVariants.{First, Second}
-
--- a number as eight bytes, the most significant first
-abbrev pub u64str : ℕ → List ℕ
-u64str n = to_be_bytes w64 n
 
 -- the first four bytes of every image
 abbrev pub magic : List ℕ
@@ -40,8 +35,9 @@ abbrev pub code_of : Version → ℕ
 code_of First = 1
 code_of Second = 2
 
--- the bytes of the parts of an image: of `HSSK`, of a version, a count or a typecode, of all that stands before the levels, of a
--- level, the seed and the identifier, of each number behind these, and of the digest
+-- the bytes of the parts of an image: of `HSSK`, of a version, a count or a typecode, of all before
+-- the levels, of a level, the seed and the identifier, of each number after these, and of the
+-- digest
 abbrev pub magic_size : ℕ
 magic_size = 4
 
@@ -70,14 +66,15 @@ digest_size = 32
 abbrev pub before_counter : ℕ
 before_counter = head_size + seed_size + id_size
 
--- how many bytes the numbers take that stand behind the counter
+-- how many bytes the numbers take that follow the counter
 abbrev pub later_length : Version → ℕ
 later_length First = 0
 later_length Second = 2 * number_size
 
 -- how many bytes follow the number of levels, where it is `count`
 abbrev pub rest_length : Version → ℕ → ℕ
-rest_length version count = seed_size + id_size + number_size + digest_size + later_length version + level_size * count
+rest_length version count =
+    seed_size + id_size + number_size + digest_size + later_length version + level_size * count
 
 -- the bytes of an image with so many levels
 abbrev pub image_length : Version → ℕ → ℕ
@@ -87,7 +84,8 @@ image_length version count = head_size + rest_length version count
 abbrev pub longest_image : ℕ
 longest_image = image_length Second most_levels
 
--- what an image says: its version, the eight bytes of each level, the seed, the identifier and the numbers behind them
+-- what an image says: its version, the eight bytes of each level, the seed, the identifier and the
+-- numbers after them
 pub record Fields : Type 0 where
   pub version : Version
   pub levels : List (List ℕ)
@@ -97,21 +95,23 @@ pub record Fields : Type 0 where
   pub openings : ℕ
   pub burnt : ℕ
 
--- what stands before the seed
+-- what is before the seed
 unfoldable pub head_text : Version → List (List ℕ) → List ℕ
-head_text version levels = magic ++ u32str (code_of version) ++ u32str (length levels) ++ concat levels
+head_text version levels =
+    magic ++ u32str (code_of version) ++ u32str (length levels) ++ concat levels
 
--- the numbers that stand behind the counter since version 2
+-- the numbers that follow the counter since version 2
 abbrev pub later_text : Version → ℕ → ℕ → List ℕ
 later_text First openings burnt = []
 later_text Second openings burnt = u64str openings ++ u64str burnt
 
--- what stands before the digest
+-- what is before the digest
 unfoldable pub body_text : Fields → List ℕ
 body_text f =
-    head_text f.version f.levels ++ f.seed ++ f.id ++ u64str f.counter ++ later_text f.version f.openings f.burnt
+    head_text f.version f.levels ++ f.seed ++ f.id ++ u64str f.counter
+    ++ later_text f.version f.openings f.burnt
 
--- a text with its digest behind it
+-- a text with its digest after it
 unfoldable pub sealed : List ℕ → List ℕ
 sealed body = body ++ sha256 body
 
@@ -127,23 +127,26 @@ fields_of version key counter openings burnt = record {
   burnt = burnt;
 }
 
--- the image of a key, of how many of its indices are used, of how many openings stored something, and of how many indices
--- were burnt: version 2, which alone is written
+-- the image of a key, of how many of its indices are used, of how many openings stored something,
+-- and of how many indices were burnt: version 2, which alone is written
 unfoldable pub image_of : KeyOfCode → ℕ → ℕ → ℕ → List ℕ
-image_of key counter openings burnt = sealed (body_text (fields_of Second key counter openings burnt))
+image_of key counter openings burnt =
+    sealed (body_text (fields_of Second key counter openings burnt))
 
 -- the image of a key and a counter: version 1, which is only read
 unfoldable pub first_image_of : KeyOfCode → ℕ → List ℕ
 first_image_of key counter = sealed (body_text (fields_of First key counter 0 0))
 
--- the text is an image of these: version 2, or version 1, which counts no openings and no burnt indices
+-- the text is an image of these: version 2, or version 1, which counts no openings and no burnt
+-- indices
 abbrev pub IsImage : List ℕ → KeyOfCode → ℕ → ℕ → ℕ → Type 0
 IsImage text key counter openings burnt =
-    (text ≡ image_of key counter openings burnt) ⊎ ((text ≡ first_image_of key counter) × (openings ≡ 0) × (burnt ≡ 0))
+    (text ≡ image_of key counter openings burnt)
+    ⊎ ((text ≡ first_image_of key counter) × (openings ≡ 0) × (burnt ≡ 0))
 
--- a key and numbers that have an image: the signer takes the levels, seed and identifier have their lengths, the counter
--- is at most the capacity, at which the key is exhausted, and neither more openings nor more burnt indices are counted than
--- used indices
+-- a key and numbers that have an image: the signer takes the levels, seed and identifier have their
+-- lengths, the counter is at most the capacity, at which the key is exhausted, and neither more
+-- openings nor more burnt indices are counted than used indices
 pub record HasImage (key : KeyOfCode) (counter openings burnt : ℕ) : Type 0 where
   pub admitted : IsAdmitted key.levels
   pub seed_length : length key.seed ≡ seed_size
@@ -178,11 +181,12 @@ count_in text = number_at 8 4 text
 abbrev pub levels_in : List ℕ → List (List ℕ)
 levels_in text = first_chunks level_size (count_in text) (drop head_size text)
 
--- where the counter of an image with so many levels stands, behind the levels, the seed and the identifier
+-- where the counter of an image with so many levels is, after the levels, the seed and the
+-- identifier
 abbrev pub counter_place : ℕ → ℕ
 counter_place count = before_counter + level_size * count
 
--- where the openings stand, behind the counter, and the burnt indices, behind these
+-- where the openings are, after the counter, and the burnt indices, after these
 abbrev pub openings_place : ℕ → ℕ
 openings_place count = before_counter + number_size + level_size * count
 
@@ -193,7 +197,7 @@ burnt_place count = before_counter + 2 * number_size + level_size * count
 abbrev pub counter_in : List ℕ → ℕ
 counter_in text = number_at (counter_place (count_in text)) number_size text
 
--- a number that stands from byte k on, and that version 1 has not: there it is 0
+-- a number that begins at byte k, and that version 1 has not: there it is 0
 abbrev pub later_number : ℕ → List ℕ → ℕ
 later_number k text = if version_in text == 1 then 0 else number_at k number_size text
 
@@ -206,7 +210,8 @@ burnt_in text = later_number (burnt_place (count_in text)) text
 
 -- how long an image is that states this version and this number of levels
 abbrev pub stated_length : ℕ → ℕ → ℕ
-stated_length version count = if version == 1 then image_length First count else image_length Second count
+stated_length version count =
+    if version == 1 then image_length First count else image_length Second count
 
 -- all but the digest at the end, and this
 abbrev pub body_in : List ℕ → List ℕ
@@ -244,23 +249,10 @@ has_fault BurntTooHigh text = nat_lt (counter_in text) (burnt_in text)
 -- the faults, in the order in which they are looked for
 abbrev pub faults : List ImageFault
 faults =
-    Truncated ∷ NotAnImage ∷ UnknownVersion ∷ BadLevels ∷ WrongLength ∷ Damaged ∷ BadType ∷ TooTall ∷ CounterTooHigh
+    Truncated ∷ NotAnImage ∷ UnknownVersion ∷ BadLevels ∷ WrongLength ∷ Damaged ∷ BadType ∷ TooTall
+    ∷ CounterTooHigh
     ∷ OpeningTooHigh ∷ BurntTooHigh ∷ []
 
 -- the first fault that a text has
 unfoldable pub fault_of : List ℕ → Option ImageFault
 fault_of text = find (λ fault. has_fault fault text) faults
-
--- a fault's name, as it is printed
-abbrev pub name_of : ImageFault → List ℕ
-name_of Truncated = codes "Truncated"
-name_of NotAnImage = codes "NotAnImage"
-name_of UnknownVersion = codes "UnknownVersion"
-name_of BadLevels = codes "BadLevels"
-name_of WrongLength = codes "WrongLength"
-name_of Damaged = codes "Damaged"
-name_of BadType = codes "BadType"
-name_of TooTall = codes "TooTall"
-name_of CounterTooHigh = codes "CounterTooHigh"
-name_of OpeningTooHigh = codes "OpeningTooHigh"
-name_of BurntTooHigh = codes "BurntTooHigh"

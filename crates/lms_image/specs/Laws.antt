@@ -12,12 +12,14 @@ abbrev pub FaultlessAreImages : Type 0
 FaultlessAreImages =
     (text : List ℕ) → IsText text
     → (fault_of text ≡ None)
-    ↔ ((key : KeyOfCode) × (counter openings burnt : ℕ) × HasImage key counter openings burnt × IsImage text key counter openings burnt)
+    ↔ ((key : KeyOfCode) × (counter openings burnt : ℕ) × HasImage key counter openings burnt
+    × IsImage text key counter openings burnt)
 
 -- what was written is read again, in either version
 abbrev pub ImagesAreFaultless : Type 0
 ImagesAreFaultless =
-    (text : List ℕ) (key : KeyOfCode) (counter openings burnt : ℕ) → HasImage key counter openings burnt
+    (text : List ℕ) (key : KeyOfCode) (counter openings burnt : ℕ)
+    → HasImage key counter openings burnt
     → IsImage text key counter openings burnt → fault_of text ≡ None
 
 -- an image is that of one key, with one counter, one number of openings and one of burnt indices

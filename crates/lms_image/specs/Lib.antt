@@ -1,3 +1,4 @@
+pub mod Faults
 pub mod Image
 pub mod Laws
 pub mod Reading

@@ -2,20 +2,21 @@
 use Rattle.std.specs.Prelude.{ℕ, ◌≡◌, ◌+◌, ◌*◌, ◌^◌, ◌<◌, ◌≤◌, List, ◌++◌, length, map, sum_by, All, Result, true, false}
 use Rattle.std.specs.Prelude.Result.{Ok, Err}
 use Rattle.std.specs.List.{concat, list_all}
-use Rattle.lms_spec.specs.Bytes.{u32str}
+use Rattle.lms_spec.specs.Bytes.{u32str, u64str}
 use Rattle.lms_spec.specs.Hss.{most_levels}
 use Rattle.lms_params.specs.declared.lms_type.LmsType.{LmsType}
 use Rattle.lms_params.specs.declared.ots_type.OtsType.{OtsType}
 use Rattle.lms_hss.specs.Levels.{IsAdmitted, most_height}
-use Rattle.lms_hss.specs.declared.levels.KeyFault.{KeyFault}
-use Rattle.lms_hss.specs.declared.levels.KeyFault.TheVariants.{NoLevels, TooManyLevels, TooTall as TallLevels}
-use Rattle.lms_image.specs.declared.image.ImageFault.{ImageFault}
-use Rattle.lms_image.specs.declared.image.ImageFault.TheVariants.{BadType, TooTall}
+use Rattle.lms_hss.specs.declared.fault.KeyFault.{KeyFault}
+use Rattle.lms_hss.specs.declared.fault.KeyFault.TheVariants.{NoLevels, TooManyLevels, TooTall as TallLevels}
+use Rattle.lms_image.specs.declared.fault.ImageFault.{ImageFault}
+use Rattle.lms_image.specs.declared.fault.ImageFault.TheVariants.{BadType, TooTall}
 use Rattle.lms_image.specs.declared.version.Version.{Version}
 use Rattle.lms_image.specs.declared.version.Version.TheVariants.{First, Second}
-use Rattle.lms_image.specs.Image.{Fields, u64str, magic, code_of, later_length, later_text, level_text, is_level, height_in, head_size, level_size, seed_size, id_size, digest_size}
+use Rattle.lms_image.specs.Image.{Fields, magic, code_of, later_length, later_text, level_text, is_level, height_in, head_size, level_size, seed_size, id_size, digest_size}
 
--- a text that begins as the image of this version and of this many levels does, and goes on with these bytes
+-- a text that begins as the image of this version and of this many levels does, and goes on with
+-- these bytes
 pub record IsHeaded (text rest : List ℕ) (version : Version) (count : ℕ) : Type 0 where
   pub some_level : 1 ≤ count
   pub eight_at_most : count ≤ most_levels
@@ -31,7 +32,8 @@ AreLater First openings burnt = (openings ≡ 0) × (burnt ≡ 0)
 AreLater Second openings burnt = (openings < 2 ^ 64) × (burnt < 2 ^ 64)
 
 -- these numbers are read from the front of a text, and these bytes follow
-pub record ReadsLater (version : Version) (text : List ℕ) (openings burnt : ℕ) (rest : List ℕ) : Type 0 where
+pub record ReadsLater (version : Version) (text : List ℕ) (openings burnt : ℕ)
+    (rest : List ℕ) : Type 0 where
   pub are : AreLater version openings burnt
   pub parts : text ≡ later_text version openings burnt ++ rest
   pub long : length text ≡ later_length version + length rest
@@ -47,7 +49,9 @@ pub record IsCut (count : ℕ) (rest : List ℕ) (f : Fields) (digest : List ℕ
   pub counter_fits : f.counter < 2 ^ 64
   pub later : AreLater f.version f.openings f.burnt
   pub digest_length : length digest ≡ digest_size
-  pub parts : rest ≡ concat f.levels ++ (f.seed ++ (f.id ++ (u64str f.counter ++ (later_text f.version f.openings f.burnt ++ digest))))
+  pub parts : rest ≡ concat f.levels
+      ++ (f.seed
+      ++ (f.id ++ (u64str f.counter ++ (later_text f.version f.openings f.burnt ++ digest))))
 
 -- the fault of an image whose levels the signer refuses
 abbrev pub refused_as : KeyFault → ImageFault
@@ -59,5 +63,6 @@ refused_as TooManyLevels = BadType
 abbrev pub ReadsLevels : List (List ℕ) → Result (List (LmsType × OtsType)) ImageFault → Type 0
 ReadsLevels texts (Ok levels) = (map level_text levels ≡ texts) × IsAdmitted levels
 ReadsLevels texts (Err BadType) = list_all is_level texts ≡ false
-ReadsLevels texts (Err TooTall) = (list_all is_level texts ≡ true) × (most_height < sum_by height_in texts)
+ReadsLevels texts (Err TooTall) =
+    (list_all is_level texts ≡ true) × (most_height < sum_by height_in texts)
 ReadsLevels texts (Err _) = ⊥

@@ -1,7 +1,7 @@
-//! The bytes of an image, put together without taking memory.
+//! The bytes of an image, in place: no memory is taken.
 ghost use Rattle.std.specs.Prelude.{◌≡◌, ◌+◌, ◌≤◌, ◌++◌, [], length};
-ghost use Rattle.lms_spec.specs.Bytes.{u32str};
-ghost use Rattle.lms_image.specs.Image.{code_size, longest_image, number_size, u64str};
+ghost use Rattle.lms_spec.specs.Bytes.{u32str, u64str};
+ghost use Rattle.lms_image.specs.Image.{code_size, longest_image, number_size};
 
 use arrayvec::ArrayVec;
 use std::marker::Model;
@@ -9,7 +9,7 @@ use std::marker::Model;
 /// The most bytes of an image: those of eight levels.
 pub(crate) const MOST_BYTES: usize = 180;
 
-/// The text of an image, at most 180 bytes. Contracts see the list of its bytes.
+/// The bytes of an image, at most 180. Contracts see the list of them.
 #[derive(Drop)]
 pub struct ImageBytes {
     bytes: ArrayVec<u8, MOST_BYTES>,
@@ -44,7 +44,7 @@ impl ImageBytes {
         }
     }
 
-    /// Puts a part behind what there is.
+    /// Appends a part.
     pub(crate) fn append(&mut self, part: &[u8])
         requires { length self.old + length part.now ≤ longest_image }
         ensures { self.new ≡ self.old ++ part.now }
@@ -55,7 +55,7 @@ impl ImageBytes {
         }
     }
 
-    /// Puts a number behind what there is, in four bytes.
+    /// Appends a number, in four bytes.
     pub(crate) fn append_u32(&mut self, number: u32)
         requires { length self.old + code_size ≤ longest_image }
         ensures { self.new ≡ self.old ++ u32str number }
@@ -63,7 +63,7 @@ impl ImageBytes {
         self.append(&number.to_be_bytes());
     }
 
-    /// Puts a number behind what there is, in eight bytes.
+    /// Appends a number, in eight bytes.
     pub(crate) fn append_u64(&mut self, number: u64)
         requires { length self.old + number_size ≤ longest_image }
         ensures { self.new ≡ self.old ++ u64str number }

@@ -1,5 +1,4 @@
-//! The state image: the bytes in which a store keeps a key, how many of its indices are used, how many openings stored
-//! something, and how many indices were burnt.
+//! Writes and reads the state image.
 ghost use Rattle.std.specs.Prelude.{◌≡◌, ◌+◌, ◌*◌, ◌≤◌, ◌<◌, ◌^◌, ◌≢◌, ◌++◌, length, map, take, None, Some, IfOk, IfErr, IfSome, IfNone, MatchResult, IsFalse};
 ghost use Rattle.std.specs.List.{list_all};
 ghost use Rattle.sha2.specs.Sha256.{sha256};
@@ -11,12 +10,11 @@ ghost use Rattle.lms_image.specs.Image.{image_of, fault_of, head_size, head_text
 ghost use Rattle.lms_image.specs.Reading.{IsHeaded, IsCut, longest_head, ReadsLevels, refused_as};
 
 use crate::bytes::ImageBytes;
-use crate::version::{Version, split_later, split_u64};
+use crate::fault::ImageFault;
+use crate::version::{Version, split_later};
 use lms_hss::{HssKey, KeyFault, Levels, MOST_LEVELS};
-use lms_params::{LmsType, OtsType, split_u32};
+use lms_params::{LmsType, OtsType, split_u32, split_u64};
 use sha2::{Digest, Sha256};
-use std::error::Error;
-use std::fmt;
 
 /// The first bytes of every image.
 const MAGIC: [u8; MAGIC_LEN] = *b"HSSK";
@@ -41,7 +39,7 @@ const ID_LEN: usize = 16;
 /// The bytes of the digest at the end.
 const DIGEST_LEN: usize = 32;
 
-/// A key, and what is counted of it. There is no `Debug`, which would print the seed.
+/// A key, and what is counted of it. It has no `Debug`, which would print the seed.
 #[derive(Clone, Copy, PartialEq, Eq)]
 pub struct Image {
     pub key: HssKey,
@@ -53,61 +51,28 @@ pub struct Image {
     pub burnt: u64,
 }
 
-/// What is wrong with bytes that should be an image: the first of these, in this order.
-#[derive(Clone, Copy, Debug, PartialEq, Eq)]
-pub enum ImageFault {
-    /// There are fewer than 12 bytes.
-    Truncated,
-    /// The first four bytes aren't `HSSK`.
-    NotAnImage,
-    /// The version is neither 1 nor 2.
-    UnknownVersion,
-    /// The number of levels is 0 or over 8.
-    BadLevels,
-    /// The length isn't that of an image of its version with so many levels.
-    WrongLength,
-    /// The last 32 bytes aren't the digest of those before.
-    Damaged,
-    /// A typecode is unknown.
-    BadType,
-    /// The heights sum to over 60.
-    TooTall,
-    /// The counter is over the key's capacity.
-    CounterTooHigh,
-    /// More openings are counted than used indices.
-    OpeningTooHigh,
-    /// More burnt indices are counted than used ones.
-    BurntTooHigh,
-}
-
-impl fmt::Display for ImageFault {
-    ghost use Rattle.lms_image.specs.Image.{name_of};
-
-    ghost output = { λ fault. Some (name_of fault) };
-
-    fn fmt<W: fmt::Write>(&self, f: &mut fmt::Formatter<W>) -> fmt::Result {
-        f.write_str(match self {
-            ImageFault::Truncated => "Truncated",
-            ImageFault::NotAnImage => "NotAnImage",
-            ImageFault::UnknownVersion => "UnknownVersion",
-            ImageFault::BadLevels => "BadLevels",
-            ImageFault::WrongLength => "WrongLength",
-            ImageFault::Damaged => "Damaged",
-            ImageFault::BadType => "BadType",
-            ImageFault::TooTall => "TooTall",
-            ImageFault::CounterTooHigh => "CounterTooHigh",
-            ImageFault::OpeningTooHigh => "OpeningTooHigh",
-            ImageFault::BurntTooHigh => "BurntTooHigh",
-        })
+impl Image {
+    /// The image of a new key: no index is used, no opening counted and no index burnt.
+    pub fn unused(key: HssKey) -> Self
+        ensures key { result.key ≡ key }
+        ensures counter { result.counter ≡ 0 }
+        ensures openings { result.openings ≡ 0 }
+        ensures burnt { result.burnt ≡ 0 }
+    {
+        Image {
+            key,
+            counter: 0,
+            openings: 0,
+            burnt: 0,
+        }
     }
 }
 
-impl Error for ImageFault {}
-
-/// The image of a key and its numbers, 116 bytes and 8 for each level: `HSSK`, the version 2 and the number of levels, 4 bytes
-/// each; each level's two typecodes, 4 bytes each; the seed, 32; the identifier I, 16; the counter, the openings and the burnt
-/// indices, 8 each; and the SHA-256 digest of all these, 32. The counter must be at most the key's capacity, and the other two
-/// at most the counter.
+/// The image of a key and its numbers, of 116 bytes and 8 for each level: `HSSK`, the version 2 and
+/// the number of levels, 4 bytes each; each level's two typecodes, 4 bytes each; the seed, 32; the
+/// identifier I, 16; the counter, the openings and the burnt indices, 8 each; and the SHA-256
+/// digest of all before, 32. The counter must be at most the key's capacity, and the other two at
+/// most the counter.
 pub fn encode_image(image: &Image) -> ImageBytes
     requires within { image.now.counter ≤ capacity_of (hss_key_of image.now.key) }
     requires openings { image.now.openings ≤ image.now.counter }
@@ -125,7 +90,7 @@ pub fn encode_image(image: &Image) -> ImageBytes
     text
 }
 
-/// What stands before the seed.
+/// The bytes before the seed.
 fn encode_head(levels: &Levels) -> ImageBytes
     ensures text { result ≡ head_text Second (map level_text levels.now) }
     ensures short { length result ≤ longest_head }
@@ -142,12 +107,15 @@ fn encode_head(levels: &Levels) -> ImageBytes
     text
 }
 
-/// The key and the numbers whose image these bytes are, in either version; or the first `ImageFault` that the bytes have. In
-/// version 1, which is 16 bytes shorter, no openings and no burnt indices are counted.
+/// The key and the numbers whose image these bytes are, in either version, or the first
+/// `ImageFault` that the bytes have. An image of version 1 is 16 bytes shorter and counts no
+/// openings and no burnt indices.
 pub fn decode_image(text: &[u8]) -> Result<Image, ImageFault>
-    ensures ok { IfOk result (λ image. IsImage text.now image.key image.counter image.openings image.burnt
+    ensures ok { IfOk result (λ image.
+        IsImage text.now image.key image.counter image.openings image.burnt
         × HasImage image.key image.counter image.openings image.burnt) }
-    ensures exact { MatchResult result (λ _. fault_of text.now ≡ None) (λ fault. fault_of text.now ≡ Some fault) }
+    ensures exact { MatchResult result (λ _. fault_of text.now ≡ None) (λ fault.
+        fault_of text.now ≡ Some fault) }
 {
     let (version, count, rest) = read_head(text)?;
     let Some(parts) = Parts::cut(version, count, rest) else {
@@ -176,7 +144,8 @@ pub fn decode_image(text: &[u8]) -> Result<Image, ImageFault>
     })
 }
 
-/// The version of an image, its number of levels, 1 to 8, and the bytes after it; or the fault of the first 12 bytes.
+/// The version of an image, its number of levels, 1 to 8, and the bytes after it; or the fault of
+/// the first 12 bytes.
 fn read_head(text: &[u8]) -> Result<(Version, usize, &[u8]), ImageFault>
     ensures ok { IfOk result (λ head. IsHeaded text.now head.2.now head.0 head.1) }
     ensures err { IfErr result (λ fault. fault_of text.now ≡ Some fault) }
@@ -196,7 +165,7 @@ fn read_head(text: &[u8]) -> Result<(Version, usize, &[u8]), ImageFault>
     Ok((version, head.levels as usize, head.rest))
 }
 
-/// The first 12 bytes of a text, and the bytes after them.
+/// The first 12 bytes, and the bytes after them.
 #[derive(Clone, Copy)]
 struct Head<'a> {
     magic: &'a [u8; MAGIC_LEN],
@@ -206,9 +175,10 @@ struct Head<'a> {
 }
 
 impl<'a> Head<'a> {
-    /// Cuts a text. None exactly where it has fewer than 12 bytes.
+    /// Cuts these bytes. `None` exactly where there are fewer than 12.
     fn cut(text: &'a [u8]) -> Option<Self>
-        ensures parts { IfSome result (λ h. text.now ≡ h.magic.now ++ (u32str h.version ++ (u32str h.levels ++ h.rest.now))) }
+        ensures parts { IfSome result (λ h.
+            text.now ≡ h.magic.now ++ (u32str h.version ++ (u32str h.levels ++ h.rest.now))) }
         ensures magic { IfSome result (λ h. length h.magic.now ≡ magic_size) }
         ensures version { IfSome result (λ h. h.version < 2 ^ 32) }
         ensures levels { IfSome result (λ h. h.levels < 2 ^ 32) }
@@ -226,8 +196,8 @@ impl<'a> Head<'a> {
     }
 }
 
-/// What follows an image's number of levels: the eight bytes of each level, the seed, the identifier, the numbers and the
-/// digest.
+/// What follows the number of levels: the eight bytes of each level, the seed, the identifier, the
+/// numbers and the digest.
 #[derive(Clone, Copy)]
 struct Parts<'a> {
     levels: &'a [[u8; LEVEL_LEN]],
@@ -240,7 +210,8 @@ struct Parts<'a> {
 }
 
 impl<'a> Parts<'a> {
-    /// Cuts what follows a number of levels, 1 to 8. None exactly where its length isn't theirs in this version.
+    /// Cuts what follows a number of levels, 1 to 8. `None` exactly where its length isn't that of
+    /// so many levels in this version.
     fn cut(version: Version, count: usize, rest: &'a [u8]) -> Option<Self>
         requires { count ≤ most_levels }
         ensures parts { IfSome result (λ p. IsCut count rest.now (record {
@@ -298,12 +269,13 @@ fn refused(fault: KeyFault) -> ImageFault
     }
 }
 
-/// The sets that these bytes name, in the first of eight places, the others filled with the top level's. None where a typecode is
-/// unknown.
+/// The sets that these bytes name, in the first of eight places; the others hold the top level's.
+/// `None` where a typecode is unknown.
 fn read_sets(texts: &[[u8; LEVEL_LEN]]) -> Option<[(LmsType, OtsType); MOST_LEVELS]>
     requires some { 1 ≤ length texts.now }
     requires at_most { length texts.now ≤ most_levels }
-    ensures some { IfSome result (λ sets. map level_text (take (length texts.now) sets) ≡ texts.now) }
+    ensures some { IfSome result (λ sets.
+        map level_text (take (length texts.now) sets) ≡ texts.now) }
     ensures none { IfNone result (IsFalse (list_all is_level texts.now)) }
 {
     let top = read_level(&texts[0])?;
@@ -314,7 +286,7 @@ fn read_sets(texts: &[[u8; LEVEL_LEN]]) -> Option<[(LmsType, OtsType); MOST_LEVE
     Some(sets)
 }
 
-/// The sets of one level. None where a typecode is unknown.
+/// The sets of one level. `None` where a typecode is unknown.
 fn read_level(text: &[u8; LEVEL_LEN]) -> Option<(LmsType, OtsType)>
     ensures some { IfSome result (λ sets. level_text sets ≡ text.now) }
     ensures none { IfNone result (IsFalse (is_level text.now)) }

@@ -1,7 +1,8 @@
-//! Laws over images, as contracts. No call of a product needs these functions.
+//! Laws over images, as contracts. No call of the product needs these functions.
 ghost use Rattle.lms_image.specs.Laws.{FaultlessAreImages, ImagesAreFaultless, ImagesAreToldApart};
 
-/// Bytes have no fault exactly where they are an image, of either version, of some key and its numbers.
+/// Bytes have no fault exactly where they are an image, of either version, of some key and its
+/// numbers.
 pub fn faultless_texts_are_images()
     ensures { FaultlessAreImages }
 {}

@@ -1,10 +1,9 @@
 //! The versions of an image, and what version 2 adds.
-ghost use Rattle.std.specs.Prelude.{◌≡◌, ◌+◌, ◌<◌, ◌^◌, ◌≢◌, ◌++◌, length, IfSome, IfNone};
-ghost use Rattle.lms_image.specs.Image.{u64str, code_of, number_size, later_length};
+ghost use Rattle.std.specs.Prelude.{◌≡◌, ◌<◌, ◌≢◌, length, IfSome, IfNone};
+ghost use Rattle.lms_image.specs.Image.{code_of, later_length};
 ghost use Rattle.lms_image.specs.Reading.{ReadsLater};
 
-/// The bytes of a number.
-const NUMBER_LEN: usize = 8;
+use lms_params::split_u64;
 
 /// A version of the image.
 #[derive(Clone, Copy)]
@@ -16,7 +15,7 @@ pub(crate) enum Version {
 }
 
 impl Version {
-    /// The version of a number. None where there is none.
+    /// The version of a number. `None` where there is none.
     pub(crate) fn from_code(code: u32) -> Option<Version>
         ensures some { IfSome result (λ version. code ≡ code_of version) }
         ensures not_first { IfNone result (code ≢ 1) }
@@ -30,20 +29,8 @@ impl Version {
     }
 }
 
-/// The number in the first eight bytes, the most significant first, and the bytes after it. None exactly where there are
-/// fewer than eight.
-pub(crate) fn split_u64(bytes: &[u8]) -> Option<(u64, &[u8])>
-    ensures parts { IfSome result (λ s. bytes.now ≡ u64str s.0 ++ s.1.now) }
-    ensures fits { IfSome result (λ s. s.0 < 2 ^ 64) }
-    ensures long { IfSome result (λ s. length bytes.now ≡ number_size + length s.1.now) }
-    ensures none { IfNone result (length bytes.now < number_size) }
-{
-    let (number, rest) = bytes.split_first_chunk::<NUMBER_LEN>()?;
-    Some((u64::from_be_bytes(*number), rest))
-}
-
-/// How many openings stored something, how many indices are burnt, and the bytes after these numbers; 0 and 0 in version
-/// 1, where none stand. None exactly where there are too few bytes.
+/// How many openings stored something, how many indices are burnt, and the bytes after these
+/// numbers; 0 and 0 in version 1, which has none. `None` exactly where there are too few bytes.
 pub(crate) fn split_later(version: Version, bytes: &[u8]) -> Option<(u64, u64, &[u8])>
     ensures some { IfSome result (λ s. ReadsLater version bytes.now s.0 s.1 s.2.now) }
     ensures none { IfNone result (length bytes.now < later_length version) }

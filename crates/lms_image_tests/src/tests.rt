@@ -221,7 +221,7 @@ fn fault_with(
     Ok(fault(&text))
 }
 
-/// Three levels are named where there is room for one, or the other version.
+/// Three levels are named where there are bytes for one, or the other version.
 #[test]
 fn a_wrong_length_comes_before_damage(rt: HostRuntime) -> Result<(), Fail> {
     for (fields, place, byte) in [

@@ -1,4 +1,4 @@
--- Signatures by the nodes of a text, or by trees that were worked out.
+-- Signatures by the nodes of a text, or by trees that were computed.
 use Rattle.std.specs.Prelude.{ℕ, ◌≡◌, ◌⊎◌, Bool, List, Some, None, Option, IfSome, IfNone, IsTrue, IsFalse}
 use Rattle.lms_spec.specs.Hss.{HssAccepts}
 use Rattle.lms_spec.specs.Profile.{hss_public_key, hss_signature}
@@ -7,32 +7,37 @@ use Rattle.lms_hss.specs.declared.key.HssKey.{HssKey as KeyOfCode}
 use Rattle.lms_kept.specs.Ways.{AreGenuine, EndsAlong, IsWay, public_of, Serves, SignsNoOther, Way, nodes_text}
 use Rattle.lms_kept.specs.declared.kept_level.KeptLevel.{KeptLevel}
 
--- the nodes that are used are those of their key's trees, or there are none: all is worked out
+-- the nodes that are used are those of their key's trees, or there are none: all is computed
 abbrev pub AreRight : Option Way → Type 0
 AreRight None = Unit {0}
 AreRight (Some way) = AreGenuine way
 
--- trees that were made from nodes, or worked out: what is signed of an upper level's tree was given with it, or is its own public key
+-- trees that were made from nodes, or computed: what is signed of an upper level's tree was given
+-- with it, or is its own public key
 abbrev pub AreMadeFrom : Option Way → Way → Type 0
 AreMadeFrom None trees = AreGenuine trees
 AreMadeFrom (Some way) trees = (way ≡ trees) ⊎ SignsNoOther way trees
 
 -- trees for an index of this key, made from nodes, and right where these are
-pub record AreTreesFor (nodes : Option Way) (key : KeyOfCode) (index : ℕ) (trees : Way) : Type 0 where
+pub record AreTreesFor (nodes : Option Way) (key : KeyOfCode) (index : ℕ)
+    (trees : Way) : Type 0 where
   pub way : IsWay trees
   pub of_key : trees.key ≡ key
   pub serves : Serves trees index
   pub from : AreMadeFrom nodes trees
   pub right : AreRight nodes → AreGenuine trees
 
--- a signature of a message by an index of a key: its one-time signature is the standard's, below what is signed of the trees, and it is accepted under
--- their root; where the nodes that are used are right, it is the standard's and accepted under the key's
-pub record IsSignedBy (nodes : Option Way) (key : KeyOfCode) (index : ℕ) (randomizer message signature : List ℕ) : Type 0 where
+-- a signature of a message by an index of a key: its one-time signature is the standard's, below
+-- what is signed of the trees, and it is accepted under their root; where the nodes that are used
+-- are right, it is the standard's and accepted under the key's
+pub record IsSignedBy (nodes : Option Way) (key : KeyOfCode) (index : ℕ)
+    (randomizer message signature : List ℕ) : Type 0 where
   pub trees : Way
   pub are : AreTreesFor nodes key index trees
   pub along : EndsAlong trees index randomizer message signature
   pub checked : (other : KeptLevel) → HssAccepts (public_of trees other) message signature
-  pub signature_is : AreRight nodes → signature ≡ hss_signature (hss_key_of key) index randomizer message
+  pub signature_is : AreRight nodes
+      → signature ≡ hss_signature (hss_key_of key) index randomizer message
   pub accepted : AreRight nodes → HssAccepts (hss_public_key (hss_key_of key)) message signature
 
 -- the nodes serve the index as they are
@@ -48,11 +53,13 @@ pub record AreNodesOf (text : Option (List ℕ)) (key : KeyOfCode) (nodes : Opti
 
 -- a text is that of no genuine trees of a key
 abbrev pub IsNotRight : Option (List ℕ) → KeyOfCode → Type 0
-IsNotRight text key = (way : Way) → IsWay way → way.key ≡ key → text ≡ Some (nodes_text way) → ¬ AreGenuine way
+IsNotRight text key =
+    (way : Way) → IsWay way → way.key ≡ key → text ≡ Some (nodes_text way) → ¬ AreGenuine way
 
--- a signature by the nodes of a text, or by none where it is not right. The trees that signed are to be kept just where the nodes do not serve the
--- index as they are
-pub record IsSignedByText (text : Option (List ℕ)) (key : KeyOfCode) (index : ℕ) (randomizer message signature : List ℕ) (kept : Option Way) : Type 0 where
+-- a signature by the nodes of a text, or by none where it is not right. The trees that signed are
+-- to be kept just where the nodes do not serve the index as they are
+pub record IsSignedByText (text : Option (List ℕ)) (key : KeyOfCode) (index : ℕ)
+    (randomizer message signature : List ℕ) (kept : Option Way) : Type 0 where
   pub nodes : Option Way
   pub of_text : AreNodesOf text key nodes
   pub anew : IfNone nodes (IsNotRight text key)
@@ -61,8 +68,10 @@ pub record IsSignedByText (text : Option (List ℕ)) (key : KeyOfCode) (index : 
   pub changed : IfSome kept (λ _. ¬ AlreadyServe nodes index)
   pub unchanged : IfNone kept (AlreadyServe nodes index)
 
--- trees for an index of a key, made from the nodes of a text, or, where these are held to serve it, they themselves
-pub record AreTreesOf (text : List ℕ) (key : KeyOfCode) (index : ℕ) (trees : Way) (held : Bool) : Type 0 where
+-- trees for an index of a key, made from the nodes of a text, or, where these are held to serve it,
+-- they themselves
+pub record AreTreesOf (text : List ℕ) (key : KeyOfCode) (index : ℕ) (trees : Way)
+    (held : Bool) : Type 0 where
   pub nodes : Way
   pub of_text : AreNodesOf (Some text) key (Some nodes)
   pub are : AreTreesFor (Some nodes) key index trees

@@ -1,4 +1,5 @@
--- The trees on the way of an index, from the top down, with nodes that were given, and the text that keeps them.
+-- The trees on the way of an index, from the top down, with nodes that were given, and the text
+-- that keeps them.
 use Rattle.std.specs.Prelude.{ℕ, zero, suc, ◌≡◌, ◌⊎◌, ◌+◌, ◌-◌, ◌*◌, ◌/◌, ◌%◌, ◌^◌, ◌<◌, ◌≤◌, List, [], ◌++◌, length, slice_index_or}
 use Rattle.std.specs.List.{flat_map}
 use Rattle.sha2.specs.Sha256.{sha256}
@@ -18,7 +19,8 @@ use Rattle.lms_hss.specs.Levels.{IsAdmitted}
 use Rattle.lms_hss.specs.declared.key.HssKey.{HssKey as KeyOfCode}
 use Rattle.lms_kept.specs.declared.kept_level.KeptLevel.{KeptLevel}
 
--- what contracts see of `KeptTrees`: a key, an index, and of each level from the top a tree with what is signed of it
+-- what contracts see of `KeptTrees`: a key, an index, and of each level from the top a tree with
+-- what is signed of it
 pub record Way : Type 0 where
   pub key : KeyOfCode
   pub at : ℕ
@@ -28,25 +30,30 @@ pub record Way : Type 0 where
 abbrev pub leaves_of : Level → ℕ
 leaves_of l = 2 ^ l.lms.h
 
--- the bytes of what is signed of level k: the signature of its public key by the level above, and that key (6.2); the top level is not signed
+-- the bytes of what is signed of level k: the signature of its public key by the level above, and
+-- that key (6.2); the top level is not signed
 abbrev pub signed_length : HssKey → ℕ → ℕ
 signed_length key zero = 0
-signed_length key (suc k) = lms_signature_length (level key k).lms (level key k).ots + lms_public_key_length
+signed_length key (suc k) =
+    lms_signature_length (level key k).lms (level key k).ots + lms_public_key_length
 
--- level k's tree is the one that index g goes through, and serves the leaf there; how much is held follows from key and level
+-- level k's tree is the one that index g goes through, and serves the leaf there; how much is held
+-- follows from key and level
 pub record IsOnWay (key : HssKey) (g k : ℕ) (level : KeptLevel) : Type 0 where
   pub tree : tree_of level.tree.key ≡ tree_at key g k
   pub served : ServesLeaf level.tree (leaf_at key g k)
   pub shape : HasShape level.tree
   pub signed : length level.signed.items ≡ signed_length key k
 
--- some levels from the top, on the way of an index below the capacity of a key whose levels the signer takes
+-- some levels from the top, on the way of an index below the capacity of a key whose levels the
+-- signer takes
 pub record IsWay (way : Way) : Type 0 where
   pub id_length : length way.key.i ≡ 16
   pub within : way.at < capacity_of (hss_key_of way.key)
   pub some : 1 ≤ length way.levels
   pub at_most : length way.levels ≤ length way.key.levels
-  pub each : (k : ℕ) (other : KeptLevel) → k < length way.levels → IsOnWay (hss_key_of way.key) way.at k (slice_index_or way.levels k other)
+  pub each : (k : ℕ) (other : KeptLevel) → k < length way.levels
+      → IsOnWay (hss_key_of way.key) way.at k (slice_index_or way.levels k other)
   pub admitted : IsAdmitted way.key.levels
 
 -- what a signature by index g has of level k's key, signed by the level above (6.2)
@@ -66,7 +73,8 @@ AreGenuine way = (k : ℕ) (other : KeptLevel) → k < length way.levels
 
 -- the public key over what was given for the root of the top tree (6.1)
 abbrev pub public_of : Way → KeptLevel → List ℕ
-public_of way other = u32str (length way.key.levels) ++ given_public (slice_index_or way.levels 0 other).tree
+public_of way other =
+    u32str (length way.key.levels) ++ given_public (slice_index_or way.levels 0 other).tree
 
 -- the number of the bottom level
 abbrev pub bottom_of : KeyOfCode → ℕ
@@ -85,48 +93,60 @@ pub record Serves (way : Way) (g : ℕ) : Type 0 where
 abbrev pub signed_keys : List KeptLevel → List ℕ
 signed_keys levels = flat_map (λ (level : KeptLevel). level.signed.items) levels
 
--- the signed keys as they were given, and the signature of a message by the one-time key of an index, but that any bytes may stand in the place of its
--- path (6.2)
+-- the signed keys as they were given, and the signature of a message by the one-time key of an
+-- index, but that any bytes may stand in the place of its path (6.2)
 pub record EndsAlong (way : Way) (g : ℕ) (randomizer message signature : List ℕ) : Type 0 where
   pub last : List ℕ
   pub parts : signature ≡ u32str (bottom_of way.key) ++ signed_keys way.levels ++ last
-  pub along : IsSignatureAlong (tree_at (hss_key_of way.key) g (bottom_of way.key)) (leaf_at (hss_key_of way.key) g (bottom_of way.key)) randomizer message last
+  pub along : IsSignatureAlong (tree_at (hss_key_of way.key) g (bottom_of way.key))
+      (leaf_at (hss_key_of way.key) g (bottom_of way.key)) randomizer message last
 
--- what is signed of level k + 1 is the public key of its own tree, which no text gave, under the randomizer of the leaf above: whatever was given,
--- that one-time key signs no other text
+-- what is signed of level k + 1 is the public key of its own tree, which no text gave, under the
+-- randomizer of the leaf above: whatever was given, that one-time key signs no other text
 pub record SignsOwnKey (key : HssKey) (g k : ℕ) (level : KeptLevel) : Type 0 where
   pub signature : List ℕ
-  pub along : IsSignatureAlong (tree_at key g k) (leaf_at key g k) (derived (tree_at key g k) (leaf_at key g k) for_randomizer)
+  pub along : IsSignatureAlong (tree_at key g k) (leaf_at key g k)
+      (derived (tree_at key g k) (leaf_at key g k) for_randomizer)
       (public_key_of (tree_at key g (k + 1))) signature
   pub signed : level.signed.items ≡ signature ++ public_key_of (tree_at key g (k + 1))
 
 -- from a level on, each has its own key signed
 abbrev pub SignOwnKeys : HssKey → ℕ → ℕ → List KeptLevel → Type 0
-SignOwnKeys key g from levels = (k : ℕ) (other : KeptLevel) → from ≤ k + 1 → k + 1 < length levels → SignsOwnKey key g k (slice_index_or levels (k + 1) other)
+SignOwnKeys key g from levels =
+    (k : ℕ) (other : KeptLevel) → from ≤ k + 1 → k + 1 < length levels
+    → SignsOwnKey key g k (slice_index_or levels (k + 1) other)
 
 -- the tree of level k is one that was given, and what is signed of it was given with it
 pub record StaysSigned (given way : Way) (k : ℕ) : Type 0 where
   pub there : k < length given.levels
   pub tree : tree_number (hss_key_of way.key) way.at k ≡ tree_number (hss_key_of way.key) given.at k
-  pub signed : (other : KeptLevel) → (slice_index_or way.levels k other).signed.items ≡ (slice_index_or given.levels k other).signed.items
+  pub signed : (other : KeptLevel)
+      → (slice_index_or way.levels k other).signed.items
+      ≡ (slice_index_or given.levels k other).signed.items
 
 -- what is signed of a level was given with its tree, or is its own key
 abbrev pub SignsNoOther : Way → Way → Type 0
 SignsNoOther given way = (k : ℕ) (other : KeptLevel) → k < length way.levels
-    → StaysSigned given way k ⊎ ((1 ≤ k) × SignsOwnKey (hss_key_of way.key) way.at (k - 1) (slice_index_or way.levels k other))
+    → StaysSigned given way k
+    ⊎ ((1 ≤ k)
+    × SignsOwnKey (hss_key_of way.key) way.at (k - 1) (slice_index_or way.levels k other))
 
--- a tree that was worked out and serves a leaf, whose public key leaf q of the one above it signed. The path of that signature is the tree's where the
--- nodes above are
-pub record IsKeptChild (parent : KeptLevel) (q : ℕ) (own : TreeKey) (leaf : ℕ) (level : KeptLevel) : Type 0 where
+-- a tree that was computed and serves a leaf, whose public key leaf q of the one above it signed.
+-- The path of that signature is the tree's where the nodes above are
+pub record IsKeptChild (parent : KeptLevel) (q : ℕ) (own : TreeKey) (leaf : ℕ)
+    (level : KeptLevel) : Type 0 where
   pub key : level.tree.key ≡ own
   pub served : ServesLeaf level.tree leaf
   pub shape : HasShape level.tree
   pub nodes : AreNodes level.tree
   pub signature : List ℕ
   pub signed : level.signed.items ≡ signature ++ public_key_of (tree_of own)
-  pub along : IsSignatureAlong (tree_of parent.tree.key) q (derived (tree_of parent.tree.key) q for_randomizer) (public_key_of (tree_of own)) signature
+  pub along : IsSignatureAlong (tree_of parent.tree.key) q
+      (derived (tree_of parent.tree.key) q for_randomizer) (public_key_of (tree_of own)) signature
   pub right : AreNodes parent.tree
-      → signature ≡ lms_signature (tree_of parent.tree.key) q (derived (tree_of parent.tree.key) q for_randomizer) (public_key_of (tree_of own))
+      → signature
+      ≡ lms_signature (tree_of parent.tree.key) q
+      (derived (tree_of parent.tree.key) q for_randomizer) (public_key_of (tree_of own))
 
 -- the same tree, and what is signed of it, and another leaf is served
 pub record IsMoved (level : KeptLevel) (leaf : ℕ) (moved : KeptLevel) : Type 0 where
@@ -138,11 +158,15 @@ pub record IsMoved (level : KeptLevel) (leaf : ℕ) (moved : KeptLevel) : Type 0
 
 -- the text of a level: what is signed of it, and its nodes
 abbrev pub level_text : KeptLevel → List ℕ
-level_text level = level.signed.items ++ flat_map (λ node. node) level.tree.upper ++ flat_map (λ node. node) level.tree.lower
+level_text level =
+    level.signed.items ++ flat_map (λ node. node) level.tree.upper
+    ++ flat_map (λ node. node) level.tree.lower
 
 -- its bytes
 abbrev pub level_length : HssKey → ℕ → ℕ
-level_length key k = signed_length key k + hash_length * (nodes_in (upper_rows (level key k).lms.h) + nodes_in (subtree_rows (level key k).lms.h 0))
+level_length key k =
+    signed_length key k + hash_length *
+    (nodes_in (upper_rows (level key k).lms.h) + nodes_in (subtree_rows (level key k).lms.h 0))
 
 -- the first bytes of each text of kept nodes: a word, the version, and the index
 abbrev pub nodes_word : ℕ
@@ -152,15 +176,19 @@ abbrev pub nodes_version : ℕ
 nodes_version = 1
 
 abbrev pub nodes_header : ℕ → List ℕ
-nodes_header at = u32str nodes_word ++ u32str nodes_version ++ u32str (at / 2 ^ 32) ++ u32str (at % 2 ^ 32)
+nodes_header at =
+    u32str nodes_word ++ u32str nodes_version ++ u32str (at / 2 ^ 32) ++ u32str (at % 2 ^ 32)
 
 -- the typecodes of all levels, as in a state image
 abbrev pub sets_text : List Level → List ℕ
-sets_text levels = u32str (length levels) ++ flat_map (λ (l : Level). u32str l.lms.code ++ u32str l.ots.code) levels
+sets_text levels =
+    u32str (length levels)
+    ++ flat_map (λ (l : Level). u32str l.lms.code ++ u32str l.ots.code) levels
 
 -- the value that shows whose nodes these are, and that they are whole
 abbrev pub check_of : HssKey → List ℕ → List ℕ
-check_of key body = sha256 (derived (tree_at key 0 0) 0 for_nodes ++ sha256 (sets_text key.levels ++ body))
+check_of key body =
+    sha256 (derived (tree_at key 0 0) 0 for_nodes ++ sha256 (sets_text key.levels ++ body))
 
 -- what it is the check value of
 abbrev pub body_text : Way → List ℕ

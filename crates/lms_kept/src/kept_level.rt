@@ -10,13 +10,14 @@ ghost use Rattle.lms_tree.specs.TreeKey.{tree_of, signature_length_under};
 ghost use Rattle.lms_kept.specs.Ways.{IsKeptChild, IsMoved, level_text};
 
 use lms_hss::{LMS_KEY_LEN, randomizer};
-use lms_params::{OutOfMemory, lms_sig_len};
+use lms_params::{HASH_LEN, OutOfMemory, lms_sig_len};
 use lms_tree::{BandTree, Begun, KeptTree, Progress, TreeKey, bottom_height};
 use std::alloc::Global;
 use std::thread::Threads;
 
-/// A tree that serves the leaves of one of its bottom subtrees, with nodes that were given, and, given, too, the signature of its public key by the
-/// tree above, and that key. Of a top tree nothing is signed.
+/// A tree that serves the leaves of one of its bottom subtrees, with nodes that were given.
+/// `signed` was given, too: the signature of the tree's public key by the tree above, and that key.
+/// It is empty for a top tree.
 #[derive(Drop)]
 pub(crate) struct KeptLevel {
     pub(crate) tree: KeptTree,
@@ -24,7 +25,7 @@ pub(crate) struct KeptLevel {
 }
 
 impl KeptLevel {
-    /// A top tree, which no level signs, worked out. It serves this leaf.
+    /// Computes a top tree, which no level signs. It serves this leaf.
     pub(crate) fn top(
         rt: &(impl Threads + Sync),
         alloc: Global,
@@ -44,8 +45,8 @@ impl KeptLevel {
         Ok(KeptLevel { tree, signed })
     }
 
-    /// The tree of this key, which stands below leaf q. It is worked out and serves leaf `below`, and leaf q, which must be served, signs its public
-    /// key.
+    /// Computes the tree of this key below leaf q, which must be served and signs its public key.
+    /// The new tree serves leaf `below`.
     pub(crate) fn child(
         &self,
         rt: &(impl Threads + Sync),
@@ -66,8 +67,8 @@ impl KeptLevel {
         Ok(KeptLevel { tree, signed })
     }
 
-    /// Goes on to leaf q of its tree. `None` where the node that was given for the root of the bottom subtree there isn't the one that is
-    /// worked out.
+    /// Moves to leaf q of its tree. `None` where the root of the bottom subtree there is computed
+    /// and is not the node that was given for it.
     pub(crate) fn moved_to(
         self,
         rt: &(impl Threads + Sync),
@@ -91,11 +92,12 @@ impl KeptLevel {
         }
     }
 
-    /// How many leaves are worked out where it goes on to leaf q.
+    /// How many leaves a move to leaf q computes.
     pub(crate) fn leaves_to(&self, q: u32) -> u64
         ensures served { ServesLeaf self.now.tree q → result ≡ 0 }
         ensures limit { result ≤ 2 ^ tallest_subtree }
-        ensures other { ¬ ServesLeaf self.now.tree q → result ≡ 2 ^ bottom_height_of (tree_of self.now.tree.key).lms.h }
+        ensures other { ¬ ServesLeaf self.now.tree q
+            → result ≡ 2 ^ bottom_height_of (tree_of self.now.tree.key).lms.h }
     {
         let height = bottom_height(self.tree.key().lms);
         if self.tree.subtree() == q >> height {
@@ -115,8 +117,9 @@ impl KeptLevel {
         Ok(())
     }
 
-    /// A level that serves leaf q of a tree, of which so many bytes are signed, at the front of a text, and the rest of that. `None` where the text
-    /// is shorter.
+    /// Reads a level that serves leaf q of a tree, of which `signed` bytes are signed, from the
+    /// front of `text`. The second part of the result is the rest. `None` where `text` is too
+    /// short.
     pub(crate) fn split<'a>(
         alloc: Global,
         key: TreeKey,
@@ -128,10 +131,13 @@ impl KeptLevel {
         ensures key { IfOk result (λ split. IfSome split (λ s. s.0.tree.key ≡ key)) }
         ensures served { IfOk result (λ split. IfSome split (λ s. ServesLeaf s.0.tree q)) }
         ensures shape { IfOk result (λ split. IfSome split (λ s. HasShape s.0.tree)) }
-        ensures signed { IfOk result (λ split. IfSome split (λ s. length s.0.signed.items ≡ signed)) }
-        ensures text { IfOk result (λ split. IfSome split (λ s. text.now ≡ level_text s.0 ++ s.1.now)) }
+        ensures signed { IfOk result (λ split.
+            IfSome split (λ s. length s.0.signed.items ≡ signed)) }
+        ensures text { IfOk result (λ split.
+            IfSome split (λ s. text.now ≡ level_text s.0 ++ s.1.now)) }
         ensures none { IfOk result (λ split. IfNone split (length text.now
-            < signed + 32 * (nodes_in (upper_rows (tree_of key).lms.h) + nodes_in (subtree_rows (tree_of key).lms.h 0)))) }
+            < signed + 32 * (nodes_in (upper_rows (tree_of key).lms.h)
+            + nodes_in (subtree_rows (tree_of key).lms.h 0)))) }
     {
         let (in_upper, in_lower) = KeptTree::counts(key.lms);
         let Some((signed, rest)) = text.split_at_checked(signed) else {
@@ -156,14 +162,15 @@ impl KeptLevel {
     pub(crate) fn append_signature(
         &self,
         q: u32,
-        c: &[u8; 32],
+        c: &[u8; HASH_LEN],
         msg: &[u8],
         text: &mut Vec<u8>,
     ) -> Result<(), OutOfMemory>
         requires { ServesLeaf self.now.tree q }
         ensures { OnOk result ((signature : List ℕ) × (text.new.items ≡ text.old.items ++ signature)
             × IsSignatureAlong (tree_of self.now.tree.key) q c.now msg.now signature
-            × (AreNodes self.now.tree → signature ≡ lms_signature (tree_of self.now.tree.key) q c.now msg.now)) }
+            × (AreNodes self.now.tree
+            → signature ≡ lms_signature (tree_of self.now.tree.key) q c.now msg.now)) }
     {
         let key = self.tree.key();
         let start = text.len();
@@ -173,12 +180,14 @@ impl KeptLevel {
     }
 
     /// Writes the LMS signature of a public key by leaf q, and that key.
-    fn sign_key_into(&self, q: u32, c: &[u8; 32], public: &[u8; LMS_KEY_LEN], out: &mut [u8])
+    fn sign_key_into(&self, q: u32, c: &[u8; HASH_LEN], public: &[u8; LMS_KEY_LEN], out: &mut [u8])
         requires served { ServesLeaf self.now.tree q }
-        requires room { length out.old ≡ signature_length_under self.now.tree.key + lms_public_key_length }
+        requires room { length out.old
+            ≡ signature_length_under self.now.tree.key + lms_public_key_length }
         ensures { (signature : List ℕ) × (out.new ≡ signature ++ public.now)
             × IsSignatureAlong (tree_of self.now.tree.key) q c.now public.now signature
-            × (AreNodes self.now.tree → signature ≡ lms_signature (tree_of self.now.tree.key) q c.now public.now) }
+            × (AreNodes self.now.tree
+            → signature ≡ lms_signature (tree_of self.now.tree.key) q c.now public.now) }
     {
         let signed = out.len() - LMS_KEY_LEN;
         self.tree.sign_into(q, c, public, &mut out[..signed]);
@@ -186,7 +195,7 @@ impl KeptLevel {
     }
 }
 
-/// What serves a leaf of a tree, worked out.
+/// Computes the nodes that serve a leaf of a tree.
 fn worked_out(
     rt: &(impl Threads + Sync),
     alloc: Global,
@@ -204,8 +213,9 @@ fn worked_out(
     Ok(tree.into_kept())
 }
 
-/// So many values of 32 bytes at the front of a text, and the rest of that. `None` where the text is shorter.
-fn split_nodes(text: &[u8], count: usize) -> Option<(&[[u8; 32]], &[u8])>
+/// Cuts so many values of 32 bytes off the front of `text`. The second part of the result is the
+/// rest. `None` where `text` is too short.
+fn split_nodes(text: &[u8], count: usize) -> Option<(&[[u8; HASH_LEN]], &[u8])>
     ensures some { IfSome result (λ r. text.now ≡ flat_map (λ x. x) r.0.now ++ r.1.now) }
     ensures count { IfSome result (λ r. length r.0.now ≡ count) }
     ensures rest { IfSome result (λ r. length r.1.now + 32 * count ≡ length text.now) }
@@ -213,6 +223,6 @@ fn split_nodes(text: &[u8], count: usize) -> Option<(&[[u8; 32]], &[u8])>
 {
     let length = count.checked_mul(32)?;
     let (nodes, rest) = text.split_at_checked(length)?;
-    let (nodes, _) = nodes.as_chunks::<32>();
+    let (nodes, _) = nodes.as_chunks::<HASH_LEN>();
     Some((nodes, rest))
 }

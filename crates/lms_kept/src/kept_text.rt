@@ -1,4 +1,4 @@
-//! The text of kept nodes: what it begins with, and the value that it ends with.
+//! The bytes of kept nodes: their header, and the check value at their end.
 ghost use Rattle.std.specs.Prelude.{ℕ, ◌≡◌, ◌^◌, ◌<◌, ◌≤◌, ◌++◌, List, length, IfOk, IfSome, IfNone};
 ghost use Rattle.sha2.specs.Hashers.{Holds256};
 ghost use Rattle.lms_spec.specs.Bytes.{u32str};
@@ -8,11 +8,11 @@ ghost use Rattle.lms_hss.specs.Levels.{levels_of};
 ghost use Rattle.lms_kept.specs.Ways.{check_of, nodes_header, sets_text};
 
 use lms_hss::{HssKey, nodes_secret};
-use lms_params::{LmsType, OtsType, OutOfMemory, split_u32};
+use lms_params::{HASH_LEN, LmsType, OtsType, OutOfMemory, split_u32};
 use sha2::{Digest, Sha256};
 use std::alloc::Global;
 
-/// In bytes: no key's text is longer.
+/// The most bytes that are kept of any key.
 pub const MOST_TEXT_LEN: usize = 0x60_0000;
 
 /// The first four bytes, `HSSN`.
@@ -21,13 +21,13 @@ const WORD: u32 = 0x4853_534e;
 /// The next four.
 const VERSION: u32 = 1;
 
-/// The bytes of what a text begins with.
+/// The length of the header.
 pub(crate) const HEADER_LEN: usize = 16;
 
-/// The bytes of the check value that it ends with.
+/// The length of the check value.
 pub(crate) const CHECK_LEN: usize = 32;
 
-/// What a text begins with: a word, the version, and the two halves of an index.
+/// The header: a word, the version, and the two halves of an index.
 #[derive(Clone, Copy)]
 struct Numbers {
     word: u32,
@@ -36,7 +36,7 @@ struct Numbers {
     low: u32,
 }
 
-/// What the text of an index's way begins with, `HEADER_LEN` bytes, and room for so many in all.
+/// The header for an index, `HEADER_LEN` bytes, with memory for `room` bytes in all.
 pub(crate) fn header(alloc: Global, at: u64, room: usize) -> Result<Vec<u8>, OutOfMemory>
     ensures { IfOk result (λ text. text.items ≡ nodes_header at) }
 {
@@ -48,8 +48,8 @@ pub(crate) fn header(alloc: Global, at: u64, room: usize) -> Result<Vec<u8>, Out
     Ok(text)
 }
 
-/// The check value of the text before it: with it, the typecodes of the key's levels are hashed.
-pub(crate) fn check_value(key: &HssKey, body: &[u8]) -> [u8; 32]
+/// The check value of the bytes before it. The typecodes of the key's levels are hashed with them.
+pub(crate) fn check_value(key: &HssKey, body: &[u8]) -> [u8; HASH_LEN]
     ensures { result ≡ check_of (hss_key_of key.now) body.now }
 {
     let mut text_hasher = hasher_of_sets(key.levels.as_slice());
@@ -60,7 +60,7 @@ pub(crate) fn check_value(key: &HssKey, body: &[u8]) -> [u8; 32]
     hasher.finalize()
 }
 
-/// A hasher that has the typecodes of these levels.
+/// A hasher that has taken the typecodes of these levels.
 fn hasher_of_sets(levels: &[(LmsType, OtsType)]) -> Sha256
     requires { length levels.now ≤ most_levels }
     ensures { Holds256 result (sets_text (levels_of levels.now)) }
@@ -74,21 +74,28 @@ fn hasher_of_sets(levels: &[(LmsType, OtsType)]) -> Sha256
     hasher
 }
 
-/// The index of a text that begins so and has the right check value, and what stands between both.
+/// The index in the header and what is between the header and the check value. `None` where either
+/// is wrong.
 pub(crate) fn checked_rest<'a>(key: &HssKey, text: &'a [u8]) -> Option<(u64, &'a [u8])>
-    ensures some { IfSome result (λ r. text.now ≡ (nodes_header r.0 ++ r.1.now) ++ check_of (hss_key_of key.now) (nodes_header r.0 ++ r.1.now)) }
+    ensures some { IfSome result (λ r.
+        text.now ≡ (nodes_header r.0 ++ r.1.now)
+        ++ check_of (hss_key_of key.now) (nodes_header r.0 ++ r.1.now)) }
     ensures fits { IfSome result (λ r. r.0 < 2 ^ 64) }
     ensures none { IfNone result ((at : ℕ) (rest : List ℕ) → at < 2 ^ 64
-        → ¬ (text.now ≡ (nodes_header at ++ rest) ++ check_of (hss_key_of key.now) (nodes_header at ++ rest))) }
+        → ¬
+        (text.now ≡ (nodes_header at ++ rest)
+        ++ check_of (hss_key_of key.now) (nodes_header at ++ rest))) }
 {
     let body = checked_body(key, text)?;
     split_header(body)
 }
 
-/// What stands before the right check value.
+/// What is before the check value. `None` where that is wrong.
 fn checked_body<'a>(key: &HssKey, text: &'a [u8]) -> Option<&'a [u8]>
-    ensures some { IfSome result (λ body. text.now ≡ body.now ++ check_of (hss_key_of key.now) body.now) }
-    ensures none { IfNone result ((body : List ℕ) → ¬ (text.now ≡ body ++ check_of (hss_key_of key.now) body)) }
+    ensures some { IfSome result (λ body.
+        text.now ≡ body.now ++ check_of (hss_key_of key.now) body.now) }
+    ensures none { IfNone result
+        ((body : List ℕ) → ¬ (text.now ≡ body ++ check_of (hss_key_of key.now) body)) }
 {
     let (body, check) = text.split_at_checked(text.len().checked_sub(CHECK_LEN)?)?;
     if check == check_value(key, body).as_slice() {
@@ -98,11 +105,12 @@ fn checked_body<'a>(key: &HssKey, text: &'a [u8]) -> Option<&'a [u8]>
     }
 }
 
-/// The index that the first bytes say, and what stands after them.
+/// The index in the header, and what is after it. `None` where there is no such header.
 fn split_header(body: &[u8]) -> Option<(u64, &[u8])>
     ensures some { IfSome result (λ r. body.now ≡ nodes_header r.0 ++ r.1.now) }
     ensures fits { IfSome result (λ r. r.0 < 2 ^ 64) }
-    ensures none { IfNone result ((at : ℕ) (rest : List ℕ) → at < 2 ^ 64 → ¬ (body.now ≡ nodes_header at ++ rest)) }
+    ensures none { IfNone result
+        ((at : ℕ) (rest : List ℕ) → at < 2 ^ 64 → ¬ (body.now ≡ nodes_header at ++ rest)) }
 {
     let (numbers, rest) = split_numbers(body)?;
     if numbers.word != WORD {
@@ -115,9 +123,12 @@ fn split_header(body: &[u8]) -> Option<(u64, &[u8])>
     Some((at, rest))
 }
 
-/// The numbers of four bytes each that a text begins with, and what stands after them. `None` where it is shorter.
+/// The four numbers of the header, and what is after them. `None` where there are fewer than 16
+/// bytes.
 fn split_numbers(text: &[u8]) -> Option<(Numbers, &[u8])>
-    ensures some { IfSome result (λ r. text.now ≡ u32str r.0.word ++ (u32str r.0.version ++ (u32str r.0.high ++ (u32str r.0.low ++ r.1.now)))) }
+    ensures some { IfSome result (λ r.
+        text.now ≡ u32str r.0.word
+        ++ (u32str r.0.version ++ (u32str r.0.high ++ (u32str r.0.low ++ r.1.now)))) }
     ensures high { IfSome result (λ r. r.0.high < 2 ^ 32) }
     ensures low { IfSome result (λ r. r.0.low < 2 ^ 32) }
     ensures none { IfNone result (length text.now < 16) }

@@ -1,4 +1,4 @@
-//! The trees on the way of an index, with nodes that were given.
+//! The trees that an index goes through, with nodes that were given.
 ghost use Rattle.std.specs.Prelude.{ℕ, ◌≡◌, ◌+◌, ◌-◌, ◌*◌, ◌^◌, ◌<◌, ◌≤◌, ◌↔◌, ◌++◌, length, slice_index_or, IsTrue, IfOk, IfSome, IfNone};
 ghost use Rattle.std.specs.List.{flat_map};
 ghost use Rattle.lms_spec.specs.Bytes.{u32str};
@@ -11,17 +11,18 @@ ghost use Rattle.lms_kept.specs.declared.kept_level.KeptLevel.{KeptLevel as Leve
 use crate::kept_level::KeptLevel;
 use crate::kept_text::{CHECK_LEN, HEADER_LEN, check_value, checked_rest, header};
 use crate::levels::{leaves_from, level_len, shared_levels, signed_len};
-use lms_hss::{HssKey, Progress, public_key_bytes, verify};
-use lms_params::OutOfMemory;
+use lms_hss::{HSS_KEY_LEN, HssKey, Progress, public_key_bytes, verify};
+use lms_params::{HASH_LEN, OutOfMemory};
 use lms_tree::{Begun, bottom_height};
 use std::alloc::Global;
 use std::marker::Model;
 use std::thread::Threads;
 
-/// Of each level from the top the tree that an index goes through, with the nodes that serve the leaves of one of its bottom subtrees, and
-/// what is signed of it by the level above. Where they were read from a text, its check value was right; whether the nodes are is not known.
-/// An upper level signs the public key of a tree only where that tree was worked out. Contracts see the key, the index and all that was
-/// given.
+/// For each level from the top, the tree that an index goes through, with the nodes that serve the
+/// leaves of one of its bottom subtrees, and what the level above signed of it. Where they were
+/// read, their check value was right; whether the nodes are is not known. An upper level signs the
+/// public key of a tree only where that tree was computed. Contracts see the key, the index and all
+/// that was given.
 #[derive(Drop)]
 pub struct KeptTrees {
     key: HssKey,
@@ -40,8 +41,8 @@ impl Model for KeptTrees {
 }
 
 impl KeptTrees {
-    /// Works out the top tree alone, on the way of the first index, as for a new key, whose public key needs it. `progress` is told how
-    /// many leaves are worked out. `OutOfMemory` where memory is refused.
+    /// Computes only the top tree, for the first index: a new key needs it for its public key. Its
+    /// leaves are reported to `progress`. `OutOfMemory` where memory is refused.
     pub fn top(
         rt: &(impl Threads + Sync),
         alloc: Global,
@@ -59,8 +60,8 @@ impl KeptTrees {
         KeptTrees::top_of(rt, alloc, key, 0, &begun)
     }
 
-    /// Works out the trees on the way of an index, level by level from the top, and tells `progress` how many leaves of all these trees.
-    /// `OutOfMemory` where memory is refused.
+    /// Computes the trees that an index goes through, level by level from the top. The leaves of
+    /// all these trees are reported to `progress`. `OutOfMemory` where memory is refused.
     pub fn work_out(
         rt: &(impl Threads + Sync),
         alloc: Global,
@@ -79,7 +80,7 @@ impl KeptTrees {
         KeptTrees::top_of(rt, alloc, key, at, &begun)?.completed(rt, alloc, &begun)
     }
 
-    /// Whether all levels are there, and index g is signed by the nodes that are there.
+    /// Whether all levels are there and their nodes sign index g.
     pub fn serves(&self, g: u64) -> bool
         ensures { IsTrue result ↔ Serves self.now g }
     {
@@ -89,10 +90,12 @@ impl KeptTrees {
         self.levels.len() == levels.len() && g >> height == self.at >> height
     }
 
-    /// Goes on to the way of index g. It works out a bottom subtree of the lowest tree held that index g goes through, too, where that tree
-    /// serves another one, and all trees below it. The public key of each of these is signed by the tree above it; what is signed of the
-    /// others stays as it was given. `progress` is told how many leaves are worked out. `None` where the node that was given for the root of
-    /// that bottom subtree is another one; `OutOfMemory` where memory is refused.
+    /// Moves to the trees that index g goes through. The lowest tree held that index g goes through
+    /// gets the nodes of the bottom subtree of g, if it has another one's, and all trees below it
+    /// are computed. The public key of each of these is signed by the tree above it; what is signed
+    /// of the others stays as it was given. The leaves that are computed are reported to
+    /// `progress`. `None` where the root of that bottom subtree is not the node that was given for
+    /// it; `OutOfMemory` where memory is refused.
     pub fn moved_to(
         self,
         rt: &(impl Threads + Sync),
@@ -106,7 +109,8 @@ impl KeptTrees {
         ensures serves { IfOk result (λ moved. IfSome moved (λ trees. Serves trees g)) }
         ensures way { IfOk result (λ moved. IfSome moved IsWay) }
         ensures signs { IfOk result (λ moved. IfSome moved (SignsNoOther self)) }
-        ensures genuine { IfOk result (λ moved. IfSome moved (λ trees. AreGenuine self → AreGenuine trees)) }
+        ensures genuine { IfOk result (λ moved.
+            IfSome moved (λ trees. AreGenuine self → AreGenuine trees)) }
         ensures refused { IfOk result (λ moved. IfNone moved (¬ AreGenuine self)) }
     {
         let KeptTrees {
@@ -130,19 +134,21 @@ impl KeptTrees {
         Ok(Some(trees.completed(rt, alloc, &begun)?))
     }
 
-    /// The signature of a message by index g, which must be served, under the randomizer `c` (RFC 8554, 6.2), where it is accepted under
-    /// the key's public key as `public` has it. `None` where it isn't, which comes only where what was given is not right. In any case the
-    /// one-time signature of the message is RFC 8554's. Each index must sign one message only, which nothing here checks. `OutOfMemory`
-    /// where memory for the signature is refused.
+    /// The signature of a message by index g, which must be served, under the randomizer `c` (RFC
+    /// 8554, 6.2), if it is accepted under the public key that `public` gives. `None` if it is not,
+    /// which comes only where something given is wrong. In any case the one-time signature of the
+    /// message is RFC 8554's. Each index must sign one message only, which is not checked here.
+    /// `OutOfMemory` where memory for the signature is refused.
     pub fn sign(
         &self,
         alloc: Global,
         g: u64,
-        c: &[u8; 32],
+        c: &[u8; HASH_LEN],
         msg: &[u8],
     ) -> Result<Option<Vec<u8>>, OutOfMemory>
         requires { Serves self.now g }
-        ensures along { IfOk result (λ signed. IfSome signed (λ text. EndsAlong self.now g c.now msg.now text.items)) }
+        ensures along { IfOk result (λ signed.
+            IfSome signed (λ text. EndsAlong self.now g c.now msg.now text.items)) }
         ensures signature { IfOk result (λ signed. IfSome signed (λ text. AreGenuine self.now
             → text.items ≡ hss_signature (hss_key_of self.now.key) g c.now msg.now)) }
         ensures accepted { IfOk result (λ signed. IfSome signed (λ text. AreGenuine self.now
@@ -159,8 +165,8 @@ impl KeptTrees {
         }
     }
 
-    /// The public key over the node that was given for the root of the top tree, 60 bytes (RFC 8554, 6.1).
-    pub fn public(&self) -> [u8; 60]
+    /// The public key over the node that was given for the root of the top tree (RFC 8554, 6.1).
+    pub fn public(&self) -> [u8; HSS_KEY_LEN]
         ensures given { (other : LevelKept) → result ≡ public_of self.now other }
         ensures right { AreGenuine self.now → result ≡ hss_public_key (hss_key_of self.now.key) }
     {
@@ -168,7 +174,8 @@ impl KeptTrees {
         public_key_bytes(levels as u32, &self.level(0).tree.public_bytes())
     }
 
-    /// The text of a file that keeps all of this, of at most `MOST_TEXT_LEN` bytes. `OutOfMemory` where memory for it is refused.
+    /// The bytes of a file that keeps all of this, at most `MOST_TEXT_LEN`. `OutOfMemory` where
+    /// memory for them is refused.
     pub fn text(&self, alloc: Global) -> Result<Vec<u8>, OutOfMemory>
         ensures text { IfOk result (λ text. text.items ≡ nodes_text self.now) }
         ensures at_most { IfOk result (λ text. length text.items ≤ most_text_length) }
@@ -182,13 +189,15 @@ impl KeptTrees {
         Ok(text)
     }
 
-    /// What a text keeps for a key. `None` exactly where it is no text of that key's: of another version, of another key, too short or too
-    /// long, or changed. `OutOfMemory` where memory is refused.
+    /// Reads what `text` gave for a key. `None` exactly where the bytes are not of that key: of
+    /// another version or another key, too few, too many or changed. `OutOfMemory` where memory is
+    /// refused.
     pub fn read(alloc: Global, key: HssKey, text: &[u8]) -> Result<Option<Self>, OutOfMemory>
         ensures key { IfOk result (λ read. IfSome read (λ trees. trees.key ≡ key)) }
         ensures way { IfOk result (λ read. IfSome read IsWay) }
         ensures text { IfOk result (λ read. IfSome read (λ trees. text.now ≡ nodes_text trees)) }
-        ensures none { IfOk result (λ read. IfNone read ((way : Way) → IsWay way → way.key ≡ key → ¬ (text.now ≡ nodes_text way))) }
+        ensures none { IfOk result (λ read.
+            IfNone read ((way : Way) → IsWay way → way.key ≡ key → ¬ (text.now ≡ nodes_text way))) }
     {
         let capacity = key.capacity();
         let Some((at, rest)) = checked_rest(&key, text) else {
@@ -207,7 +216,7 @@ impl KeptTrees {
         Ok(Some(KeptTrees { key, at, levels }))
     }
 
-    /// The top tree alone, worked out, on the way of an index.
+    /// Computes only the top tree that an index goes through.
     fn top_of(
         rt: &(impl Threads + Sync),
         alloc: Global,
@@ -228,7 +237,9 @@ impl KeptTrees {
         Ok(KeptTrees { key, at, levels })
     }
 
-    /// Works out the levels that are not there, each below the one above it.
+    /// Computes the levels that are missing, each below the one above it. It requests the capacity
+    /// for the list of levels, which every caller has requested before any leaf; so this request is
+    /// not refused after leaves were computed.
     fn completed(
         self,
         rt: &(impl Threads + Sync),
@@ -241,7 +252,8 @@ impl KeptTrees {
         ensures way { IfOk result IsWay }
         ensures same { IfOk result (λ trees. (k : ℕ) (other : LevelKept) → k < length self.levels
             → slice_index_or trees.levels k other ≡ slice_index_or self.levels k other) }
-        ensures signs { IfOk result (λ trees. SignOwnKeys (hss_key_of self.key) self.at (length self.levels) trees.levels) }
+        ensures signs { IfOk result (λ trees.
+            SignOwnKeys (hss_key_of self.key) self.at (length self.levels) trees.levels) }
         ensures genuine { IfOk result (λ trees. AreGenuine self → AreGenuine trees) }
     {
         let KeptTrees {
@@ -270,13 +282,17 @@ impl KeptTrees {
         &self,
         alloc: Global,
         g: u64,
-        c: &[u8; 32],
+        c: &[u8; HASH_LEN],
         msg: &[u8],
     ) -> Result<Vec<u8>, OutOfMemory>
         requires { Serves self.now g }
         ensures along { IfOk result (λ text. EndsAlong self.now g c.now msg.now text.items) }
-        ensures signature { IfOk result (λ text. AreGenuine self.now → text.items ≡ hss_signature (hss_key_of self.now.key) g c.now msg.now) }
-        ensures accepted { IfOk result (λ text. AreGenuine self.now → HssAccepts (hss_public_key (hss_key_of self.now.key)) msg.now text.items) }
+        ensures signature { IfOk result (λ text.
+            AreGenuine self.now
+            → text.items ≡ hss_signature (hss_key_of self.now.key) g c.now msg.now) }
+        ensures accepted { IfOk result (λ text.
+            AreGenuine self.now
+            → HssAccepts (hss_public_key (hss_key_of self.now.key)) msg.now text.items) }
     {
         let bottom = self.key.levels.as_slice().len() - 1;
         let mut text = self.signed_keys(alloc)?;
@@ -285,9 +301,11 @@ impl KeptTrees {
         Ok(text)
     }
 
-    /// What stands before the signature of a message: how many public keys are signed, and what is signed of each level.
+    /// What is before the signature of a message: how many public keys are signed, and what is
+    /// signed of each level.
     fn signed_keys(&self, alloc: Global) -> Result<Vec<u8>, OutOfMemory>
-        ensures { IfOk result (λ text. text.items ≡ u32str (bottom_of self.now.key) ++ signed_keys_of self.now.levels) }
+        ensures { IfOk result (λ text.
+            text.items ≡ u32str (bottom_of self.now.key) ++ signed_keys_of self.now.levels) }
     {
         let signed_keys = self.key.levels.as_slice().len() as u32 - 1;
         let mut text = Vec::with_capacity(alloc, self.key.sig_len())?;
@@ -298,7 +316,7 @@ impl KeptTrees {
         Ok(text)
     }
 
-    /// The bytes of the text of a file that keeps all of this.
+    /// The length of what `text` gives.
     fn text_len(&self) -> usize
         ensures { result ≡ length (nodes_text self.now) }
     {
@@ -319,7 +337,8 @@ impl KeptTrees {
     }
 }
 
-/// As many levels as a text has, from the top on, on the way of an index, and what is left of the text.
+/// Reads as many levels of the trees that an index goes through as `text` has, from the top on. The
+/// second part of the result is the rest.
 fn split_levels<'a>(
     alloc: Global,
     key: &HssKey,

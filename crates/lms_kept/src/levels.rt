@@ -9,13 +9,14 @@ use lms_hss::{HssKey, LMS_KEY_LEN};
 use lms_params::{LmsType, OtsType, lms_sig_len};
 use lms_tree::KeptTree;
 
-/// Of how many levels, from the top on, two indices go through the same tree.
+/// For how many levels, from the top on, two indices go through the same tree.
 pub(crate) fn shared_levels(key: &HssKey, g: u64, h: u64) -> usize
     requires g { g < capacity_of (hss_key_of key.now) }
     requires h { h < capacity_of (hss_key_of key.now) }
     ensures some { 1 ≤ result }
     ensures at_most { result ≤ length key.now.levels }
-    ensures same { (k : ℕ) → k < result → tree_number (hss_key_of key.now) g k ≡ tree_number (hss_key_of key.now) h k }
+    ensures same { (k : ℕ) → k < result
+        → tree_number (hss_key_of key.now) g k ≡ tree_number (hss_key_of key.now) h k }
     ensures most { result < length key.now.levels
         → tree_number (hss_key_of key.now) g result ≢ tree_number (hss_key_of key.now) h result }
 {
@@ -49,7 +50,8 @@ fn leaves_of_levels(levels: &[(LmsType, OtsType)]) -> u64
     leaves
 }
 
-/// The bytes that are kept of what is signed of level k: the signature of its public key, and that key (RFC 8554, 6.2). None of the top level.
+/// The length of what is signed of level k: the signature of its public key, and that key (RFC
+/// 8554, 6.2). 0 for the top level.
 pub(crate) fn signed_len(key: &HssKey, k: usize) -> usize
     requires { k < length key.now.levels }
     ensures { result ≡ signed_length (hss_key_of key.now) k }
@@ -61,7 +63,7 @@ pub(crate) fn signed_len(key: &HssKey, k: usize) -> usize
     lms_sig_len(lms, ots) + LMS_KEY_LEN
 }
 
-/// The bytes of the text of level k.
+/// The length of what is kept of level k.
 pub(crate) fn level_len(key: &HssKey, k: usize) -> usize
     requires { k < length key.now.levels }
     ensures length { result ≡ level_length (hss_key_of key.now) k }

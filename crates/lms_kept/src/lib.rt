@@ -1,7 +1,9 @@
-//! The trees on the way of an index, with the nodes that sign by it, kept as a text, so that they need not be worked out again.
+//! The trees that an index goes through, with the nodes that sign by it. They are kept as bytes, so
+//! that they need not be computed again.
 //!
-//! Nodes of a tree never change. What was kept may be wrong where someone else wrote it: then signatures by it are refused at worst. No
-//! one-time key of an upper level signs what came from such a text.
+//! Nodes of a tree never change. Kept bytes may be wrong where someone else wrote them: at worst,
+//! signatures by them are refused. No one-time key of an upper level signs what came from such
+//! bytes.
 #![tactic(auto)]
 
 mod kept_level;

@@ -1,4 +1,4 @@
-//! A message signed by the nodes of a text, or by trees that are worked out.
+//! A message signed by kept nodes, or by trees that are computed.
 ghost use Rattle.std.specs.Prelude.{ℕ, ◌<◌, List, IfNone, IfOk, IfSome, Option, Some, option_map};
 ghost use Rattle.lms_spec.specs.Hss.{capacity_of};
 ghost use Rattle.lms_hss.specs.Keys.{hss_key_of};
@@ -6,36 +6,41 @@ ghost use Rattle.lms_kept.specs.Signed.{AreTreesOf, IsNotRight, IsSignedByText};
 
 use crate::kept_trees::KeptTrees;
 use lms_hss::{HssKey, Progress};
-use lms_params::OutOfMemory;
+use lms_params::{HASH_LEN, OutOfMemory};
 use std::alloc::Global;
 use std::thread::Threads;
 
-/// A signature of HSS, and the trees that made it, where the text that was given does not serve its index: they are to be kept in its place.
+/// An HSS signature. `trees` are those that made it, where the bytes that were given do not serve
+/// its index: they are to be kept instead.
 #[derive(Drop)]
 pub struct KeptSignature {
     pub signature: Vec<u8>,
     pub trees: Option<KeptTrees>,
 }
 
-/// Signs a message by an index of a key, under the randomizer `c` (RFC 8554, 6.2): by the nodes of a text, where it is one of the key's
-/// and what they sign is accepted under the root in it, and else, or without a text, by trees that are worked out. `progress` is told how many
-/// leaves are worked out, and a second time where the text's nodes turn out to be wrong.
+/// Signs a message by an index of a key, under the randomizer `c` (RFC 8554, 6.2). It signs by the
+/// nodes in `text`, if these are bytes of the key and the signature is accepted under the root in
+/// them. Else, or without `text`, it signs by trees that are computed. The leaves that are computed
+/// are reported to `progress`, and reported anew where the nodes in `text` turn out to be wrong.
 ///
-/// Whatever stands in the text, the one-time signature of the message is RFC 8554's, and no one-time key of an upper level signs what came
-/// from there. Each index must sign one message only, which nothing here checks. `OutOfMemory` where memory is refused, also that for the nodes of
-/// the text.
+/// Whatever `text` has, the one-time signature of the message is RFC 8554's, and no one-time key of
+/// an upper level signs what came from there. Each index must sign one message only, which is not
+/// checked here. `OutOfMemory` where memory is refused, also for the nodes of `text`.
 pub fn sign_by_text(
     rt: &(impl Threads + Sync),
     alloc: Global,
     key: HssKey,
     index: u64,
-    c: &[u8; 32],
+    c: &[u8; HASH_LEN],
     msg: &[u8],
     text: Option<&[u8]>,
     progress: &impl Progress,
 ) -> Result<KeptSignature, OutOfMemory>
     requires { index < capacity_of (hss_key_of key) }
-    ensures { IfOk result (λ s. IsSignedByText (option_map (λ text. text.now) text.entry) key index c.now msg.now s.signature.items s.trees) }
+    ensures { IfOk result (λ s.
+        IsSignedByText
+        (option_map (λ text. text.now) text.entry) key index c.now msg.now s.signature.items
+        s.trees) }
 {
     let Some(text) = text else {
         return sign_anew(rt, alloc, key, index, c, msg, progress);
@@ -46,22 +51,24 @@ pub fn sign_by_text(
     }
 }
 
-/// Signs a message by trees that are worked out.
+/// Signs a message by trees that are computed.
 fn sign_anew(
     rt: &(impl Threads + Sync),
     alloc: Global,
     key: HssKey,
     index: u64,
-    c: &[u8; 32],
+    c: &[u8; HASH_LEN],
     msg: &[u8],
     progress: &impl Progress,
 ) -> Result<KeptSignature, OutOfMemory>
     requires { index < capacity_of (hss_key_of key) }
-    ensures { IfOk result (λ s. (text : Option (List ℕ)) → IsNotRight text key → IsSignedByText text key index c.now msg.now s.signature.items s.trees) }
+    ensures { IfOk result (λ s.
+        (text : Option (List ℕ)) → IsNotRight text key
+        → IsSignedByText text key index c.now msg.now s.signature.items s.trees) }
 {
     let trees = KeptTrees::work_out(rt, alloc, key, index, progress)?;
     let Some(signature) = trees.sign(alloc, index, c, msg)? else {
-        // Trees that were worked out sign what is accepted.
+        // Signatures by computed trees are accepted.
         unreachable!()
     };
     Ok(KeptSignature {
@@ -70,19 +77,22 @@ fn sign_anew(
     })
 }
 
-/// Signs a message by the nodes of a text. `None` where it is none of the key's, and where its nodes are not those of the key's trees.
+/// Signs a message by the nodes in `text`. `None` where it is of another key, or its nodes are not
+/// those of the key's trees.
 fn sign_by_nodes(
     rt: &(impl Threads + Sync),
     alloc: Global,
     key: &HssKey,
     index: u64,
-    c: &[u8; 32],
+    c: &[u8; HASH_LEN],
     msg: &[u8],
     text: &[u8],
     progress: &impl Progress,
 ) -> Result<Option<KeptSignature>, OutOfMemory>
     requires { index < capacity_of (hss_key_of key.now) }
-    ensures signed { IfOk result (λ signed. IfSome signed (λ s. IsSignedByText (Some text.now) key.now index c.now msg.now s.signature.items s.trees)) }
+    ensures signed { IfOk result (λ signed.
+        IfSome signed (λ s.
+        IsSignedByText (Some text.now) key.now index c.now msg.now s.signature.items s.trees)) }
     ensures none { IfOk result (λ signed. IfNone signed (IsNotRight (Some text.now) key.now)) }
 {
     let Some((trees, held)) = trees_of(rt, alloc, *key, index, text, progress)? else {
@@ -97,7 +107,7 @@ fn sign_by_nodes(
     }))
 }
 
-/// The trees of a text, moved on to an index, and whether they served it before.
+/// The trees of `text`, moved to an index, and whether they served it before.
 fn trees_of(
     rt: &(impl Threads + Sync),
     alloc: Global,
@@ -107,7 +117,8 @@ fn trees_of(
     progress: &impl Progress,
 ) -> Result<Option<(KeptTrees, bool)>, OutOfMemory>
     requires { index < capacity_of (hss_key_of key) }
-    ensures found { IfOk result (λ found. IfSome found (λ f. AreTreesOf text.now key index f.0 f.1)) }
+    ensures found { IfOk result (λ found.
+        IfSome found (λ f. AreTreesOf text.now key index f.0 f.1)) }
     ensures none { IfOk result (λ found. IfNone found (IsNotRight (Some text.now) key)) }
 {
     let Some(trees) = KeptTrees::read(alloc, key, text)? else {

@@ -4,11 +4,11 @@ ghost use Rattle.std.specs.Prelude.{◌≡◌, IfOk, IfSome};
 mod texts;
 mod wrong;
 
-use lms_hss::{Forest, HssKey, KeyFault, Levels, Progress, verify};
+use lms_fixtures::Sums;
+use lms_hss::{Forest, HssKey, KeyFault, Levels, verify};
 use lms_kept::{KeptSignature, KeptTrees, sign_by_text};
 use lms_params::{LmsType, OtsType, OutOfMemory};
 use std::process::Abort;
-use std::sync::atomic::{AtomicU64, Ordering};
 use std::test::Fail;
 use std::thread::Threads;
 
@@ -17,7 +17,7 @@ const RANDOMIZER: [u8; 32] = [0x33; 32];
 /// A level of 5/8.
 const LEVEL: (LmsType, OtsType) = (LmsType::H5, OtsType::W8);
 
-/// A level whose trees are worked out quickly.
+/// A level whose trees are computed quickly.
 const QUICK: (LmsType, OtsType) = (LmsType::H5, OtsType::W2);
 
 /// Three levels of different widths.
@@ -36,46 +36,6 @@ const TALL_ABOVE: [(LmsType, OtsType); 2] = [
 /// The key of these levels.
 fn key_of(levels: &[(LmsType, OtsType)]) -> Result<HssKey, KeyFault> {
     Ok(HssKey::new(Levels::new(levels)?, [0x11; 32], [0x22; 16]))
-}
-
-/// Counts the calls that begin, adds up what they are to work out and what is done, and counts those that begin in the midst of another one.
-#[derive(Drop)]
-struct Sums {
-    begun: AtomicU64,
-    to_do: AtomicU64,
-    done: AtomicU64,
-    in_between: AtomicU64,
-}
-
-impl Progress for Sums {
-    fn begin(&self, leaves: u64) {
-        self.begun.fetch_add(1, Ordering::SeqCst);
-        let before = self.to_do.fetch_add(leaves, Ordering::SeqCst);
-        if self.done.load(Ordering::SeqCst) != before {
-            self.in_between.fetch_add(1, Ordering::SeqCst);
-        }
-    }
-
-    fn done(&self, leaves: u64) {
-        self.done.fetch_add(leaves, Ordering::SeqCst);
-    }
-}
-
-fn no_sums() -> Sums {
-    Sums {
-        begun: AtomicU64::new(0),
-        to_do: AtomicU64::new(0),
-        done: AtomicU64::new(0),
-        in_between: AtomicU64::new(0),
-    }
-}
-
-/// So many calls began, each before its first leaf, and so many leaves were to be worked out by all, and were.
-fn check_sums(rt: &impl Abort, sums: &Sums, calls: u64, leaves: u64) {
-    assert_eq!(rt; sums.begun.load(Ordering::SeqCst), calls);
-    assert_eq!(rt; sums.in_between.load(Ordering::SeqCst), 0);
-    assert_eq!(rt; sums.to_do.load(Ordering::SeqCst), leaves);
-    assert_eq!(rt; sums.done.load(Ordering::SeqCst), leaves);
 }
 
 /// The trees of an index that a key has.
@@ -116,7 +76,7 @@ fn signed(
     Ok(trees.sign(rt.alloc(), g, &RANDOMIZER, b"abc")?)
 }
 
-/// The signature of `abc` by an index, from trees that are worked out for it alone.
+/// The signature of `abc` by an index, from trees that are computed for it alone.
 fn expected(
     rt: &(impl Abort + AllocGlobal + Threads + Sync),
     key: HssKey,
@@ -127,7 +87,7 @@ fn expected(
     Ok(forest.sign(g, &RANDOMIZER, b"abc")?)
 }
 
-/// An index is signed as by trees that are worked out for it alone.
+/// An index is signed as by trees that are computed for it alone.
 fn check_index(
     rt: &(impl Abort + AllocGlobal + Threads + Sync),
     key: HssKey,
@@ -150,7 +110,7 @@ fn check_next(
     let trees = if kept.serves(g) {
         kept
     } else {
-        moved(rt, key, kept, g, &no_sums())?.ok_or("right nodes")?
+        moved(rt, key, kept, g, &Sums::new())?.ok_or("right nodes")?
     };
     check_index(rt, key, &trees, g)?;
     Ok(trees.text(rt.alloc())?)
@@ -163,7 +123,7 @@ fn check_indices(
     indices: &[u64],
 ) -> Result<(), Fail> {
     let key = key_of(levels)?;
-    let mut text = work_out(rt, key, 0, &no_sums())?.text(rt.alloc())?;
+    let mut text = work_out(rt, key, 0, &Sums::new())?.text(rt.alloc())?;
     for g in indices {
         text = check_next(rt, key, &text, *g)?;
     }
@@ -213,9 +173,9 @@ fn signs_across_bottom_subtrees_above(rt: HostRuntime) -> Result<(), Fail> {
 #[test]
 fn begins_with_the_top_tree(rt: HostRuntime) -> Result<(), Fail> {
     let key = key_of(&THREE_LEVELS)?;
-    let sums = no_sums();
+    let sums = Sums::new();
     let top = KeptTrees::top(&rt, rt.alloc(), key, &sums)?;
-    check_sums(&rt, &sums, 1, 32);
+    assert!(rt; sums.are(1, 32));
     assert!(rt; top.public() == key.public_key(&rt, rt.alloc())?);
     assert!(rt; !top.serves(0));
     let text = top.text(rt.alloc())?;
@@ -224,7 +184,8 @@ fn begins_with_the_top_tree(rt: HostRuntime) -> Result<(), Fail> {
     Ok(())
 }
 
-/// A signature by an index of a key is that of trees which are worked out for it alone, and there are trees to be kept, or none.
+/// A signature by an index of a key is that of trees which are computed for it alone, and there are
+/// trees to be kept, or none.
 fn check_by_text(
     rt: &(impl Abort + AllocGlobal + Threads + Sync),
     key: HssKey,
@@ -241,14 +202,15 @@ fn check_by_text(
         &RANDOMIZER,
         b"abc",
         text,
-        &no_sums(),
+        &Sums::new(),
     )?;
     assert!(rt; signed.signature == expected(rt, key, g)?, "{g}");
     assert!(rt; signed.trees.is_some() == keeps, "{g}");
     Ok(signed)
 }
 
-/// By no text; by one that serves the index; by one that is moved on; by that of another key, and by one that is damaged.
+/// By no text; by one that serves the index; by one that is moved on; by that of another key, and
+/// by one that is damaged.
 #[test]
 fn signs_by_a_text_or_anew(rt: HostRuntime) -> Result<(), Fail> {
     let key = key_of(&[QUICK; 2])?;
@@ -265,49 +227,52 @@ fn signs_by_a_text_or_anew(rt: HostRuntime) -> Result<(), Fail> {
     Ok(())
 }
 
-/// Trees of two levels; the next bottom tree; one that is served already; the next bottom subtree of a tree of height 15, and the tree below it.
+/// Trees of two levels; the next bottom tree; one that is served already; the next bottom subtree
+/// of a tree of height 15, and the tree below it.
 #[test]
 fn tells_of_the_leaves_that_are_worked_out(rt: HostRuntime) -> Result<(), Fail> {
     let key = key_of(&[QUICK; 2])?;
-    let sums = no_sums();
+    let sums = Sums::new();
     let first = work_out(&rt, key, 0, &sums)?;
-    check_sums(&rt, &sums, 1, 64);
+    assert!(rt; sums.are(1, 64));
     let next = moved(&rt, key, first, 32, &sums)?.ok_or("right nodes")?;
-    check_sums(&rt, &sums, 2, 64 + 32);
+    assert!(rt; sums.are(2, 64 + 32));
     let same = moved(&rt, key, next, 63, &sums)?.ok_or("right nodes")?;
-    check_sums(&rt, &sums, 3, 64 + 32);
+    assert!(rt; sums.are(3, 64 + 32));
     drop(same);
     let tall = key_of(&TALL_ABOVE)?;
-    let below = no_sums();
+    let below = Sums::new();
     let start = work_out(&rt, tall, 0, &below)?;
     let there = moved(&rt, tall, start, 32768, &below)?.ok_or("right nodes")?;
     drop(there);
-    check_sums(&rt, &below, 2, 32768 + 32 + 1024 + 32);
+    assert!(rt; below.are(2, 32768 + 32 + 1024 + 32));
     Ok(())
 }
 
-/// All memory for a key of one level is asked for before the first leaf. `tests/refused` refuses each request of this test in turn.
+/// All memory for a key of one level is asked for before the first leaf. The merge check refuses
+/// each request in turn.
 #[test]
 fn no_leaf_is_worked_out_where_memory_is_refused(rt: HostRuntime) -> Result<(), Fail> {
     let key = key_of(&[QUICK])?;
     assert!(rt; key.capacity() == 32);
-    let sums = no_sums();
+    let sums = Sums::new();
     let done = match KeptTrees::work_out(&rt, rt.alloc(), key, 3, &sums) {
         Ok(_) => 32,
         Err(OutOfMemory) => 0,
     };
-    assert_eq!(rt; sums.done.load(Ordering::SeqCst), done);
+    assert_eq!(rt; sums.computed(), done);
     Ok(())
 }
 
-/// `rt test` refuses no memory, and `tests/refused` each request of a test in turn: where a call is refused, a second one works.
+/// The merge check refuses each request for memory in turn: where a call is refused, a second one
+/// works.
 #[test]
 fn signs_after_refused_memory(rt: HostRuntime) -> Result<(), Fail> {
     let key = key_of(&[(LmsType::H5, OtsType::W1); 2])?;
     assert!(rt; key.capacity() == 1024);
-    let trees = match KeptTrees::work_out(&rt, rt.alloc(), key, 31, &no_sums()) {
+    let trees = match KeptTrees::work_out(&rt, rt.alloc(), key, 31, &Sums::new()) {
         Ok(trees) => trees,
-        Err(OutOfMemory) => KeptTrees::work_out(&rt, rt.alloc(), key, 31, &no_sums())?,
+        Err(OutOfMemory) => KeptTrees::work_out(&rt, rt.alloc(), key, 31, &Sums::new())?,
     };
     let text = match trees.text(rt.alloc()) {
         Ok(text) => text,
@@ -318,9 +283,9 @@ fn signs_after_refused_memory(rt: HostRuntime) -> Result<(), Fail> {
         Err(OutOfMemory) => KeptTrees::read(rt.alloc(), key, &text)?,
     };
     let kept = kept.ok_or("a text of the key")?;
-    let next = match kept.moved_to(&rt, rt.alloc(), 32, &no_sums()) {
+    let next = match kept.moved_to(&rt, rt.alloc(), 32, &Sums::new()) {
         Ok(next) => next,
-        Err(OutOfMemory) => trees.moved_to(&rt, rt.alloc(), 32, &no_sums())?,
+        Err(OutOfMemory) => trees.moved_to(&rt, rt.alloc(), 32, &Sums::new())?,
     };
     let next = next.ok_or("right nodes")?;
     assert!(rt; next.serves(32));
@@ -328,9 +293,9 @@ fn signs_after_refused_memory(rt: HostRuntime) -> Result<(), Fail> {
         Ok(signature) => signature,
         Err(OutOfMemory) => next.sign(rt.alloc(), 32, &RANDOMIZER, b"abc")?,
     };
-    let top = match KeptTrees::top(&rt, rt.alloc(), key, &no_sums()) {
+    let top = match KeptTrees::top(&rt, rt.alloc(), key, &Sums::new()) {
         Ok(top) => top,
-        Err(OutOfMemory) => KeptTrees::top(&rt, rt.alloc(), key, &no_sums())?,
+        Err(OutOfMemory) => KeptTrees::top(&rt, rt.alloc(), key, &Sums::new())?,
     };
     let signature = signature.ok_or("an accepted signature")?;
     assert!(rt; verify(&top.public(), b"abc", &signature));
@@ -342,7 +307,7 @@ fn signs_after_refused_memory(rt: HostRuntime) -> Result<(), Fail> {
         &RANDOMIZER,
         b"abc",
         Some(&text),
-        &no_sums(),
+        &Sums::new(),
     ) {
         Ok(signed) => signed,
         Err(OutOfMemory) => sign_by_text(
@@ -353,7 +318,7 @@ fn signs_after_refused_memory(rt: HostRuntime) -> Result<(), Fail> {
             &RANDOMIZER,
             b"abc",
             Some(&text),
-            &no_sums(),
+            &Sums::new(),
         )?,
     };
     assert!(rt; by_text.signature == signature);

@@ -1,4 +1,4 @@
--- A hash over a text of a head of 22 bytes and values of 32, as it takes them in, two values a block.
+-- A hash over a head of 22 bytes and values of 32, block by block: two values a block.
 use Rattle.std.proofs.Common.{◌≡◌, ℕ, ◌+◌, ◌*◌, ◌/◌, ◌%◌, ◌-◌, ◌<◌, ◌≤◌, ◌^◌, List, [], ◌∷◌, ◌++◌, length, map, take, drop, replicate, refl, sym, ap, ap₂, ◌∙◌, arith, subst, length-append, length-drop, zero-add}
 use Rattle.std.proofs.lemmas.List.{drop-append-le, take_all, take_at, append_assoc, append-nil, length-take-le, drop_at, take-append-drop}
 use Rattle.std.proofs.lemmas.List.Folds.{concat-append}
@@ -10,7 +10,7 @@ use Rattle.sha2.proofs.Absorbing256.{hash_after-append, hash_after_next}
 use Rattle.lms_lanes.specs.Chains.{HasHead}
 use Rattle.lms_lanes.specs.Ends.{end_of, ends_text, padding_after_22, padding_after_54}
 
--- the hash value has taken in so many blocks of the text, and these words begin what is left of it
+-- the hash value is that after so many blocks, and these words are the bytes after them
 pub record IsAbsorbed (hash rest text : List ℕ) (blocks : ℕ) : Type 0 where
   pub long : length text ≡ 64 * blocks + 22
   pub taken : hash ≡ hash_after initial_hash_256 text blocks
@@ -61,7 +61,7 @@ long_number n fits =
     let d : n / 4294967296 % 256 ≡ 0 = omega (arith, fits) in
     λ i. a i ∷ b i ∷ c i ∷ d i ∷ to_be_bytes w32 n
 
--- the padding of a text that ends in 22 bytes of its last block, or in 54
+-- the padding of a last block with 22 bytes, or with 54
 padding-22 : (n bits : ℕ) → n % 64 ≡ 22 → bits ≡ n * 8 → bits < 2 ^ 32 → padding n ≡ padding_after_22 bits
 padding-22 n bits is count fits =
     let zeros : (119 - n % 64) % 64 ≡ 33 = omega (arith, is) in
@@ -74,7 +74,7 @@ padding-54 n bits is count fits =
     let whole : n * 8 % 2 ^ 64 ≡ bits = omega (arith, count, fits) in
     (λ i. 0x80 ∷ (replicate (zeros i) 0 ++ to_be_bytes w64 (whole i))) ∙ ap (λ (u : List ℕ). 0x80 ∷ (replicate 1 0 ++ u)) (long_number bits fits)
 
--- the digest, where the padding ends the block in which the text ends
+-- the digest, if the padding fits into the last block
 digest-end : (hash text pad last : List ℕ) (blocks : ℕ) → blocks * 64 ≤ length text → hash ≡ hash_after initial_hash_256 text blocks
     → length (drop (blocks * 64) text ++ pad) ≡ 64 → padding (length text) ≡ pad → last ≡ compress hash (drop (blocks * 64) text ++ pad)
     → digest_bytes last 8 ≡ sha256 text
@@ -87,7 +87,7 @@ digest-end hash text pad last blocks within is full same made =
     = (λ i. hash_after initial_hash_256 (text ++ same i) (length (text ++ same i) / 64)) ∙ ap (hash_after initial_hash_256 (text ++ pad)) long in
     ap (λ (h : List ℕ). digest_bytes h 8) (made ∙ next-block hash text pad (drop (blocks * 64) text ++ pad) blocks within is block ∙ sym whole)
 
--- the digest, where the text's last block has 22 bytes of it
+-- the digest, if the last block has 22 bytes
 pub IsAbsorbed-end : (hash rest text last : List ℕ) (blocks bits : ℕ) → IsAbsorbed hash rest text blocks → bits ≡ length text * 8 → bits < 2 ^ 32
     → last ≡ compress hash (drop (blocks * 64) text ++ padding_after_22 bits) → digest_bytes last 8 ≡ sha256 text
 IsAbsorbed-end hash rest text last blocks bits so_far count fits made =

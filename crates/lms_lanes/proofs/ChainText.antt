@@ -1,4 +1,4 @@
--- The words of a chain's hashed text.
+-- The words that a step of a chain hashes.
 use Rattle.std.proofs.Common.{◌≡◌, ℕ, ◌*◌, ◌/◌, ◌<◌, ◌^◌, List, [], ◌∷◌, ◌++◌, length, slice_index, sym, ap, ◌∙◌, arith}
 use Rattle.std.proofs.lemmas.Simd.{pick_l_whole}
 use Rattle.std.specs.Int.{from_be_bytes, to_be_bytes, w32}

@@ -29,7 +29,7 @@ EachLane-zip2 {v} {w} op x y = record {
 pub EachLane-splat : (word : ℕ) → EachLane (replicate 8 word) (λ _. word)
 EachLane-splat word = record { wide = length-replicate 8 word; lane = λ k lt. get_or-replicate 8 k word 0 lt }
 
--- the same lanes, said in another way
+-- the same lanes by another function
 pub EachLane-equal : {v : List ℕ} {f g : ℕ → ℕ} → EachLane v f → ((k : ℕ) → k < 8 → f k ≡ g k) → EachLane v g
 EachLane-equal x e = record { wide = x.wide; lane = λ k lt. x.lane k lt ∙ e k lt }
 

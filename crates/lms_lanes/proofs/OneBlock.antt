@@ -1,4 +1,4 @@
--- The digest of a text whose padding ends its first block.
+-- The digest of bytes that fit into one block with their padding.
 use Rattle.std.proofs.Common.{◌≡◌, ℕ, List, ◌++◌, length, refl, arith, length-append}
 use Rattle.std.proofs.lemmas.List.{take_all}
 use Rattle.sha2.specs.Sha256.{compress, digest_bytes, hash_after, initial_hash_256, sha256}

@@ -16,6 +16,8 @@ pub record AreVectors (count : ℕ) (vs : List (List ℕ)) : Type 0 where
 abbrev pub lane_of : List (List ℕ) → ℕ → List ℕ
 lane_of vs k = map (λ v. slice_index v k) vs
 
--- the four bytes of a text from a place on
+-- four bytes from a place on
 abbrev pub four_at : List ℕ → ℕ → List ℕ
-four_at text at = slice_index text at ∷ slice_index text (at + 1) ∷ slice_index text (at + 2) ∷ slice_index text (at + 3) ∷ []
+four_at text at =
+    slice_index text at ∷ slice_index text (at + 1) ∷ slice_index text (at + 2) ∷ slice_index text
+    (at + 3) ∷ []

@@ -1,4 +1,5 @@
-//! The block that a chain's step hashes, in each lane: a head of 22 bytes, a byte, the value before and the padding.
+//! The block that a chain's step hashes, in each lane: a head of 22 bytes, a byte, the value before
+//! and the padding.
 ghost use Rattle.std.specs.Prelude.{◌≡◌, ℕ, List, ◌+◌, ◌*◌, ◌/◌, ◌%◌, ◌^◌, ◌<◌, ◌∷◌, ◌++◌, slice_index};
 ghost use Rattle.sha2.specs.Sha256.{add32, digest_bytes, first_words};
 ghost use Rattle.lms_lanes.specs.Lanes.{AreVectors, EachLane, lane_of};
@@ -6,10 +7,10 @@ ghost use Rattle.lms_lanes.specs.Chains.{HasHead, ended_word, joined_word, short
 
 use std::simd::prelude::*;
 
-/// The bits of a hashed text, 55 bytes, which the last word of its padding counts (FIPS 180-4, 5.1.1).
+/// The bits that are hashed, 55 bytes: the last word of the padding (FIPS 180-4, 5.1.1).
 const TEXT_BITS: u32 = 440;
 
-/// The byte in which the padding begins: a bit 1 (5.1.1).
+/// The first byte of the padding: a bit 1 (5.1.1).
 const PADDING_START: u32 = 0x80;
 
 /// The words of the blocks of step `i`, whose byte is i more than `first`.
@@ -20,7 +21,10 @@ pub(crate) fn block_at(head: &[u32x8; 6], first: u32x8, i: u16, value: &[u32x8; 
     requires first { (k : ℕ) → k < 8 → slice_index first k < 2 ^ 16 }
     ensures vectors { AreVectors 16 result }
     ensures lanes { (k : ℕ) → k < 8 → (text : List ℕ) → HasHead (lane_of head.now k) text
-        → lane_of result k ≡ first_words ((text ++ (slice_index first k + i) % 256 ∷ digest_bytes (lane_of value.now k) 8) ++ short_padding) 16 }
+        → lane_of result k
+        ≡ first_words
+        ((text ++ (slice_index first k + i) % 256 ∷ digest_bytes (lane_of value.now k) 8)
+        ++ short_padding) 16 }
 {
     [
         head[0],
@@ -42,7 +46,7 @@ pub(crate) fn block_at(head: &[u32x8; 6], first: u32x8, i: u16, value: &[u32x8; 
     ]
 }
 
-// The byte of step `i`, where it stands in its word: the last but one.
+/// The byte of step `i` at its place in its word, the last but one.
 #[inline(always)]
 fn byte_at(first: u32x8, i: u16) -> u32x8
     requires { (k : ℕ) → k < 8 → slice_index first k < 2 ^ 16 }
@@ -51,17 +55,18 @@ fn byte_at(first: u32x8, i: u16) -> u32x8
     (first + u32x8::splat(u32::from(i))) << 24 >> 16
 }
 
-// Two bytes, a byte and the first of a word.
+/// Two bytes, a byte and the first of a word.
 #[inline(always)]
 fn opened(head: u32x8, byte: u32x8, x: u32x8) -> u32x8
-    ensures words { EachLane result (λ k. add32 (add32 (slice_index head k) (slice_index byte k)) (slice_index x k / 2 ^ 24)) }
+    ensures words { EachLane result (λ k.
+        add32 (add32 (slice_index head k) (slice_index byte k)) (slice_index x k / 2 ^ 24)) }
     ensures head_fits { (k : ℕ) → k < 8 → slice_index head k < 2 ^ 32 }
     ensures word_fits { (k : ℕ) → k < 8 → slice_index x k < 2 ^ 32 }
 {
     head + byte + (x >> 24)
 }
 
-// The last three bytes of a word and the first of the next.
+/// The last three bytes of a word and the first of the next.
 #[inline(always)]
 fn joined(x: u32x8, y: u32x8) -> u32x8
     ensures { EachLane result (λ k. joined_word (slice_index x k) (slice_index y k)) }
@@ -69,7 +74,7 @@ fn joined(x: u32x8, y: u32x8) -> u32x8
     (x << 8) + (y >> 24)
 }
 
-// The last three bytes of a word and the first of the padding.
+/// The last three bytes of a word and the first of the padding.
 #[inline(always)]
 fn ended(x: u32x8) -> u32x8
     ensures { EachLane result (λ k. ended_word (slice_index x k)) }

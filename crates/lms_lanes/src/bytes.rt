@@ -1,4 +1,4 @@
-//! Words in lanes from the bytes of eight texts, and back.
+//! Words in lanes from eight byte strings, and back.
 ghost use Rattle.std.specs.Prelude.{◌≡◌, ℕ, ◌+◌, ◌*◌, ◌<◌, ◌≤◌, ◌^◌, [], ◌∷◌, length, slice_index, slice_index_or};
 ghost use Rattle.std.specs.Int.{from_be_bytes, to_be_bytes, w32};
 ghost use Rattle.sha2.specs.Sha256.{digest_bytes, word_at};
@@ -6,11 +6,12 @@ ghost use Rattle.lms_lanes.specs.Lanes.{AreVectors, EachLane, four_at, lane_of};
 ghost use Rattle.lms_lanes.specs.Chains.{HasHead, half_word};
 ghost use Rattle.lms_lanes.specs.Ends.{HasFront};
 
+use crate::lengths::{DIGEST_LEN, FRONT_LEN, HEAD_LEN, LANES};
 use std::simd::prelude::*;
 
-/// The words of the heads, the last with room for two bytes.
+/// The words of the heads. The last two bytes of the last word are free.
 #[inline(always)]
-pub(crate) fn head_words(heads: &[[u8; 22]; 8]) -> [u32x8; 6]
+pub(crate) fn head_words(heads: &[[u8; HEAD_LEN]; LANES]) -> [u32x8; 6]
     ensures vectors { AreVectors 6 result }
     ensures lanes { (k : ℕ) → k < 8 → HasHead (lane_of result k) (slice_index_or heads.now k []) }
 {
@@ -26,7 +27,7 @@ pub(crate) fn head_words(heads: &[[u8; 22]; 8]) -> [u32x8; 6]
 
 /// The words of the fronts.
 #[inline(always)]
-pub(crate) fn front_words(fronts: &[[u8; 20]; 8]) -> [u32x8; 5]
+pub(crate) fn front_words(fronts: &[[u8; FRONT_LEN]; LANES]) -> [u32x8; 5]
     ensures vectors { AreVectors 5 result }
     ensures lanes { (k : ℕ) → k < 8 → HasFront (lane_of result k) (slice_index_or fronts.now k []) }
 {
@@ -41,9 +42,10 @@ pub(crate) fn front_words(fronts: &[[u8; 20]; 8]) -> [u32x8; 5]
 
 /// The words of the values.
 #[inline(always)]
-pub(crate) fn value_words(values: &[[u8; 32]; 8]) -> [u32x8; 8]
+pub(crate) fn value_words(values: &[[u8; DIGEST_LEN]; LANES]) -> [u32x8; 8]
     ensures vectors { AreVectors 8 result }
-    ensures lanes { (k : ℕ) → k < 8 → digest_bytes (lane_of result k) 8 ≡ slice_index_or values.now k [] }
+    ensures lanes { (k : ℕ) → k < 8
+        → digest_bytes (lane_of result k) 8 ≡ slice_index_or values.now k [] }
 {
     [
         words_at(values, 0),
@@ -57,20 +59,24 @@ pub(crate) fn value_words(values: &[[u8; 32]; 8]) -> [u32x8; 8]
     ]
 }
 
+/// The words at a place of each byte string.
 #[inline(always)]
-fn words_at<const M: usize>(texts: &[[u8; M]; 8], at: usize) -> u32x8
+fn words_at<const M: usize>(texts: &[[u8; M]; LANES], at: usize) -> u32x8
     requires { at + 4 ≤ M }
     ensures long { (k : ℕ) → k < 8 → length (slice_index_or texts.now k []) ≡ M }
     ensures words { EachLane result (λ k. word_at (slice_index_or texts.now k []) at) }
-    ensures bytes { (k : ℕ) → k < 8 → to_be_bytes w32 (word_at (slice_index_or texts.now k []) at) ≡ four_at (slice_index_or texts.now k []) at }
+    ensures bytes { (k : ℕ) → k < 8
+        → to_be_bytes w32 (word_at (slice_index_or texts.now k []) at)
+        ≡ four_at (slice_index_or texts.now k []) at }
 {
-    let mut words = [0u32; 8];
-    'lanes: for k in 0..8 {
+    let mut words = [0u32; LANES];
+    'lanes: for k in 0..LANES {
         words[k] = word_of(&texts[k], at);
     }
     u32x8::from_array(words)
 }
 
+/// The word at a place of a byte string.
 #[inline(always)]
 fn word_of<const M: usize>(text: &[u8; M], at: usize) -> u32
     requires { at + 4 ≤ M }
@@ -81,6 +87,7 @@ fn word_of<const M: usize>(text: &[u8; M], at: usize) -> u32
     word_from(text[at], text[at + 1], text[at + 2], text[at + 3])
 }
 
+/// The word of four bytes, the most significant first.
 #[inline(always)]
 fn word_from(a: u8, b: u8, c: u8, d: u8) -> u32
     ensures word { result ≡ from_be_bytes w32 (a ∷ b ∷ c ∷ d ∷ []) }
@@ -89,20 +96,21 @@ fn word_from(a: u8, b: u8, c: u8, d: u8) -> u32
     u32::from_be_bytes([a, b, c, d])
 }
 
-// The last two bytes of the heads.
+/// The words of the last two bytes of the heads.
 #[inline(always)]
-fn half_words(heads: &[[u8; 22]; 8]) -> u32x8
+fn half_words(heads: &[[u8; HEAD_LEN]; LANES]) -> u32x8
     ensures { EachLane result (λ k. half_word (slice_index_or heads.now k [])) }
 {
-    let mut words = [0u32; 8];
-    'lanes: for k in 0..8 {
+    let mut words = [0u32; LANES];
+    'lanes: for k in 0..LANES {
         words[k] = half_word_of(&heads[k]);
     }
     u32x8::from_array(words)
 }
 
+/// The word of the last two bytes of a head, and two free bytes.
 #[inline(always)]
-fn half_word_of(head: &[u8; 22]) -> u32
+fn half_word_of(head: &[u8; HEAD_LEN]) -> u32
     ensures { result ≡ half_word head.now }
 {
     u32::from_be_bytes([head[20], head[21], 0, 0])
@@ -110,12 +118,12 @@ fn half_word_of(head: &[u8; 22]) -> u32
 
 /// Numbers of 16 bits, each in its lane.
 #[inline(always)]
-pub(crate) fn widened(numbers: &[u16; 8]) -> u32x8
+pub(crate) fn widened(numbers: &[u16; LANES]) -> u32x8
     ensures lanes { EachLane result (slice_index numbers.now) }
     ensures small { (k : ℕ) → k < 8 → slice_index numbers.now k < 2 ^ 16 }
 {
-    let mut words = [0u32; 8];
-    'lanes: for k in 0..8 {
+    let mut words = [0u32; LANES];
+    'lanes: for k in 0..LANES {
         words[k] = u32::from(numbers[k]);
     }
     u32x8::from_array(words)
@@ -123,25 +131,27 @@ pub(crate) fn widened(numbers: &[u16; 8]) -> u32x8
 
 /// The bytes of the hash value in each lane.
 #[inline(always)]
-pub(crate) fn digests_of(hash: &[u32x8; 8]) -> [[u8; 32]; 8]
+pub(crate) fn digests_of(hash: &[u32x8; 8]) -> [[u8; DIGEST_LEN]; LANES]
     requires { AreVectors 8 hash.now }
     ensures long { length result ≡ 8 }
-    ensures digests { (k : ℕ) → k < 8 → slice_index_or result k [] ≡ digest_bytes (lane_of hash.now k) 8 }
+    ensures digests { (k : ℕ) → k < 8
+        → slice_index_or result k [] ≡ digest_bytes (lane_of hash.now k) 8 }
 {
-    let mut digests = [[0u8; 32]; 8];
-    'lanes: for k in 0..8 {
+    let mut digests = [[0u8; DIGEST_LEN]; LANES];
+    'lanes: for k in 0..LANES {
         digests[k] = digest_of(hash, k);
     }
     digests
 }
 
+/// The bytes of the hash value in one lane.
 #[inline(always)]
-fn digest_of(hash: &[u32x8; 8], lane: usize) -> [u8; 32]
+fn digest_of(hash: &[u32x8; 8], lane: usize) -> [u8; DIGEST_LEN]
     requires lane { lane < 8 }
     requires hash { AreVectors 8 hash.now }
     ensures { result ≡ digest_bytes (lane_of hash.now lane) 8 }
 {
-    let mut digest = [0u8; 32];
+    let mut digest = [0u8; DIGEST_LEN];
     'words: for i in 0..8 {
         digest[4 * i..4 * i + 4].copy_from_slice(&hash[i].to_array()[lane].to_be_bytes());
     }

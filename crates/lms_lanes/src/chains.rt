@@ -6,21 +6,24 @@ ghost use Rattle.lms_lanes.specs.Chains.{HasHead, walked};
 
 use crate::blocks::block_at;
 use crate::bytes::{digests_of, head_words, value_words, widened};
+use crate::lengths::{DIGEST_LEN, HEAD_LEN, LANES};
 use crate::rounds::{IN_STEPS, compress, initial};
 use std::simd::prelude::*;
 
-/// Takes eight chains each from its value by its own number of steps. A step hashes the chain's head, a byte and the value
-/// before, 55 bytes in all. The byte of a chain's first step is its number in `firsts`, of which the last eight bits
-/// count, and each further one is one more, with 0 after 255. All take as long as the one with most steps.
+/// Takes each of eight chains from its value by its own number of steps. A step hashes the chain's
+/// head, a byte and the value before, 55 bytes in all. The byte of a chain's first step is the last
+/// eight bits of its number in `firsts`. Each further byte is one more, with 0 after 255. The time
+/// is that of the chain with most steps.
 pub fn hash_chains(
-    heads: &[[u8; 22]; 8],
-    firsts: &[u16; 8],
-    steps: &[u16; 8],
-    values: &[[u8; 32]; 8],
-) -> [[u8; 32]; 8]
+    heads: &[[u8; HEAD_LEN]; LANES],
+    firsts: &[u16; LANES],
+    steps: &[u16; LANES],
+    values: &[[u8; DIGEST_LEN]; LANES],
+) -> [[u8; DIGEST_LEN]; LANES]
     ensures long { length result ≡ 8 }
     ensures values { (k : ℕ) → k < 8 → slice_index_or result k []
-        ≡ walked (slice_index_or heads.now k []) (slice_index firsts.now k) (slice_index steps.now k) (slice_index_or values.now k []) }
+        ≡ walked (slice_index_or heads.now k []) (slice_index firsts.now k)
+        (slice_index steps.now k) (slice_index_or values.now k []) }
 {
     let head = head_words(heads);
     let end = walk(
@@ -47,7 +50,9 @@ pub(crate) fn walk(
     requires most { (k : ℕ) → k < 8 → slice_index steps k ≤ most }
     ensures vectors { AreVectors 8 result }
     ensures lanes { (k : ℕ) → k < 8 → (text : List ℕ) → HasHead (lane_of head.now k) text
-        → digest_bytes (lane_of result k) 8 ≡ walked text (slice_index first k) (slice_index steps k) (digest_bytes (lane_of start.now k) 8) }
+        → digest_bytes (lane_of result k) 8
+        ≡ walked text (slice_index first k) (slice_index steps k)
+        (digest_bytes (lane_of start.now k) 8) }
 {
     let mut now = *start;
     'steps: for i in 0..most {
@@ -58,20 +63,20 @@ pub(crate) fn walk(
     now
 }
 
-// The greatest of eight numbers.
+/// The greatest of eight numbers.
 #[inline(always)]
-fn most(numbers: &[u16; 8]) -> u16
+fn most(numbers: &[u16; LANES]) -> u16
     ensures bound { (k : ℕ) → k < 8 → slice_index numbers.now k ≤ result }
     ensures least { (n : ℕ) → ((k : ℕ) → k < 8 → slice_index numbers.now k ≤ n) → result ≤ n }
 {
     let mut most = 0;
-    'lanes: for k in 0..8 {
+    'lanes: for k in 0..LANES {
         most = numbers[k].max(most);
     }
     most
 }
 
-// Step `i` in each lane.
+/// Step `i` in each lane.
 #[inline(always)]
 fn step(head: &[u32x8; 6], first: u32x8, i: u16, value: &[u32x8; 8]) -> [u32x8; 8]
     requires head { AreVectors 6 head.now }
@@ -79,19 +84,22 @@ fn step(head: &[u32x8; 6], first: u32x8, i: u16, value: &[u32x8; 8]) -> [u32x8; 
     requires first { (k : ℕ) → k < 8 → slice_index first k < 2 ^ 16 }
     ensures vectors { AreVectors 8 result }
     ensures lanes { (k : ℕ) → k < 8 → (text : List ℕ) → HasHead (lane_of head.now k) text
-        → digest_bytes (lane_of result k) 8 ≡ sha256 (text ++ (slice_index first k + i) % 256 ∷ digest_bytes (lane_of value.now k) 8) }
+        → digest_bytes (lane_of result k) 8
+        ≡ sha256 (text ++ (slice_index first k + i) % 256 ∷ digest_bytes (lane_of value.now k) 8) }
 {
     compress::<IN_STEPS>(initial(), block_at(head, first, i, value))
 }
 
-// `next` in the lanes that take more than `i` steps, `now` in the others.
+/// The value after step `i`: `next` in the lanes that take this step, `now` in the others.
 #[inline(always)]
 fn chosen(steps: u32x8, i: u16, next: &[u32x8; 8], now: &[u32x8; 8]) -> [u32x8; 8]
     requires next { AreVectors 8 next.now }
     requires now { AreVectors 8 now.now }
     ensures vectors { AreVectors 8 result }
-    ensures taken { (k : ℕ) → k < 8 → i < slice_index steps k → lane_of result k ≡ lane_of next.now k }
-    ensures left { (k : ℕ) → k < 8 → slice_index steps k ≤ i → lane_of result k ≡ lane_of now.now k }
+    ensures taken { (k : ℕ) → k < 8 → i < slice_index steps k
+        → lane_of result k ≡ lane_of next.now k }
+    ensures left { (k : ℕ) → k < 8 → slice_index steps k ≤ i
+        → lane_of result k ≡ lane_of now.now k }
 {
     [
         selected(steps, i, next[0], now[0]),
@@ -105,9 +113,11 @@ fn chosen(steps: u32x8, i: u16, next: &[u32x8; 8], now: &[u32x8; 8]) -> [u32x8; 
     ]
 }
 
+/// `next` in the lanes that take more than `i` steps, `now` in the others.
 #[inline(always)]
 fn selected(steps: u32x8, i: u16, next: u32x8, now: u32x8) -> u32x8
-    ensures { EachLane result (λ k. if nat_lt i (slice_index steps k) then slice_index next k else slice_index now k) }
+    ensures { EachLane result (λ k.
+        if nat_lt i (slice_index steps k) then slice_index next k else slice_index now k) }
 {
     u32x8::splat(u32::from(i)).simd_lt(steps).select(next, now)
 }

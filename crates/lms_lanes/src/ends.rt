@@ -8,6 +8,7 @@ ghost use Rattle.lms_lanes.specs.Ends.{HasFront, ends_text, end_of};
 use crate::bytes::{digests_of, front_words, value_words};
 use crate::chains::walk;
 use crate::halves::{head_of, last_block, last_block_with, pair_block, rest_of};
+use crate::lengths::{DIGEST_LEN, FRONT_LEN, LANES};
 use crate::rounds::{IN_ENDS, compress, initial};
 use std::simd::prelude::*;
 
@@ -17,24 +18,25 @@ const HEAD_BITS: u32 = 176;
 /// The bits of a chain's end.
 const VALUE_BITS: u32 = 256;
 
-/// The hashes over the chains of eight keys, key k in lane k. Each is the SHA-256 of the key's front, which is 20 bytes, of `mark`, two
-/// bytes that keep it apart from other hashes, and of the ends of the key's chains, number 0 to `chains - 1`. The head of a chain is
-/// the front and the chain's number. All chains of all keys go from `start` by `steps` steps, as in `hash_chains`, the first with the
-/// last eight bits of `first`.
+/// The hashes over the chains of eight keys, key k in lane k. Each is the SHA-256 of the key's
+/// front, 20 bytes, of `mark`, two bytes that keep it apart from other hashes, and of the ends of
+/// the key's chains, number 0 to `chains - 1`. The head of a chain is the front and the chain's
+/// number. All chains of all keys take `steps` steps from `start`, as in `hash_chains`. The byte of
+/// the first step is the last eight bits of `first`.
 pub fn hash_ends(
-    fronts: &[[u8; 20]; 8],
+    fronts: &[[u8; FRONT_LEN]; LANES],
     mark: u16,
     chains: u16,
     first: u16,
     steps: u16,
-    start: &[u8; 32],
-) -> [[u8; 32]; 8]
+    start: &[u8; DIGEST_LEN],
+) -> [[u8; DIGEST_LEN]; LANES]
     ensures long { length result ≡ 8 }
     ensures hashes { (k : ℕ) → k < 8 → slice_index_or result k []
         ≡ sha256 (ends_text (slice_index_or fronts.now k []) mark chains first steps start.now) }
 {
     let front = front_words(fronts);
-    let begin = value_words(&[*start; 8]);
+    let begin = value_words(&[*start; LANES]);
     let mut hash = initial();
     let mut rest = head_of(&front, mark);
     'pairs: for pair in 0..chains / 2 {
@@ -65,7 +67,8 @@ fn ends_of(
     requires start { AreVectors 8 start.now }
     ensures vectors { AreVectors 8 result }
     ensures lanes { (k : ℕ) → k < 8 → (text : List ℕ) → HasFront (lane_of front.now k) text
-        → digest_bytes (lane_of result k) 8 ≡ end_of text first steps (digest_bytes (lane_of start.now k) 8) number }
+        → digest_bytes (lane_of result k) 8
+        ≡ end_of text first steps (digest_bytes (lane_of start.now k) 8) number }
 {
     let head = head_of(front, number);
     walk(

@@ -3,13 +3,15 @@ use lms_lanes::{hash_chains, hash_ends};
 use sha2::{Digest, Sha256};
 use std::test::Fail;
 
-/// The bytes of the first steps of eight chains, of which the last eight bits count. Chain k has head k and value k.
+/// The bytes of the first steps of eight chains, of which the last eight bits count. Chain k has
+/// head k and value k.
 const FIRSTS: [u16; 8] = [7, 0, 255, 250, 128, 1, 255, 65535];
 
 /// How many steps each chain takes.
 const STEPS: [u16; 8] = [0, 1, 2, 15, 100, 255, 256, 300];
 
-/// Where each chain ends: digests of Python's hashlib, but for the chain without a step, which ends in its value.
+/// Where each chain ends: digests of Python's hashlib, but for the chain without a step, which ends
+/// in its value.
 const ENDS: [&str; 8] = [
     "000102030405060708090a0b0c0d0e0f101112131415161718191a1b1c1d1e1f",
     "e1e3419238801260afa92f90099b81574ba66c93ac9cda635b8f5adfba97090f",

@@ -41,7 +41,7 @@ no-lines : (lines : List (List ℕ)) → lines ++ lines_of [] ≡ lines
 unfolding lines_of
 no-lines lines = append-nil lines
 
--- where a line has begun, there is room for its job
+-- where a line has begun, its job still fits
 not-full : (g : Gathered) {done : List ℕ} → IsGatheredFrom done g → 0 < length g.line → length g.jobs < most_jobs
 not-full g was some =
     elim (eq-or-lt_of_le was.count) [

@@ -11,7 +11,7 @@ use Rattle.lms_lines.specs.declared.fault.JobsFault.{JobsFault}
 use Rattle.lms_lines.specs.declared.fault.JobsFault.TheVariants.{TooManyJobs, BadJob}
 use Rattle.lms_lines.proofs.Growth.{job-line-short, gathered-part, gathered-line, bad-long, bad-line, bad-last, too-many}
 
--- a `?` that hands on the same fault
+-- a `?` that forwards the same fault
 pub IfErr-same : {A E : Type 0} (P : E → Type 0) (r : Result A E) (fault : E) → IsErrAnd r (λ e. e ≡ fault) → P fault → IfErr r P
 IfErr-same P (Ok x) fault same p = tt
 IfErr-same P (Err e) fault same p = subst P (sym same) p

@@ -8,7 +8,7 @@ use Rattle.lms_lines.specs.declared.fault.JobsFault.{JobsFault}
 use Rattle.lms_lines.specs.declared.fault.JobsFault.TheVariants.{BadJob, OutOfMemory}
 use Rattle.lms_lines.specs.declared.gathering.Gathering.{Gathering}
 
--- no LF stands in these bytes
+-- no LF is in these bytes
 abbrev pub HasNoEnd : List ℕ → Type 0
 HasNoEnd [] = Unit {0}
 HasNoEnd (x ∷ xs) = (x ≢ 10) × HasNoEnd xs
@@ -26,7 +26,7 @@ after_part g part = record { jobs = g.jobs; line = g.line ++ part }
 abbrev pub after_line : Gathered → JobText → Gathered
 after_line g job = record { jobs = g.jobs ++ job ∷ []; line = [] }
 
--- the fault is want of memory, or that the line is bad, for this reason
+-- the fault is out of memory, or that the line is bad, for this reason
 abbrev pub IsRefusal : Gathered → JobsFault → Type 0 → Type 0
 IsRefusal g fault reason = (fault ≡ OutOfMemory) ⊎ ((fault ≡ BadJob (length g.jobs + 1)) × reason)
 
@@ -46,8 +46,10 @@ pub record IsGatheredFrom (done : List ℕ) (g : Gathered) : Type 0 where
 
 -- after these bytes more
 abbrev pub Advances : Gathered → Gathered → List ℕ → Type 0
-Advances old new bytes = (done : List ℕ) → IsGatheredFrom done old → IsGatheredFrom (done ++ bytes) new
+Advances old new bytes =
+    (done : List ℕ) → IsGatheredFrom done old → IsGatheredFrom (done ++ bytes) new
 
 -- where these bytes come next, whatever follows them, the text has this fault
 abbrev pub Fails : Gathered → List ℕ → JobsFault → Type 0
-Fails old bytes fault = (done rest : List ℕ) → IsGatheredFrom done old → IsFaultOf (done ++ (bytes ++ rest)) fault
+Fails old bytes fault =
+    (done rest : List ℕ) → IsGatheredFrom done old → IsFaultOf (done ++ (bytes ++ rest)) fault

@@ -12,7 +12,8 @@ most_digits = 131072
 abbrev pub longest_line : ℕ
 longest_line = 2 * hash_length + 1 + most_digits
 
--- the line of a job, without its LF: the hexadecimal digits of the randomizer, a space, and those of the message
+-- the line of a job, without its LF: the hexadecimal digits of the randomizer, a space, and those
+-- of the message
 pub record IsJobLine (line : List ℕ) (job : JobText) : Type 0 where
   pub c_digits : List ℕ
   pub message_digits : List ℕ

@@ -16,7 +16,9 @@ OutcomesAreOne = (text : List ℕ) → HasOneOutcome text
 
 -- a text has its jobs, or a first bad line, or too many jobs
 abbrev pub HasSomeOutcome : List ℕ → Type 0
-HasSomeOutcome text = ((jobs : List JobText) × IsJobsText text jobs) ⊎ (((n : ℕ) × IsFirstBadLine text n) ⊎ HasTooManyJobs text)
+HasSomeOutcome text =
+    ((jobs : List JobText) × IsJobsText text jobs)
+    ⊎ (((n : ℕ) × IsFirstBadLine text n) ⊎ HasTooManyJobs text)
 
 abbrev pub EveryTextHasAnOutcome : Type 0
 EveryTextHasAnOutcome = (text : List ℕ) → HasSomeOutcome text

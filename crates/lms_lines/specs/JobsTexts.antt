@@ -41,7 +41,7 @@ pub record HasTooManyJobs (text : List ℕ) : Type 0 where
   pub good : AreJobLines before jobs
   pub count : length jobs ≡ most_jobs
 
--- the text has this fault; of a failed reader and of want of memory nothing is said
+-- the text has this fault; nothing is said of a failed reader and of out of memory
 abbrev pub IsFaultOf : List ℕ → JobsFault → Type 0
 IsFaultOf text Read = Unit {0}
 IsFaultOf text (BadJob line) = IsFirstBadLine text line

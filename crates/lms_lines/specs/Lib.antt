@@ -1,8 +1,8 @@
-pub mod JobLines
-pub mod TextLines
-pub mod JobsTexts
-pub mod Gathered
 pub mod AnswerLines
+pub mod Faults
+pub mod Gathered
+pub mod JobLines
 pub mod JobsLaws
+pub mod JobsTexts
 pub mod SignedLines
-pub mod Texts
+pub mod TextLines

@@ -1,5 +1,5 @@
 -- What becomes of job lines that a service signs.
-use Rattle.std.specs.Prelude.{◌≡◌, ◌≢◌, ℕ, ◌+◌, ◌≤◌, List, Option, IfSome, count_by, is_some, length, Err, Ok}
+use Rattle.std.specs.Prelude.{◌≡◌, ◌≢◌, ℕ, ◌+◌, ◌≤◌, List, Option, Result, IfErr, IfOk, IfSome, count_by, is_some, length, Err, Ok}
 use Rattle.std.specs.Io.KnownBytes.{Appends}
 use Rattle.lms_spec.specs.Hss.{capacity_of}
 use Rattle.lms_hss.specs.Keys.{hss_key_of}
@@ -8,13 +8,13 @@ use Rattle.lms_batch.specs.Jobs.{JobText}
 use Rattle.lms_batch.specs.Answers.{CouldBeReserved, CountsBatch, IsAnswerTo, start_of}
 use Rattle.lms_batch.specs.declared.collector.Batch.{Batch}
 use Rattle.lms_batch.specs.declared.collector.Batch.TheVariants.{Complete, Partial}
-use Rattle.lms_batch.specs.declared.service.BatchFault.{BatchFault}
-use Rattle.lms_batch.specs.declared.service.BatchFault.TheVariants.{TooMany}
+use Rattle.lms_batch.specs.declared.fault.BatchFault.{BatchFault}
+use Rattle.lms_batch.specs.declared.fault.BatchFault.TheVariants.{TooMany}
 use Rattle.lms_lines.specs.AnswerLines.{answer_text, AppendsFront}
 use Rattle.lms_lines.specs.JobsTexts.{IsFaultOf, ReadsJobs}
 use Rattle.lms_lines.specs.declared.signing.Done.{Done}
-use Rattle.lms_lines.specs.declared.signing.LinesFault.{LinesFault}
-use Rattle.lms_lines.specs.declared.signing.LinesFault.TheVariants as lines
+use Rattle.lms_lines.specs.declared.fault.LinesFault.{LinesFault}
+use Rattle.lms_lines.specs.declared.fault.LinesFault.TheVariants as lines
 use Rattle.lms_lines.specs.declared.signing.SignedJobs.{SignedJobs}
 
 -- how many signatures a batch has
@@ -22,8 +22,10 @@ abbrev pub signatures_in : Batch → ℕ
 signatures_in (Complete start signatures) = length signatures.items
 signatures_in (Partial start slots) = count_by is_some slots.items
 
--- the batch has the signatures by the key of a shared book of the jobs that the reader had, and the desk counts it
-pub record IsBatchRead (shared : SharedState) (old_input new_input : Option (List ℕ)) (before after : Sums) (batch : Batch) : Type 0 where
+-- the batch has the signatures by the key of a shared book of the jobs that the reader had, and the
+-- desk counts it
+pub record IsBatchRead (shared : SharedState) (old_input new_input : Option (List ℕ))
+    (before after : Sums) (batch : Batch) : Type 0 where
   pub jobs : List JobText
   pub read : ReadsJobs old_input new_input jobs
   pub answer : IsAnswerTo shared.book.key (start_of batch) jobs batch
@@ -31,8 +33,9 @@ pub record IsBatchRead (shared : SharedState) (old_input new_input : Option (Lis
   pub counted : CountsBatch (length jobs) before (Ok batch) after
   pub reserved : 1 ≤ length jobs → CouldBeReserved shared before (length jobs) (Ok batch)
 
--- the jobs that the reader had got no batch, and the desk counts that
-pub record IsBatchRefused (shared : SharedState) (old_input new_input : Option (List ℕ)) (before after : Sums) (fault : BatchFault) : Type 0 where
+-- no batch was made for the jobs that the reader had, and the desk counts that
+pub record IsBatchRefused (shared : SharedState) (old_input new_input : Option (List ℕ))
+    (before after : Sums) (fault : BatchFault) : Type 0 where
   pub jobs : List JobText
   pub read : ReadsJobs old_input new_input jobs
   pub some : 1 ≤ length jobs
@@ -41,27 +44,48 @@ pub record IsBatchRefused (shared : SharedState) (old_input new_input : Option (
   pub few : fault ≢ TooMany
 
 -- the jobs that the reader had were signed as such a batch, and this is their number
-abbrev pub IsSigned : SharedState → Option (List ℕ) → Option (List ℕ) → Sums → Sums → SignedJobs → Type 0
+abbrev pub IsSigned : SharedState → Option (List ℕ) → Option (List ℕ) → Sums → Sums → SignedJobs
+    → Type 0
 IsSigned shared old_input new_input before after signed =
-    (is : IsBatchRead shared old_input new_input before after signed.batch) × (signed.asked ≡ length is.jobs)
+    (is : IsBatchRead shared old_input new_input before after signed.batch)
+    × (signed.asked ≡ length is.jobs)
 
--- why they were not: the input has a fault, and nothing is reserved; or there is no batch, which is not for too many jobs
-abbrev pub IsUnsigned : SharedState → Option (List ℕ) → Option (List ℕ) → Sums → Sums → LinesFault → Type 0
-IsUnsigned shared old_input new_input before after (lines.Jobs fault) = IfSome old_input (λ text. IsFaultOf text fault) × (after ≡ before)
-IsUnsigned shared old_input new_input before after (lines.Batch fault) = IsBatchRefused shared old_input new_input before after fault
+-- why they were not: the input has a fault, and nothing is reserved; or there is no batch, which is
+-- not for too many jobs
+abbrev pub IsUnsigned : SharedState → Option (List ℕ) → Option (List ℕ) → Sums → Sums → LinesFault
+    → Type 0
+IsUnsigned shared old_input new_input before after (lines.Jobs fault) =
+    IfSome old_input (λ text. IsFaultOf text fault) × (after ≡ before)
+IsUnsigned shared old_input new_input before after (lines.Batch fault) =
+    IsBatchRefused shared old_input new_input before after fault
 IsUnsigned shared old_input new_input before after lines.Write = ⊥
 
 -- such a batch was written: so many lines, for so many jobs
-abbrev pub IsDone : SharedState → Option (List ℕ) → Option (List ℕ) → Option (List ℕ) → Option (List ℕ) → Sums → Sums → Done → Type 0
+abbrev pub IsDone : SharedState → Option (List ℕ) → Option (List ℕ) → Option (List ℕ)
+    → Option (List ℕ) → Sums → Sums → Done → Type 0
 IsDone shared old_input new_input old_output new_output before after done =
-    (jobs : SignedJobs) × IsSigned shared old_input new_input before after jobs × Appends old_output new_output (answer_text jobs.batch)
+    (jobs : SignedJobs) × IsSigned shared old_input new_input before after jobs
+    × Appends old_output new_output (answer_text jobs.batch)
     × (done.signed ≡ signatures_in jobs.batch) × (done.asked ≡ jobs.asked)
 
 -- why it was not: the jobs were not signed; or the lines of the batch were not all written
-abbrev pub IsLinesFault : SharedState → Option (List ℕ) → Option (List ℕ) → Option (List ℕ) → Option (List ℕ) → Sums → Sums → LinesFault → Type 0
+abbrev pub IsLinesFault : SharedState → Option (List ℕ) → Option (List ℕ) → Option (List ℕ)
+    → Option (List ℕ) → Sums → Sums → LinesFault → Type 0
 IsLinesFault shared old_input new_input old_output new_output before after (lines.Jobs fault) =
     IsUnsigned shared old_input new_input before after (lines.Jobs fault)
 IsLinesFault shared old_input new_input old_output new_output before after (lines.Batch fault) =
     IsUnsigned shared old_input new_input before after (lines.Batch fault)
 IsLinesFault shared old_input new_input old_output new_output before after lines.Write =
-    (batch : Batch) × IsBatchRead shared old_input new_input before after batch × AppendsFront old_output new_output (answer_text batch)
+    (batch : Batch) × IsBatchRead shared old_input new_input before after batch
+    × AppendsFront old_output new_output (answer_text batch)
+
+-- what is answered to job lines: what was done, or why it was not; at any fault but `Write` the
+-- output is as it was
+pub record SignsLines {O : Type 0} (contents : O → Option (List ℕ)) (shared : SharedState)
+    (old_input new_input : Option (List ℕ)) (old new : O)
+    (before after : Sums) (result : Result Done LinesFault) : Type 0 where
+  pub done : IfOk result
+      (IsDone shared old_input new_input (contents old) (contents new) before after)
+  pub fault : IfErr result
+      (IsLinesFault shared old_input new_input (contents old) (contents new) before after)
+  pub silent : IfErr result (λ fault. fault ≢ lines.Write → new ≡ old)

@@ -3,31 +3,18 @@ ghost use Rattle.std.specs.Prelude.{◌≡◌, ◌++◌, ◌∷◌, ◌<◌, ◌
 ghost use Rattle.std.specs.Io.KnownBytes.{Appends, Keeps};
 ghost use Rattle.hex.specs.Hex.{encode_lower};
 ghost use Rattle.lms_lines.specs.AnswerLines.{answer_line, answer_text, AppendsFront};
-ghost use Rattle.lms_lines.specs.Texts.{write_fault_text};
 
+use crate::fault::WriteFault;
 use itoa::Buffer;
 use lms_batch::Batch;
 use std::io::{ErrorKind, Write};
-use std::{error, fmt};
 
-/// Not all was written.
-#[derive(Clone, Copy, Debug, PartialEq, Eq)]
-pub struct WriteFault;
-
-impl fmt::Display for WriteFault {
-    ghost output = { λ _. Some write_fault_text };
-
-    fn fmt<W: fmt::Write>(&self, f: &mut fmt::Formatter<W>) -> fmt::Result {
-        f.write_str("cannot write output")
-    }
-}
-
-impl error::Error for WriteFault {}
-
-/// Writes a line for each signature of the batch. On a fault, a beginning of the text was written.
+/// Writes a line for each signature of the batch. On a fault, a beginning of the lines was written.
 pub fn write_batch<W: Write>(writer: &mut W, batch: &Batch) -> Result<(), WriteFault>
-    ensures ok { OnOk result (Appends (W.contents writer.old) (W.contents writer.new) (answer_text batch.now)) }
-    ensures err { OnErr result (AppendsFront (W.contents writer.old) (W.contents writer.new) (answer_text batch.now)) }
+    ensures ok { OnOk result
+        (Appends (W.contents writer.old) (W.contents writer.new) (answer_text batch.now)) }
+    ensures err { OnErr result
+        (AppendsFront (W.contents writer.old) (W.contents writer.new) (answer_text batch.now)) }
 {
     match batch {
         Batch::Complete { start, signatures } => {
@@ -47,8 +34,12 @@ pub fn write_batch<W: Write>(writer: &mut W, batch: &Batch) -> Result<(), WriteF
 }
 
 fn write_line<W: Write>(writer: &mut W, index: u128, signature: &[u8]) -> Result<(), WriteFault>
-    ensures ok { OnOk result (Appends (W.contents writer.old) (W.contents writer.new) (answer_line index signature.now)) }
-    ensures err { OnErr result (AppendsFront (W.contents writer.old) (W.contents writer.new) (answer_line index signature.now)) }
+    ensures ok { OnOk result
+        (Appends (W.contents writer.old) (W.contents writer.new)
+        (answer_line index signature.now)) }
+    ensures err { OnErr result
+        (AppendsFront (W.contents writer.old) (W.contents writer.new)
+        (answer_line index signature.now)) }
 {
     write_number(writer, index)?;
     write_bytes(writer, b" ")?;
@@ -57,16 +48,20 @@ fn write_line<W: Write>(writer: &mut W, index: u128, signature: &[u8]) -> Result
 }
 
 fn write_number<W: Write>(writer: &mut W, number: u128) -> Result<(), WriteFault>
-    ensures ok { OnOk result (Appends (W.contents writer.old) (W.contents writer.new) (decimal number)) }
-    ensures err { OnErr result (AppendsFront (W.contents writer.old) (W.contents writer.new) (decimal number)) }
+    ensures ok { OnOk result
+        (Appends (W.contents writer.old) (W.contents writer.new) (decimal number)) }
+    ensures err { OnErr result
+        (AppendsFront (W.contents writer.old) (W.contents writer.new) (decimal number)) }
 {
     let mut buffer = Buffer::new();
     write_bytes(writer, buffer.format(number).as_bytes())
 }
 
 fn write_hex<W: Write>(writer: &mut W, bytes: &[u8]) -> Result<(), WriteFault>
-    ensures ok { OnOk result (Appends (W.contents writer.old) (W.contents writer.new) (encode_lower bytes.now)) }
-    ensures err { OnErr result (AppendsFront (W.contents writer.old) (W.contents writer.new) (encode_lower bytes.now)) }
+    ensures ok { OnOk result
+        (Appends (W.contents writer.old) (W.contents writer.new) (encode_lower bytes.now)) }
+    ensures err { OnErr result
+        (AppendsFront (W.contents writer.old) (W.contents writer.new) (encode_lower bytes.now)) }
 {
     let mut rest = bytes;
     while !rest.is_empty() {
@@ -85,7 +80,8 @@ fn write_hex<W: Write>(writer: &mut W, bytes: &[u8]) -> Result<(), WriteFault>
 /// Writes these bytes, by as many writes as it takes. On a fault, a beginning of them was written.
 pub fn write_bytes<W: Write>(writer: &mut W, bytes: &[u8]) -> Result<(), WriteFault>
     ensures ok { OnOk result (Appends (W.contents writer.old) (W.contents writer.new) bytes.now) }
-    ensures err { OnErr result (AppendsFront (W.contents writer.old) (W.contents writer.new) bytes.now) }
+    ensures err { OnErr result
+        (AppendsFront (W.contents writer.old) (W.contents writer.new) bytes.now) }
 {
     let mut rest = bytes;
     while !rest.is_empty() {
@@ -95,10 +91,12 @@ pub fn write_bytes<W: Write>(writer: &mut W, bytes: &[u8]) -> Result<(), WriteFa
     Ok(())
 }
 
-/// One write, which is tried again where it was interrupted. A writer that takes nothing has failed.
+/// One write, which is tried again where it was interrupted. A writer that takes nothing has
+/// failed.
 fn write_some<W: Write>(writer: &mut W, bytes: &[u8]) -> Result<usize, WriteFault>
     ensures some { IfOk result (λ n. (0 < n) × (n ≤ length bytes.now)) }
-    ensures ok { IfOk result (λ n. Appends (W.contents writer.old) (W.contents writer.new) (take n bytes.now)) }
+    ensures ok { IfOk result (λ n.
+        Appends (W.contents writer.old) (W.contents writer.new) (take n bytes.now)) }
     ensures err { OnErr result (Keeps (W.contents writer.old) (W.contents writer.new)) }
 {
     for _try in 0..u64::MAX {

@@ -1,14 +1,15 @@
-//! Why a text gave no jobs.
+//! Why job lines give no jobs, are not signed, or are not answered.
 ghost use Rattle.std.specs.Prelude.{◌≡◌, Some};
-ghost use Rattle.lms_lines.specs.Texts.{jobs_fault_text};
+ghost use Rattle.lms_lines.specs.Faults.{jobs_fault_text, write_fault_text};
 ghost use Rattle.lms_lines.specs.declared.fault.JobsFault.TheVariants.{OutOfMemory as FaultOfMemory};
 
 use lms_batch::BatchFault;
 use lms_params::OutOfMemory;
 use std::alloc::{AllocError, AllocFailed};
 use std::{error, fmt};
+use thiserror::Error;
 
-/// The first fault of a text of job lines, or why it was not read to its end.
+/// The first fault of job lines, or why they were not read to their end.
 #[derive(Clone, Copy, Debug, PartialEq, Eq)]
 pub enum JobsFault {
     /// The reader failed.
@@ -51,3 +52,31 @@ impl<T: Drop> From<AllocFailed<T>> for JobsFault {
         JobsFault::OutOfMemory
     }
 }
+
+/// Why job lines were not signed, or not all answers written.
+#[derive(Clone, Copy, Debug, PartialEq, Eq, Error)]
+pub enum LinesFault {
+    /// The input has a fault. Nothing was reserved, and nothing written.
+    #[error("{0}")]
+    Jobs(JobsFault),
+    /// No batch was made. Nothing was written.
+    #[error("{0}")]
+    Batch(BatchFault),
+    /// The answers were not all written. The indices of all jobs are used.
+    #[error("{WriteFault}")]
+    Write,
+}
+
+/// Not all was written.
+#[derive(Clone, Copy, Debug, PartialEq, Eq)]
+pub struct WriteFault;
+
+impl fmt::Display for WriteFault {
+    ghost output = { λ _. Some write_fault_text };
+
+    fn fmt<W: fmt::Write>(&self, f: &mut fmt::Formatter<W>) -> fmt::Result {
+        f.write_str("cannot write output")
+    }
+}
+
+impl error::Error for WriteFault {}

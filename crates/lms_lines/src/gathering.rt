@@ -1,4 +1,4 @@
-//! Jobs gathered from the blocks of a text.
+//! Jobs gathered from the blocks of job lines.
 ghost use Rattle.std.specs.Prelude.{◌≡◌, ℕ, List, [], ◌+◌, ◌<◌, ◌≤◌, ◌↔◌, ◌++◌, ◌⊎◌, length, take, map, slice_index, Err, OnOk, IfOk, IfErr, IsTrue, MatchOption};
 ghost use Rattle.lms_batch.specs.Jobs.{most_jobs, text_of, JobText};
 ghost use Rattle.lms_lines.specs.JobLines.{longest_line, IsJobLine};
@@ -12,7 +12,8 @@ use lms_batch::{Job, MOST_JOBS};
 use memchr::memchr;
 use std::alloc::Global;
 
-/// The jobs of the lines so far, and what there is of the next line, which is never longer than a job line.
+/// The jobs of the lines so far, and what there is of the next line, which is never longer than a
+/// job line.
 #[derive(Drop)]
 pub(crate) struct Gathering {
     jobs: Vec<Job>,
@@ -29,7 +30,7 @@ impl Gathering {
         }
     }
 
-    /// Takes the next bytes of the text.
+    /// Takes the next bytes of the input.
     pub(crate) fn take_block(&mut self, alloc: Global, block: &[u8]) -> Result<(), JobsFault>
         ensures ok { OnOk result (Advances (gathered self.old) (gathered self.new) block.now) }
         ensures fault { IfErr result (Fails (gathered self.old) block.now) }
@@ -42,11 +43,12 @@ impl Gathering {
         Ok(())
     }
 
-    /// Takes what the bytes have of one line, and says how many that were.
+    /// Takes what the bytes have of one line, and answers how many bytes that were.
     fn take_line(&mut self, alloc: Global, bytes: &[u8]) -> Result<usize, JobsFault>
         requires { 0 < length bytes.now }
         ensures some { IfOk result (λ n. (0 < n) × (n ≤ length bytes.now)) }
-        ensures ok { IfOk result (λ n. Advances (gathered self.old) (gathered self.new) (take n bytes.now)) }
+        ensures ok { IfOk result (λ n.
+            Advances (gathered self.old) (gathered self.new) (take n bytes.now)) }
         ensures fault { IfErr result (Fails (gathered self.old) bytes.now) }
     {
         if self.is_full() {
@@ -76,7 +78,9 @@ impl Gathering {
         ensures ok { OnOk result (gathered self.new ≡ after_part (gathered self.old) part.now) }
         ensures jobs { OnOk result (self.new.jobs ≡ self.old.jobs) }
         ensures short { OnOk result (length self.old.line.items + length part.now ≤ longest_line) }
-        ensures fault { IfErr result (λ e. IsRefusal (gathered self.old) e (longest_line < length self.old.line.items + length part.now)) }
+        ensures fault { IfErr result (λ e.
+            IsRefusal (gathered self.old) e
+            (longest_line < length self.old.line.items + length part.now)) }
     {
         if part.len() > LONGEST_LINE || self.line.len() > LONGEST_LINE - part.len() {
             return Err(self.bad_line());
@@ -87,8 +91,12 @@ impl Gathering {
 
     /// Ends the line with these bytes.
     fn end_line(&mut self, alloc: Global, end: &[u8]) -> Result<(), JobsFault>
-        ensures ok { OnOk result ((job : JobText) × IsJobLine (self.old.line.items ++ end.now) job × (gathered self.new ≡ after_line (gathered self.old) job)) }
-        ensures fault { IfErr result (λ e. IsRefusal (gathered self.old) e ((job : JobText) → ¬ IsJobLine (self.old.line.items ++ end.now) job)) }
+        ensures ok { OnOk result
+            ((job : JobText) × IsJobLine (self.old.line.items ++ end.now) job
+            × (gathered self.new ≡ after_line (gathered self.old) job)) }
+        ensures fault { IfErr result (λ e.
+            IsRefusal (gathered self.old) e
+            ((job : JobText) → ¬ IsJobLine (self.old.line.items ++ end.now) job)) }
     {
         let job = self.ended(alloc, end)?;
         self.jobs.push(job)?;
@@ -96,11 +104,14 @@ impl Gathering {
         Ok(())
     }
 
-    /// The job of the line that ends with these bytes. Where they are the whole line, they are judged where they lie.
+    /// The job of the line that ends with these bytes. Where they are the whole line, they are
+    /// judged in place, without a copy.
     fn ended(&mut self, alloc: Global, end: &[u8]) -> Result<Job, JobsFault>
         ensures ok { IfOk result (λ job. IsJobLine (self.old.line.items ++ end.now) (text_of job)) }
         ensures jobs { OnOk result (self.new.jobs ≡ self.old.jobs) }
-        ensures fault { IfErr result (λ e. IsRefusal (gathered self.old) e ((job : JobText) → ¬ IsJobLine (self.old.line.items ++ end.now) job)) }
+        ensures fault { IfErr result (λ e.
+            IsRefusal (gathered self.old) e
+            ((job : JobText) → ¬ IsJobLine (self.old.line.items ++ end.now) job)) }
     {
         if self.line.is_empty() {
             return self.judged(alloc, end);
@@ -112,7 +123,8 @@ impl Gathering {
     /// The job of this line, which comes next.
     fn judged(&self, alloc: Global, line: &[u8]) -> Result<Job, JobsFault>
         ensures ok { IfOk result (λ job. IsJobLine line.now (text_of job)) }
-        ensures fault { IfErr result (λ e. IsRefusal (gathered self.now) e ((job : JobText) → ¬ IsJobLine line.now job)) }
+        ensures fault { IfErr result (λ e.
+            IsRefusal (gathered self.now) e ((job : JobText) → ¬ IsJobLine line.now job)) }
     {
         match parse_job(alloc, line) {
             Ok(job) => Ok(job),
@@ -130,10 +142,13 @@ impl Gathering {
         }
     }
 
-    /// The jobs, where the text has ended.
+    /// The jobs, where the input has ended.
     pub(crate) fn finish(mut self, alloc: Global) -> Result<Vec<Job>, JobsFault>
-        ensures ok { IfOk result (λ jobs. (done : List ℕ) → IsGatheredFrom done (gathered self) → IsJobsText done (map text_of jobs.items)) }
-        ensures fault { IfErr result (λ e. (done : List ℕ) → IsGatheredFrom done (gathered self) → IsFaultOf done e) }
+        ensures ok { IfOk result (λ jobs.
+            (done : List ℕ) → IsGatheredFrom done (gathered self)
+            → IsJobsText done (map text_of jobs.items)) }
+        ensures fault { IfErr result (λ e.
+            (done : List ℕ) → IsGatheredFrom done (gathered self) → IsFaultOf done e) }
     {
         if self.line.is_empty() {
             let Gathering { jobs, line: _ } = self;
@@ -145,9 +160,10 @@ impl Gathering {
     }
 }
 
-/// Where the first LF stands.
+/// Where the first LF is.
 fn line_end(bytes: &[u8]) -> Option<usize>
-    ensures { MatchOption result (HasNoEnd bytes.now) (λ at. (at < length bytes.now) × HasNoEnd (take at bytes.now) × (slice_index bytes.now at ≡ 10)) }
+    ensures { MatchOption result (HasNoEnd bytes.now) (λ at.
+        (at < length bytes.now) × HasNoEnd (take at bytes.now) × (slice_index bytes.now at ≡ 10)) }
 {
     memchr(b'\n', bytes)
 }

@@ -5,6 +5,7 @@ ghost use Rattle.lms_lines.specs.JobLines.{IsJobLine};
 
 use hex::FromHexError;
 use lms_batch::Job;
+use lms_params::HASH_LEN;
 use std::alloc::Global;
 
 /// The length of a randomizer's digits.
@@ -33,7 +34,7 @@ pub(crate) fn parse_job(alloc: Global, line: &[u8]) -> Result<Job, LineFault>
     }
     let (c_digits, rest) = line.split_at(C_DIGITS);
     let (_, message_digits) = rest.split_at(1);
-    let mut c = [0; 32];
+    let mut c = [0; HASH_LEN];
     if hex::decode_to_slice(c_digits, &mut c).is_err() {
         return Err(LineFault::BadJob);
     }

@@ -15,13 +15,16 @@ use std::io::Read;
 /// How many bytes are asked for at once.
 const BLOCK: usize = 65_536;
 
-/// More bytes than a text has that gives no fault before: the longest lines, with LF, and one more of them than jobs are taken.
+/// More bytes than an input without a fault has: the longest lines, with LF, and one more of them
+/// than a batch has jobs.
 const TOO_LONG: usize = (MOST_JOBS + 1) * (LONGEST_LINE + 1);
 
-/// The jobs of a text of job lines, which is read to its end. The lines are judged one after another, and the first fault
-/// ends it. A line that is too long is refused without being stored whole.
+/// Reads job lines to their end, and answers their jobs. The lines are judged one after another,
+/// and the first fault ends the reading. A line that is too long is refused without being stored
+/// whole.
 pub fn read_jobs<R: Read>(alloc: Global, reader: &mut R) -> Result<Vec<Job>, JobsFault>
-    ensures ok { IfOk result (λ jobs. ReadsJobs (R.remaining reader.old) (R.remaining reader.new) (map text_of jobs.items)) }
+    ensures ok { IfOk result (λ jobs.
+        ReadsJobs (R.remaining reader.old) (R.remaining reader.new) (map text_of jobs.items)) }
     ensures fault { IfErr result (λ e. IfSome (R.remaining reader.old) (λ text. IsFaultOf text e)) }
 {
     let mut block = new_block(alloc)?;
@@ -38,7 +41,7 @@ pub fn read_jobs<R: Read>(alloc: Global, reader: &mut R) -> Result<Vec<Job>, Job
     unreachable!()
 }
 
-/// The room for a block.
+/// The memory for a block.
 fn new_block(alloc: Global) -> Result<Vec<u8>, JobsFault>
     ensures some { IfOk result (λ block. 0 < vec_len block) }
     ensures fault { IfErr result (λ e. e ≡ OutOfMemory) }

@@ -9,9 +9,9 @@ mod jobs;
 pub mod laws;
 mod signing;
 
-pub use crate::answers::{WriteFault, write_batch, write_bytes};
-pub use crate::fault::JobsFault;
+pub use crate::answers::{write_batch, write_bytes};
+pub use crate::fault::{JobsFault, LinesFault, WriteFault};
 pub use crate::jobs::read_jobs;
 pub use crate::signing::{
-    Done, LinesFault, SignedJobs, count_signatures, read_and_sign, sign_lines, sign_lines_watched,
+    Done, SignedJobs, count_signatures, read_and_sign, sign_lines, sign_lines_watched,
 };

@@ -1,23 +1,22 @@
 //! Job lines signed by a service.
-ghost use Rattle.std.specs.Prelude.{◌≡◌, ◌≢◌, ◌≤◌, IfOk, IfErr, count_by, is_some};
+ghost use Rattle.std.specs.Prelude.{◌≡◌, ◌≤◌, IfOk, IfErr, count_by, is_some};
 ghost use Rattle.lms_batch.specs.Jobs.{most_workers};
-ghost use Rattle.lms_lines.specs.SignedLines.{IsDone, IsLinesFault, IsSigned, IsUnsigned, signatures_in};
+ghost use Rattle.lms_lines.specs.SignedLines.{IsSigned, IsUnsigned, SignsLines, signatures_in};
 
-use crate::answers::{WriteFault, write_batch};
-use crate::fault::JobsFault;
+use crate::answers::write_batch;
+use crate::fault::LinesFault;
 use crate::jobs::read_jobs;
-use lms_batch::{Batch, BatchFault, OpenGate, SigningService};
+use lms_batch::{Batch, OpenGate, SigningService};
 use lms_book::StateStore;
 use lms_hss::{Progress, Unwatched};
-use lms_shared_book::{Desk, Tally};
+use lms_shared_book::{BookLedger, Desk};
 use std::alloc::Global;
 use std::io::{Read, Write};
 use std::marker::Sync;
 use std::sync::Wait;
 use std::thread::Threads;
-use thiserror::Error;
 
-/// What became of job lines.
+/// What was done for job lines.
 #[derive(Clone, Copy, Debug, PartialEq, Eq)]
 pub struct Done {
     /// How many jobs were signed: as many answer lines were written.
@@ -35,26 +34,13 @@ pub struct SignedJobs {
     pub asked: usize,
 }
 
-/// Why job lines were not signed, or not all answers written.
-#[derive(Clone, Copy, Debug, PartialEq, Eq, Error)]
-pub enum LinesFault {
-    /// The input has a fault. Nothing was reserved, and nothing written.
-    #[error("{0}")]
-    Jobs(JobsFault),
-    /// No batch was made. Nothing was written.
-    #[error("{0}")]
-    Batch(BatchFault),
-    /// The answers were not all written. The indices of all jobs are used.
-    #[error("{WriteFault}")]
-    Write,
-}
-
-/// Reads job lines to their end, signs them as one batch by 1 to `MOST_WORKERS` workers, and writes a line for each signature,
-/// in the order of the jobs. Waits for the book's lock and for the workers. `signed` is less than `asked` where a worker was
-/// refused memory.
+/// Reads job lines to their end, signs them as one batch by 1 to `MOST_WORKERS` workers, and writes
+/// a line for each signature, in the order of the jobs. Waits for the book's lock and for the
+/// workers. `signed` is less than `asked` where a worker was refused memory.
 ///
-/// `Jobs` where the lines are not read, as `read_jobs` says; `Batch` as `SigningService::sign_batch` says, but for too many
-/// jobs, which `Jobs` tells; `Write` where the writer failed, after a beginning of the lines.
+/// `Jobs` where the lines are not read, as `read_jobs` says; `Batch` as
+/// `SigningService::sign_batch` says, but for too many jobs, which `Jobs` reports; `Write` where
+/// the writer failed, after a beginning of the lines.
 pub fn sign_lines<S, E, G, B, R, I, O>(
     rt: &R,
     alloc: Global,
@@ -66,26 +52,24 @@ pub fn sign_lines<S, E, G, B, R, I, O>(
 ) -> Result<Done, LinesFault>
 where
     S: StateStore,
-    E: Tally,
-    G: Tally,
-    B: Tally,
+    E: BookLedger,
+    G: BookLedger,
+    B: BookLedger,
     R: Threads + Wait + Sync,
     I: Read,
     O: Write,
     requires some { 1 ≤ workers }
     requires at_most { workers ≤ most_workers }
-    ensures done { IfOk result (IsDone service.now (I.remaining reader.old) (I.remaining reader.new)
-        (O.contents writer.old) (O.contents writer.new) desk.old desk.new) }
-    ensures fault { IfErr result (IsLinesFault service.now (I.remaining reader.old) (I.remaining reader.new)
-        (O.contents writer.old) (O.contents writer.new) desk.old desk.new) }
-    ensures silent { IfErr result (λ fault. fault ≢ LinesFault.Write → writer.new ≡ writer.old) }
+    ensures { SignsLines O.contents service.now (I.remaining reader.old) (I.remaining reader.new)
+        writer.old writer.new desk.old desk.new result }
 {
     sign_lines_watched(
         rt, alloc, service, reader, writer, desk, workers, &Unwatched,
     )
 }
 
-/// The same, and tells `progress` how many leaves of the trees are worked out that the batch needs.
+/// As `sign_lines`, and reports to `progress` how many leaves of the trees that the batch needs are
+/// computed.
 pub fn sign_lines_watched<S, E, G, B, R, I, O, P>(
     rt: &R,
     alloc: Global,
@@ -98,20 +82,17 @@ pub fn sign_lines_watched<S, E, G, B, R, I, O, P>(
 ) -> Result<Done, LinesFault>
 where
     S: StateStore,
-    E: Tally,
-    G: Tally,
-    B: Tally,
+    E: BookLedger,
+    G: BookLedger,
+    B: BookLedger,
     R: Threads + Wait + Sync,
     I: Read,
     O: Write,
     P: Progress,
     requires some { 1 ≤ workers }
     requires at_most { workers ≤ most_workers }
-    ensures done { IfOk result (IsDone service.now (I.remaining reader.old) (I.remaining reader.new)
-        (O.contents writer.old) (O.contents writer.new) desk.old desk.new) }
-    ensures fault { IfErr result (IsLinesFault service.now (I.remaining reader.old) (I.remaining reader.new)
-        (O.contents writer.old) (O.contents writer.new) desk.old desk.new) }
-    ensures silent { IfErr result (λ fault. fault ≢ LinesFault.Write → writer.new ≡ writer.old) }
+    ensures { SignsLines O.contents service.now (I.remaining reader.old) (I.remaining reader.new)
+        writer.old writer.new desk.old desk.new result }
 {
     let jobs = read_and_sign(rt, alloc, service, reader, desk, workers, progress)?;
     match write_batch(writer, &jobs.batch) {
@@ -123,12 +104,14 @@ where
     }
 }
 
-/// Reads job lines to their end and signs them as one batch by 1 to `MOST_WORKERS` workers, and writes nothing: `write_batch`
-/// writes the lines of the answer's batch. Waits for the book's lock and for the workers. The batch has fewer signatures than
-/// `asked` where a worker was refused memory. `progress` is told how many leaves of the trees are worked out that it needs.
+/// Reads job lines to their end and signs them as one batch by 1 to `MOST_WORKERS` workers, and
+/// writes nothing: `write_batch` writes the lines of the answer's batch. Waits for the book's lock
+/// and for the workers. The batch has fewer signatures than `asked` where a worker was refused
+/// memory. `progress` gets how many leaves of the trees that it needs are computed.
 ///
-/// `Jobs` where the lines are not read, as `read_jobs` says, and then nothing was reserved; `Batch` as
-/// `SigningService::sign_batch` says, but for too many jobs, which `Jobs` tells. Never `Write`.
+/// `Jobs` where the lines are not read, as `read_jobs` says, and then nothing was reserved; `Batch`
+/// as `SigningService::sign_batch` says, but for too many jobs, which `Jobs` reports. Never
+/// `Write`.
 pub fn read_and_sign<S, E, G, B, R, I, P>(
     rt: &R,
     alloc: Global,
@@ -140,16 +123,19 @@ pub fn read_and_sign<S, E, G, B, R, I, P>(
 ) -> Result<SignedJobs, LinesFault>
 where
     S: StateStore,
-    E: Tally,
-    G: Tally,
-    B: Tally,
+    E: BookLedger,
+    G: BookLedger,
+    B: BookLedger,
     R: Threads + Wait + Sync,
     I: Read,
     P: Progress,
     requires some { 1 ≤ workers }
     requires at_most { workers ≤ most_workers }
-    ensures signed { IfOk result (IsSigned service.now (I.remaining reader.old) (I.remaining reader.new) desk.old desk.new) }
-    ensures unsigned { IfErr result (IsUnsigned service.now (I.remaining reader.old) (I.remaining reader.new) desk.old desk.new) }
+    ensures signed { IfOk result
+        (IsSigned service.now (I.remaining reader.old) (I.remaining reader.new) desk.old desk.new) }
+    ensures unsigned { IfErr result
+        (IsUnsigned service.now (I.remaining reader.old)
+        (I.remaining reader.new) desk.old desk.new) }
 {
     let jobs = match read_jobs(alloc, reader) {
         Ok(jobs) => jobs,
@@ -167,7 +153,8 @@ where
     })
 }
 
-/// How many signatures a batch has: one for each job of a `Complete` batch, and fewer in a `Partial` one.
+/// How many signatures a batch has: one for each job of a `Complete` batch, and fewer in a
+/// `Partial` one.
 pub fn count_signatures(batch: &Batch) -> usize
     ensures { result ≡ signatures_in batch.now }
 {

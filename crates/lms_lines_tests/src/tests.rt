@@ -12,7 +12,8 @@ use std::test::Fail;
 /// The randomizer 0, 1, .. 31, in both cases of letters.
 const C: &str = "000102030405060708090a0B0c0D0e0f101112131415161718191A1b1C1d1E1f";
 
-/// A text that is read in small pieces. After so many reads it fails. Every second read is interrupted.
+/// A text that is read in small pieces. After so many reads it fails. Every second read is
+/// interrupted.
 #[derive(Drop)]
 pub(crate) struct Source<'t> {
     pub(crate) rest: &'t [u8],
@@ -39,7 +40,8 @@ impl<'t> Read for Source<'t> {
     }
 }
 
-/// Takes so many bytes a write at most. After so many writes it fails, or takes nothing. Every second write is interrupted.
+/// Takes so many bytes a write at most. After so many writes it fails, or takes nothing. Every
+/// second write is interrupted.
 #[derive(Drop)]
 pub(crate) struct Sink {
     pub(crate) taken: Vec<u8>,
@@ -269,7 +271,7 @@ fn bad_lines(rt: HostRuntime) -> Result<(), Fail> {
     Ok(())
 }
 
-/// Whether a third line that is empty is the fault of a text that has over 1024 lines behind it.
+/// Whether a third line that is empty is the fault of a text that has over 1024 lines after it.
 fn has_third_fault(alloc: Global, more: &[u8]) -> Result<bool, Fail> {
     let mut bad = lines(alloc, 2)?;
     bad.push(b'\n')?;

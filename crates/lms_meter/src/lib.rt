@@ -1,4 +1,4 @@
-//! How far a run is that works out trees, told on standard error.
+//! How far a run that computes trees is, printed to standard error.
 #![tactic(auto)]
 
 use lms_tree::Progress;
@@ -13,11 +13,12 @@ const ON_A_TERMINAL: u64 = 500_000_000;
 /// How often a line is printed where there is no terminal, in nanoseconds.
 const ELSEWHERE: u64 = 10_000_000_000;
 
-/// What takes a terminal's line away, from its beginning on.
+/// What clears a terminal's line, from its beginning on.
 const WIPED: &str = "\r\x1b[K";
 
-/// Prints to `errors` how many leaves are done of how many. On a terminal that is one line, written again twice a second, which
-/// goes before anything else is printed; elsewhere it is a line every ten seconds. What can't be printed is left out.
+/// Prints to `errors` how many leaves are done of how many. On a terminal that is one line, written
+/// again twice a second and cleared before anything else is printed; elsewhere it is a line every
+/// ten seconds. What can't be printed is left out.
 #[derive(Drop)]
 pub struct Meter<'r, C, P> {
     clock: &'r C,
@@ -27,7 +28,7 @@ pub struct Meter<'r, C, P> {
     done: AtomicU64,
     /// The nanoseconds on the clock when it was last printed, or at first when the work began.
     told_at: AtomicU64,
-    /// Whether its line stands on the terminal.
+    /// Whether its line is on the terminal.
     is_shown: AtomicBool,
 }
 
@@ -44,7 +45,7 @@ impl<'r, C: Clock, P: Print> Meter<'r, C, P> {
         }
     }
 
-    /// Takes its line off the terminal, where it stands there.
+    /// Clears its line from the terminal, where it is there.
     pub fn wipe(&self) {
         if self.is_shown.swap(false, Ordering::SeqCst) {
             let _ = self.errors.print(WIPED);
@@ -57,7 +58,7 @@ impl<'r, C: Clock, P: Print> Meter<'r, C, P> {
         u64::try_from(time.as_nanos()).unwrap_or(u64::MAX)
     }
 
-    /// Whether it is time to print again. Of the threads that ask then, it is so for one.
+    /// Whether it is time to print again. It is true for one of the threads that ask then.
     fn is_due(&self) -> bool {
         let between = if self.is_on_terminal {
             ON_A_TERMINAL
@@ -103,7 +104,7 @@ impl<'r, C: Clock + Sync, P: Print + Sync> Progress for Meter<'r, C, P> {
     }
 }
 
-/// A writer before whose writes the meter's line goes.
+/// A writer that clears the meter's line before each write.
 #[derive(Drop)]
 pub struct Wiping<'m, 'r, C, P, W> {
     meter: &'m Meter<'r, C, P>,

@@ -1,4 +1,4 @@
--- The candidate, from digits that stand at the front of a table.
+-- The candidate, from digits at the front of a table.
 use Rattle.std.proofs.Common.{ℕ, ◌≡◌, ◌-◌, ◌^◌, ◌<◌, ◌≤◌, List, [], ◌++◌, map, get_or, slice_index, ◌∙◌, ap, arith}
 use Rattle.std.proofs.lemmas.List.{get_or_append_left}
 use Rattle.lms_spec.specs.Parameters.{OtsSet}

@@ -27,7 +27,7 @@ ots-parts t signature rest randomizer last values long es er el ev =
       parts = es ∙ ap (λ x. u32str t.code ++ x) whole;
     }
 
--- a signature's randomizer stands after its typecode
+-- a signature's randomizer is after its typecode
 pub randomizer-of : (t : OtsSet) (randomizer : List ℕ) (values : List (List ℕ)) (signature : List ℕ)
     → IsOtsSignature t randomizer values signature → take 32 (drop 4 signature) ≡ randomizer
 randomizer-of t randomizer values signature is =

@@ -7,26 +7,42 @@ ghost use Rattle.lms_params.specs.OtsType.{ots_set_of};
 use crate::hashing::hasher_at;
 use crate::one_time_key::{D_PBLC, OtsId, chain, last_digit};
 use crate::walk::walk_all;
-use lms_params::OtsType;
+use lms_params::{HASH_LEN, MOST_CHAINS, OtsType};
 use sha2::{Digest, Sha256};
 
-/// The way in which a verifier takes the chains of a signature to their ends. All ways answer the same; they differ in time, code
-/// and stack.
+/// How a verifier takes the chains of a signature to their ends. The result is always the same;
+/// time, code and stack differ.
 pub trait ChainEnds: Copy {
-    /// The hash of the ends that the chains have, from values that stand at these digits (RFC 8554, 4.6). There must be
-    /// `t.p()` values, and no digit of theirs above the last.
-    fn ends_hash(self, t: OtsType, id: OtsId, digits: &[u8; 265], values: &[[u8; 32]]) -> [u8; 32]
+    /// The hash of the ends of the chains, from values at these digits (RFC 8554, 4.6). There must
+    /// be `t.p()` values, and none of their digits may be above the last.
+    fn ends_hash(
+        self,
+        t: OtsType,
+        id: OtsId,
+        digits: &[u8; MOST_CHAINS],
+        values: &[[u8; HASH_LEN]],
+    ) -> [u8; HASH_LEN]
         requires count { length values.now ≡ (ots_set_of t).p }
-        requires limit { (i : ℕ) → i < (ots_set_of t).p → slice_index digits.now i ≤ last_digit_of (ots_set_of t) }
-        ensures { result ≡ ends_hash_of id.i id.q (map (end_from (ots_set_of t) id.i id.q digits.now values.now) (below (ots_set_of t).p)) };
+        requires limit { (i : ℕ) → i < (ots_set_of t).p
+            → slice_index digits.now i ≤ last_digit_of (ots_set_of t) }
+        ensures { result
+            ≡ ends_hash_of id.i id.q
+            (map (end_from (ots_set_of t) id.i id.q digits.now values.now)
+            (below (ots_set_of t).p)) };
 }
 
-/// One chain after another: where stack and code are scarce, as in boot loaders.
+/// One chain after another: for programs with little stack and code, as boot loaders.
 #[derive(Clone, Copy)]
 pub struct OneByOne;
 
 impl ChainEnds for OneByOne {
-    fn ends_hash(self, t: OtsType, id: OtsId, digits: &[u8; 265], values: &[[u8; 32]]) -> [u8; 32] {
+    fn ends_hash(
+        self,
+        t: OtsType,
+        id: OtsId,
+        digits: &[u8; MOST_CHAINS],
+        values: &[[u8; HASH_LEN]],
+    ) -> [u8; HASH_LEN] {
         let last = last_digit(t);
         let mut hasher = hasher_at(&id.i, id.q);
         hasher.update(D_PBLC.to_be_bytes());
@@ -37,13 +53,20 @@ impl ChainEnds for OneByOne {
     }
 }
 
-/// Eight chains side by side, in the lanes of vectors: everywhere else. It takes several times the stack and the code.
+/// Eight chains side by side, in the lanes of vectors: for all other programs. It takes several
+/// times the stack and the code.
 #[derive(Clone, Copy)]
 pub struct ByEights;
 
 impl ChainEnds for ByEights {
-    fn ends_hash(self, t: OtsType, id: OtsId, digits: &[u8; 265], values: &[[u8; 32]]) -> [u8; 32] {
-        let mut ends = [[0; 32]; 265];
+    fn ends_hash(
+        self,
+        t: OtsType,
+        id: OtsId,
+        digits: &[u8; MOST_CHAINS],
+        values: &[[u8; HASH_LEN]],
+    ) -> [u8; HASH_LEN] {
+        let mut ends = [[0; HASH_LEN]; MOST_CHAINS];
         walk_all(t, id, digits, &steps_from(t, digits), values, &mut ends);
         let mut hasher = hasher_at(&id.i, id.q);
         hasher.update(D_PBLC.to_be_bytes());
@@ -55,12 +78,14 @@ impl ChainEnds for ByEights {
 }
 
 /// How many steps lead from each digit to the last.
-fn steps_from(t: OtsType, digits: &[u8; 265]) -> [u16; 265]
-    requires { (i : ℕ) → i < (ots_set_of t).p → slice_index digits.now i ≤ last_digit_of (ots_set_of t) }
-    ensures { (i : ℕ) → i < (ots_set_of t).p → slice_index result i ≡ last_digit_of (ots_set_of t) - slice_index digits.now i }
+fn steps_from(t: OtsType, digits: &[u8; MOST_CHAINS]) -> [u16; MOST_CHAINS]
+    requires { (i : ℕ) → i < (ots_set_of t).p
+        → slice_index digits.now i ≤ last_digit_of (ots_set_of t) }
+    ensures { (i : ℕ) → i < (ots_set_of t).p
+        → slice_index result i ≡ last_digit_of (ots_set_of t) - slice_index digits.now i }
 {
     let last = last_digit(t);
-    let mut steps = [0; 265];
+    let mut steps = [0; MOST_CHAINS];
     'chains: for i in 0..t.p() {
         steps[i] = last - u16::from(digits[i]);
     }

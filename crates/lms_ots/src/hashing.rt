@@ -1,13 +1,13 @@
-//! How the hashed texts of a tree begin.
+//! The bytes with which all hashes of a tree begin.
 ghost use Rattle.sha2.specs.Hashers.{Holds256};
-ghost use Rattle.lms_spec.specs.Hashing.{place};
+ghost use Rattle.lms_spec.specs.Hashing.{hash_prefix};
 
 use sha2::{Digest, Sha256};
 
-/// A hasher that holds the 20 bytes with which each hashed text of a tree begins: the tree's identifier I and the number
-/// of a leaf (RFC 8554, 4.3) or of a node (5.3).
+/// A hasher that has taken the 20 bytes with which each hash of a tree begins: the tree's
+/// identifier I and the number of a leaf (RFC 8554, 4.3) or of a node (5.3).
 pub fn hasher_at(id: &[u8; 16], number: u32) -> Sha256
-    ensures { Holds256 result (place id.now number) }
+    ensures { Holds256 result (hash_prefix id.now number) }
 {
     let mut hasher = Sha256::new();
     hasher.update(id);

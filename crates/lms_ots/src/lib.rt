@@ -1,7 +1,7 @@
 //! LM-OTS, the one-time signature (RFC 8554, section 4).
 //!
-//! A one-time key signs one message. Two messages under one key give a forger what he needs: who calls `sign_into` keeps
-//! the leaves apart.
+//! A one-time key signs one message. With the signatures of two messages by one key, anyone can
+//! forge others: a caller of `sign_into` must use each leaf once.
 #![tactic(auto)]
 
 mod chain_ends;
@@ -10,7 +10,7 @@ mod eights;
 mod hashing;
 mod neighbours;
 mod one_time_key;
-mod signature;
+mod signing;
 mod verification;
 mod walk;
 
@@ -18,5 +18,5 @@ pub use crate::chain_ends::{ByEights, ChainEnds, OneByOne};
 pub use crate::hashing::hasher_at;
 pub use crate::neighbours::eight_public_hashes;
 pub use crate::one_time_key::{OtsId, chain, public_hash, secret};
-pub use crate::signature::sign_into;
+pub use crate::signing::{MESSAGE_HEAD_LEN, sign_into};
 pub use crate::verification::{Verifier, candidate};

@@ -7,10 +7,12 @@ ghost use Rattle.lms_params.specs.OtsType.{ots_set_of};
 use crate::chain_hashes::{chain_head, hash_after};
 use crate::eights::eight_values;
 use crate::hashing::hasher_at;
-use lms_params::OtsType;
+use lms_lanes::LANES;
+use lms_params::{HASH_LEN, OtsType};
 use sha2::Digest;
 
-/// D_PBLC: what keeps the hash of the ends of all chains apart from other hashes (4.3).
+/// D_PBLC: the constant that keeps the hash over the ends of all chains apart from other hashes
+/// (4.3).
 pub(crate) const D_PBLC: u16 = 0x8080;
 
 /// Which one-time key: the identifier I of its tree and the number q of its leaf.
@@ -21,16 +23,16 @@ pub struct OtsId {
 }
 
 /// The public hash K of a one-time key (RFC 8554, 4.3).
-pub fn public_hash(t: OtsType, seed: &[u8; 32], id: OtsId) -> [u8; 32]
+pub fn public_hash(t: OtsType, seed: &[u8; HASH_LEN], id: OtsId) -> [u8; HASH_LEN]
     ensures { result ≡ public_hash_of (ots_set_of t) id.i seed.now id.q }
 {
     let last = last_digit(t);
     let mut hasher = hasher_at(&id.i, id.q);
     hasher.update(D_PBLC.to_be_bytes());
-    'eights: for eight in 0..t.p().div_ceil(8) {
-        let first = 8 * eight;
+    'eights: for eight in 0..t.p().div_ceil(LANES) {
+        let first = LANES * eight;
         let ends = eight_values(id, first as u16, last, seed);
-        let count = (t.p() - first).min(8);
+        let count = (t.p() - first).min(LANES);
         'ends: for k in 0..count {
             hasher.update(ends[k]);
         }
@@ -39,15 +41,15 @@ pub fn public_hash(t: OtsType, seed: &[u8; 32], id: OtsId) -> [u8; 32]
 }
 
 /// The secret of chain i of a one-time key (RFC 8554, Appendix A).
-pub fn secret(seed: &[u8; 32], id: OtsId, i: u16) -> [u8; 32]
+pub fn secret(seed: &[u8; HASH_LEN], id: OtsId, i: u16) -> [u8; HASH_LEN]
     ensures { result ≡ chain_secret id.i seed.now id.q i }
 {
     hash_after(&chain_head(id, i), 0xff, seed)
 }
 
-/// Takes the value of chain i from digit `from` to digit `to`, by the steps from .. to - 1 (RFC 8554, 4.3). `from` is at most
-/// `to`, and `to` at most 255.
-pub fn chain(id: OtsId, i: u16, from: u16, to: u16, x: &[u8; 32]) -> [u8; 32]
+/// Takes the value of chain i from digit `from` to digit `to`, by the steps from .. to - 1 (RFC
+/// 8554, 4.3). `from` is at most `to`, and `to` at most 255.
+pub fn chain(id: OtsId, i: u16, from: u16, to: u16, x: &[u8; HASH_LEN]) -> [u8; HASH_LEN]
     requires order { from ≤ to }
     requires limit { to ≤ 255 }
     ensures { result ≡ chain_of id.i id.q i from (to - from) x.now }

@@ -31,8 +31,8 @@ fn signature(alloc: Global, ots: OtsType, q: u32) -> Result<Vec<u8>, AllocError>
     Ok(text)
 }
 
-/// The expected values are digests of Python's hashlib, of the 20 bytes that begin each text of leaf 5, and of the 55
-/// bytes that the standard's Appendix A gives for its chain 264.
+/// The expected values are digests of Python's hashlib, of the 20 bytes with which each hash of
+/// leaf 5 begins, and of the 55 bytes that the standard's Appendix A gives for its chain 264.
 #[test]
 fn hashes_the_standards_texts(rt: HostRuntime) -> Result<(), Fail> {
     let start: [u8; 32] = FromHex::from_hex(
@@ -63,7 +63,8 @@ fn goes_along_chains(rt: HostRuntime) -> Result<(), Fail> {
     Ok(())
 }
 
-/// A leaf's key and signature are the slow signer's, and the signature leads to that key for its message alone.
+/// A leaf's key and signature are the slow signer's, and the signature leads to that key for its
+/// message alone.
 fn check_leaf(rt: &(impl Abort + AllocGlobal), ots: OtsType, q: u32) -> Result<(), Fail> {
     let tree = SlowTree {
         lms: LmsType::H5,
@@ -123,7 +124,7 @@ fn hashes_eight_neighbours_as_the_slow_signer(rt: HostRuntime) -> Result<(), Fai
     Ok(())
 }
 
-/// Whether a text is no signature of `abc` by leaf 0.
+/// Whether these bytes are no signature of `abc` by leaf 0.
 fn is_refused(ots: OtsType, text: &[u8]) -> bool {
     candidate(ots, OtsId { i: ID, q: 0 }, text, b"abc").is_none()
 }
@@ -152,13 +153,13 @@ fn by_pieces<C: ChainEnds>(
     id: OtsId,
     text: &[u8],
     msg: &[u8; 3],
-    way: C,
+    ends: C,
 ) -> Option<[u8; 32]> {
     let mut verifier = Verifier::begin(ots, id, text)?;
     verifier.update(&msg[..1]);
     verifier.update(b"");
     verifier.update(&msg[1..]);
-    Some(verifier.finish(way))
+    Some(verifier.finish(ends))
 }
 
 /// The candidate of a message, which another hasher takes.
@@ -167,16 +168,17 @@ fn by_hash<C: ChainEnds>(
     id: OtsId,
     text: &[u8],
     msg: &[u8; 3],
-    way: C,
+    ends: C,
 ) -> Option<[u8; 32]> {
     let verifier = Verifier::begin(ots, id, text)?;
     let mut hasher = Sha256::new();
     hasher.update(verifier.head());
     hasher.update(msg);
-    Some(verifier.finish_by_hash(&hasher.finalize(), way))
+    Some(verifier.finish_by_hash(&hasher.finalize(), ends))
 }
 
-/// Whether this is the candidate of a message, however it is handed over and its chains are taken to their ends.
+/// Whether this is the candidate of a message, however it is handed over and its chains are taken
+/// to their ends.
 fn is_candidate(ots: OtsType, id: OtsId, text: &[u8], msg: &[u8; 3], expected: [u8; 32]) -> bool {
     by_pieces(ots, id, text, msg, OneByOne) == Some(expected)
         && by_pieces(ots, id, text, msg, ByEights) == Some(expected)
@@ -184,7 +186,8 @@ fn is_candidate(ots: OtsType, id: OtsId, text: &[u8], msg: &[u8; 3], expected: [
         && by_hash(ots, id, text, msg, ByEights) == Some(expected)
 }
 
-/// A signature leads to its key's public hash in all ways, and with another message in all ways to one other hash.
+/// A signature leads to its key's public hash in all ways, and with another message in all ways to
+/// one other hash.
 fn check_ways(rt: &(impl Abort + AllocGlobal), ots: OtsType) -> Result<(), Fail> {
     let text = signature(rt.alloc(), ots, 5)?;
     let id = OtsId { i: ID, q: 5 };
@@ -226,7 +229,8 @@ fn signs_as_another_implementation(rt: HostRuntime) -> Result<(), Fail> {
     Ok(())
 }
 
-/// Whether leaf 5 has this public hash, and signs `abc` by a signature with this digest that leads to it.
+/// Whether leaf 5 has this public hash, and signs `abc` by a signature with this digest that leads
+/// to it.
 fn is_leaf_5(alloc: Global, ots: OtsType, public: &str, digest: &str) -> Result<bool, Fail> {
     let id = OtsId { i: ID, q: 5 };
     let public: [u8; 32] = FromHex::from_hex(public)?;
@@ -239,7 +243,8 @@ fn is_leaf_5(alloc: Global, ots: OtsType, public: &str, digest: &str) -> Result<
     )
 }
 
-/// In each row, by a program in Python over hashlib: the public hash of leaf 5, and the digest of its signature of `abc`.
+/// In each row, by a program in Python over hashlib: the public hash of leaf 5, and the digest of
+/// its signature of `abc`.
 #[test]
 fn equals_another_program(rt: HostRuntime) -> Result<(), Fail> {
     for (ots, public, digest) in [

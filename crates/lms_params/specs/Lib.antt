@@ -1,3 +1,3 @@
+pub mod Faults
 pub mod LmsType
-pub mod Memory
 pub mod OtsType

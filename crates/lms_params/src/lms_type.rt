@@ -4,9 +4,11 @@ ghost use Rattle.lms_spec.specs.Parameters.{lms_set, lms_signature_length};
 ghost use Rattle.lms_params.specs.LmsType.{lms_set_of};
 ghost use Rattle.lms_params.specs.OtsType.{ots_set_of};
 
+use crate::lengths::HASH_LEN;
 use crate::ots_type::OtsType;
 
-/// An LMS parameter set with SHA-256 and 32-byte hashes (RFC 8554, 5.1), named by its tree's height.
+/// An LMS parameter set with SHA-256 and 32-byte hashes (RFC 8554, 5.1), named by its tree's
+/// height.
 #[derive(Clone, Copy, Debug, PartialEq, Eq)]
 pub enum LmsType {
     H5,
@@ -17,7 +19,7 @@ pub enum LmsType {
 }
 
 impl LmsType {
-    /// The set of a typecode. None exactly where table 2 of RFC 8554 has no such code.
+    /// The set of a typecode. `None` exactly where table 2 of RFC 8554 has no such code.
     pub fn from_code(code: u32) -> Option<Self>
         ensures { option_map lms_set_of result ≡ lms_set code }
     {
@@ -58,9 +60,10 @@ impl LmsType {
     }
 }
 
-/// The bytes of an LMS signature: leaf number, LM-OTS signature, typecode and h hashes (RFC 8554, 5.4).
+/// The bytes of an LMS signature: leaf number, LM-OTS signature, typecode and h hashes (RFC 8554,
+/// 5.4).
 pub fn lms_sig_len(lms: LmsType, ots: OtsType) -> usize
     ensures { result ≡ lms_signature_length (lms_set_of lms) (ots_set_of ots) }
 {
-    8 + ots.sig_len() + 32 * lms.height() as usize
+    8 + ots.sig_len() + HASH_LEN * lms.height() as usize
 }

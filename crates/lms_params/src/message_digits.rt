@@ -6,34 +6,36 @@ ghost use Rattle.lms_spec.specs.Bytes.{u16str};
 ghost use Rattle.lms_spec.specs.Digits.{digit as digit_of, checksum as checksum_of, digits_of};
 ghost use Rattle.lms_params.specs.OtsType.{ots_set_of};
 
+use crate::lengths::{HASH_LEN, MOST_CHAINS};
 use crate::ots_type::OtsType;
 use byteorder::{BigEndian, ByteOrder};
 
-/// The digits that a one-time signature of the hash `q` signs (RFC 8554, 4.4 and 4.5): first the `t.p()` digits of
-/// the hash and its checksum, each below 2^w, then zeros.
-pub fn digits(q: &[u8; 32], t: OtsType) -> [u8; 265]
-    ensures { result ≡ digits_of (ots_set_of t) q.now ++ replicate (most_chains - (ots_set_of t).p) 0 }
+/// The digits that a one-time signature of the hash `q` signs (RFC 8554, 4.4 and 4.5): first the
+/// `t.p()` digits of the hash and its checksum, each below 2^w, then zeros.
+pub fn digits(q: &[u8; HASH_LEN], t: OtsType) -> [u8; MOST_CHAINS]
+    ensures { result ≡ digits_of (ots_set_of t) q.now
+        ++ replicate (most_chains - (ots_set_of t).p) 0 }
 {
     let text = with_checksum(q, t);
-    let mut digits = [0; 265];
+    let mut digits = [0; MOST_CHAINS];
     for i in 0..t.p() {
         digits[i] = digit(&text, i, t);
     }
     digits
 }
 
-/// A hash and its checksum, 34 bytes (4.5).
-fn with_checksum(q: &[u8; 32], t: OtsType) -> [u8; 34]
+/// A hash and the two bytes of its checksum (4.5).
+fn with_checksum(q: &[u8; HASH_LEN], t: OtsType) -> [u8; HASH_LEN + 2]
     ensures { result ≡ q.now ++ u16str (checksum_of (ots_set_of t) q.now) }
 {
-    let mut text = [0; 34];
-    text[..32].copy_from_slice(q);
-    BigEndian::write_u16(&mut text[32..], checksum(q, t));
+    let mut text = [0; HASH_LEN + 2];
+    text[..HASH_LEN].copy_from_slice(q);
+    BigEndian::write_u16(&mut text[HASH_LEN..], checksum(q, t));
     text
 }
 
 /// The checksum of a hash (4.4).
-fn checksum(q: &[u8; 32], t: OtsType) -> u16
+fn checksum(q: &[u8; HASH_LEN], t: OtsType) -> u16
     ensures { result ≡ checksum_of (ots_set_of t) q.now }
 {
     let last_digit = low_bits(u8::MAX, t);

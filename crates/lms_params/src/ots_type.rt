@@ -3,7 +3,10 @@ ghost use Rattle.std.specs.Prelude.{◌≡◌, option_map};
 ghost use Rattle.lms_spec.specs.Parameters.{ots_set, ots_signature_length};
 ghost use Rattle.lms_params.specs.OtsType.{ots_set_of};
 
-/// An LM-OTS parameter set with SHA-256 and 32-byte hashes (RFC 8554, 4.1), named by its Winternitz width.
+use crate::lengths::HASH_LEN;
+
+/// An LM-OTS parameter set with SHA-256 and 32-byte hashes (RFC 8554, 4.1), named by its Winternitz
+/// width.
 #[derive(Clone, Copy, Debug, PartialEq, Eq)]
 pub enum OtsType {
     W1,
@@ -13,7 +16,7 @@ pub enum OtsType {
 }
 
 impl OtsType {
-    /// The set of a typecode. None exactly where table 1 of RFC 8554 has no such code.
+    /// The set of a typecode. `None` exactly where table 1 of RFC 8554 has no such code.
     pub fn from_code(code: u32) -> Option<Self>
         ensures { option_map ots_set_of result ≡ ots_set code }
     {
@@ -78,6 +81,6 @@ impl OtsType {
     pub fn sig_len(self) -> usize
         ensures { result ≡ ots_signature_length (ots_set_of self) }
     {
-        4 + 32 * (self.p() + 1)
+        4 + HASH_LEN * (self.p() + 1)
     }
 }

@@ -1,4 +1,4 @@
-use lms_params::{LmsType, OtsType, OutOfMemory, digits, lms_sig_len, split_u32};
+use lms_params::{LmsType, OtsType, OutOfMemory, digits, lms_sig_len, split_u32, split_u64};
 use std::alloc::AllocError;
 use std::array;
 use std::process::Abort;
@@ -82,7 +82,8 @@ fn counts_the_bytes_of_signatures(rt: HostRuntime) {
     assert_eq!(rt; lms_sig_len(LmsType::H25, OtsType::W1), 9324);
 }
 
-/// A hash whose digits are known: those of the message repeat a pattern, and those of the checksum follow.
+/// A hash whose digits are known: those of the message repeat a pattern, and those of the checksum
+/// follow.
 #[derive(Clone, Copy)]
 struct Worked<'a> {
     ots: OtsType,
@@ -155,6 +156,10 @@ fn splits_a_number_off(rt: HostRuntime) {
     assert!(rt; split_u32(&[0, 1, 2, 3, 9]) == Some((0x10203, &[9])));
     assert!(rt; split_u32(&[0, 1, 2, 3]) == Some((0x10203, &[])));
     assert!(rt; split_u32(&[0, 1, 2]).is_none());
+    let nine = [0, 1, 2, 3, 4, 5, 6, 7, 8];
+    assert!(rt; split_u64(&nine) == Some((0x1020304050607, &[8])));
+    assert!(rt; split_u64(&nine[..8]) == Some((0x1020304050607, &[])));
+    assert!(rt; split_u64(&nine[..7]).is_none());
 }
 
 #[test]

@@ -6,18 +6,18 @@ use native.Mathlib.Decide.{dec_lt}
 use mathlib.Core.Logic.{dite}
 use Rattle.atomic_table.specs.Seated.{TableId}
 use Rattle.atomic_table.specs.Table.{Allows}
-use Rattle.lms_pool.specs.declared.history.Call.{Call}
-use Rattle.lms_pool.specs.declared.history.Call.TheVariants.{Claim, Look, Stop}
-use Rattle.lms_pool.specs.declared.history.Reply.{Reply}
-use Rattle.lms_pool.specs.declared.history.Reply.TheVariants.{Place, Ended}
-use Rattle.lms_pool.specs.declared.history.Entry.{Entry}
-use Rattle.lms_pool.specs.declared.history.Hand.{Hand}
+use Rattle.lms_pool.specs.declared.call_log.Call.{Call}
+use Rattle.lms_pool.specs.declared.call_log.Call.TheVariants.{Claim, Look, Stop}
+use Rattle.lms_pool.specs.declared.call_log.Reply.{Reply}
+use Rattle.lms_pool.specs.declared.call_log.Reply.TheVariants.{Place, Ended}
+use Rattle.lms_pool.specs.declared.call_log.Entry.{Entry}
+use Rattle.lms_pool.specs.declared.call_log.Hand.{Hand}
 use Rattle.lms_pool.specs.declared.rule.Shape.{Shape}
 use Rattle.lms_pool.specs.declared.seat.DrawSeat.TheInside.{Inside}
-use Rattle.lms_pool.specs.History.{turn, state_after, entry, gone, IsLegal, IsLegalFrom, Extends, calls_of, stopped_by, stopped_in}
+use Rattle.lms_pool.specs.CallLog.{turn, state_after, entry, taken, IsLegal, IsLegalFrom, Extends, calls_of, stopped_by, stopped_in}
 use Rattle.lms_pool.specs.Rule.{Seated, counting_word, hand, the_hand, Makes, reply_at, took_effect}
 use Rattle.lms_pool.specs.States.{PoolState, SeatState, IsPool, IsSeat, Calls, seen}
-use Rattle.lms_pool.proofs.Histories.{claim_next, claim_end, gone_more, gone_within, state-append, stopped_after, stopped_within}
+use Rattle.lms_pool.proofs.CallLogs.{claim_next, claim_end, taken_more, taken_within, state-append, stopped_after, stopped_within}
 use Rattle.lms_pool.proofs.Steps.{Rule, one}
 
 pub claim_place : (len n : ℕ) → n < len → reply_at len n Claim ≡ Place n
@@ -26,7 +26,7 @@ claim_place len n l = let e : min n len ≡ n = omega arith in ap (λ (k : ℕ).
 pub claim_over : (len n : ℕ) → len ≤ n → reply_at len n Claim ≡ Ended
 claim_over len n l = ap (λ (t : Reply × ℕ). t.0) (claim_end len (min n len) (omega arith))
 
--- the last reply of a legal history
+-- the last reply of a legal call log
 last_legal : (len n : ℕ) (xs : List Entry) (e : Entry) → IsLegalFrom len n (xs ++ e ∷ []) → e.reply ≡ (turn len (state_after len n xs) e.call).0
 last_legal len n [] e l = l.0
 last_legal len n (x ∷ xs) e l = last_legal len (turn len n x.call).1 xs e l.1
@@ -36,13 +36,13 @@ place_is len n p e = dite (dec_lt n len)
     (λ l. let r : Place p ≡ Place n = e ∙ ap (λ (t : Reply × ℕ). t.0) (claim_next len n l) in cc)
     (λ g. let r : Place p ≡ Ended = e ∙ ap (λ (t : Reply × ℕ). t.0) (claim_end len n (omega arith)) in absurd (cc))
 
--- a claim's place is one that the seat had not seen go
-pub place_from : (len x p : ℕ) (old new : List Entry) → Extends len old (entry x Claim (Place p)) new → gone len old ≤ p
+-- a claim's place is one that the seat had not seen taken
+pub place_from : (len x p : ℕ) (old new : List Entry) → Extends len old (entry x Claim (Place p)) new → taken len old ≤ p
 place_from len x p old new ext =
     let whole = subst (IsLegal len) ext.1.1 ext.0 in
     let before : List Entry = old ++ ext.1.0 in
-    let r = place_is len (gone len before) p (last_legal len 0 before (entry x Claim (Place p)) whole) in
-    omega (arith, r, gone_more len old ext.1.0)
+    let r = place_is len (taken len before) p (last_legal len 0 before (entry x Claim (Place p)) whole) in
+    omega (arith, r, taken_more len old ext.1.0)
 
 end_is : (len n : ℕ) → Ended ≡ (turn len n Claim).0 → len ≤ n
 end_is len n e = dite (dec_lt n len)
@@ -50,21 +50,21 @@ end_is len n e = dite (dec_lt n len)
     (λ g. omega arith)
 
 -- a claim ends only where no place is left
-pub end_from : (len x : ℕ) (old new : List Entry) → Extends len old (entry x Claim Ended) new → gone len new ≡ len
+pub end_from : (len x : ℕ) (old new : List Entry) → Extends len old (entry x Claim Ended) new → taken len new ≡ len
 end_from len x old new ext =
     let whole = subst (IsLegal len) ext.1.1 ext.0 in
     let before : List Entry = old ++ ext.1.0 in
     let e : Entry = entry x Claim Ended in
-    let over = end_is len (gone len before) (last_legal len 0 before e whole) in
-    omega (arith, ap (gone len) ext.1.1, state-append len 0 before (e ∷ []), ap (λ (t : Reply × ℕ). t.1) (claim_end len (gone len before) over), over, gone_within len before)
+    let over = end_is len (taken len before) (last_legal len 0 before e whole) in
+    omega (arith, ap (taken len) ext.1.1, state-append len 0 before (e ∷ []), ap (λ (t : Reply × ℕ). t.1) (claim_end len (taken len before) over), over, taken_within len before)
 
 -- a seat that has seen the end gets no place
-pub end_again : (len x : ℕ) (r : Reply) (old new : List Entry) → gone len old ≡ len → Extends len old (entry x Claim r) new → r ≡ Ended
+pub end_again : (len x : ℕ) (r : Reply) (old new : List Entry) → taken len old ≡ len → Extends len old (entry x Claim r) new → r ≡ Ended
 end_again len x r old new end ext =
     let whole = subst (IsLegal len) ext.1.1 ext.0 in
     let before : List Entry = old ++ ext.1.0 in
-    let over : len ≤ gone len before = omega (arith, end, gone_more len old ext.1.0) in
-    last_legal len 0 before (entry x Claim r) whole ∙ ap (λ (t : Reply × ℕ). t.0) (claim_end len (gone len before) over)
+    let over : len ≤ taken len before = omega (arith, end, taken_more len old ext.1.0) in
+    last_legal len 0 before (entry x Claim r) whole ∙ ap (λ (t : Reply × ℕ). t.0) (claim_end len (taken len before) over)
 
 -- the reply of a call tells the state after it
 state_told : (len m n : ℕ) (c : Call) → m ≤ len → n ≤ len → (turn len m c).0 ≡ (turn len n c).0 → (turn len m c).1 ≡ (turn len n c).1
@@ -77,15 +77,15 @@ state_told len m n Claim k l e = ap (λ (n : ℕ). (turn len n Claim).1) same
 state_told len m n Look k l e = let same : m ≡ n = cc in same
 state_told len m n Stop k l e = refl
 
--- what is gone after a call that found this word
-gone_after : (len x n : ℕ) (c : Call) (old new : List Entry) → Extends len old (entry x c (reply_at len n c)) new → gone len new ≡ (turn len (min n len) c).1
-gone_after len x n c old new ext =
+-- what is taken after a call that found this word
+taken_after : (len x n : ℕ) (c : Call) (old new : List Entry) → Extends len old (entry x c (reply_at len n c)) new → taken len new ≡ (turn len (min n len) c).1
+taken_after len x n c old new ext =
     let whole = subst (IsLegal len) ext.1.1 ext.0 in
     let before : List Entry = old ++ ext.1.0 in
     let e : Entry = entry x c (reply_at len n c) in
-    ap (gone len) ext.1.1
+    ap (taken len) ext.1.1
     ∙ state-append len 0 before (e ∷ [])
-    ∙ state_told len (gone len before) (min n len) c (gone_within len before) (omega arith) (sym (last_legal len 0 before e whole))
+    ∙ state_told len (taken len before) (min n len) c (taken_within len before) (omega arith) (sym (last_legal len 0 before e whole))
 
 -- the seat of these fields is in order
 abbrev pub IsWell : Inside → Type 0
@@ -111,7 +111,7 @@ pub asks : (me : Inside) (pool : PoolState) (shape : Shape) (f : ℕ → ℕ) (t
     → Asks pool shape me f then
 asks me pool shape f then same is seat allowed =
     let at = seat.alone ∙ (λ i. one (own_hand me (same i).len)) in (
-      seat.table_is ∙ ap (λ (p : PoolState). p.table) same,
+      seat.of_pool.table_is ∙ ap (λ (p : PoolState). p.table) same,
       omega (arith, is.words),
       subst (λ (p : Shape × Seated). Allows (Rule p.0.len p.0.seats) pool.table.slots me.seat.id p.1 counting_word f (then p.1)) (λ i. (sym is.shape_is i, sym at i)) allowed,
     )
@@ -147,7 +147,8 @@ left_by : (len number : ℕ) (old : List Entry) (c : Call) (r : Reply) (w : Seat
 left_by len number old c r w k e m =
     subst (Left len number old c r) (sym e) (record { alone = λ i. one (hand (m.0 i) (m.1 i) k.log); log = m.2 })
 
--- after a call with this reply, which found this word, the seat has made it, and is in order where it counts and tells what it has to
+-- after a call with this reply, which found this word, the seat has made it, and is in order where
+-- it counts and tells what it has to
 pub record Called (me : Inside) (c : Call) (r : Reply) (n : ℕ) (w : Seated) : Type 0 where
   pub makes : (before : SeatState) → seat_with me me.seat.me ≡ before → Calls before c r (seat_with me w)
   pub stays : (stopped : ℕ) (has_seen_end : Bool) (table : TableId) → table ≡ me.seat.table_id → stopped ≡ me.stopped + stopped_by c r
@@ -168,32 +169,34 @@ module _ (me : Inside) (seat : IsWell me) where
       record {
         makes = λ before is. subst (λ (s : SeatState). Calls s c r (seat_with me w)) is (refl, refl, left.log);
         stays = λ stopped has_seen_end table same adds sees.
-            let counted : stopped ≡ stopped_in (calls_of me.number new) = omega (arith, adds, seat.counted, stopped_after len old_log (entry me.number c r) new left.log) in
+            let counted : stopped ≡ stopped_in (calls_of me.number new) = omega (arith, adds, seat.of_pool.counted, stopped_after len old_log (entry me.number c r) new left.log) in
             record {
-              below = seat.below;
-              table_is = same ∙ seat.table_is;
+              of_pool = record {
+                below = seat.of_pool.below;
+                table_is = same ∙ seat.of_pool.table_is;
+                counted = counted;
+                few = omega (arith, counted, stopped_within len me.number new left.log.0);
+              };
               alone = left.alone;
-              counted = counted;
-              few = omega (arith, counted, stopped_within len me.number new left.log.0);
-              end = sees ∙ ap (λ (k : ℕ). nat_eq k len) (sym (gone_after len me.number n c old_log new found.log));
+              end = sees ∙ ap (λ (k : ℕ). nat_eq k len) (sym (taken_after len me.number n c old_log new found.log));
             };
       }
 
   -- whether the seat has seen the end
-  pub has_ended : me.has_seen_end ≡ true → gone me.pool.value.len old_log ≡ me.pool.value.len
-  has_ended e = let t : nat_eq (gone me.pool.value.len old_log) me.pool.value.len ≡ true = sym seat.end ∙ e in grind (arith, nat_tests)
+  pub has_ended : me.has_seen_end ≡ true → taken me.pool.value.len old_log ≡ me.pool.value.len
+  has_ended e = let t : nat_eq (taken me.pool.value.len old_log) me.pool.value.len ≡ true = sym seat.end ∙ e in grind (arith, nat_tests)
 
-  pub has_places : me.has_seen_end ≡ false → gone me.pool.value.len old_log < me.pool.value.len
+  pub has_places : me.has_seen_end ≡ false → taken me.pool.value.len old_log < me.pool.value.len
   has_places e =
-      let t : nat_eq (gone me.pool.value.len old_log) me.pool.value.len ≡ false = sym seat.end ∙ e in
-      let apart : gone me.pool.value.len old_log ≢ me.pool.value.len = grind (arith, nat_tests) in
-      omega (arith, gone_within me.pool.value.len old_log, apart)
+      let t : nat_eq (taken me.pool.value.len old_log) me.pool.value.len ≡ false = sym seat.end ∙ e in
+      let apart : taken me.pool.value.len old_log ≢ me.pool.value.len = grind (arith, nat_tests) in
+      omega (arith, taken_within me.pool.value.len old_log, apart)
 
-  pub not_ended : gone me.pool.value.len old_log < me.pool.value.len → me.has_seen_end ≡ false
-  not_ended l = let t : nat_eq (gone me.pool.value.len old_log) me.pool.value.len ≡ false = grind (arith, nat_tests) in seat.end ∙ t
+  pub not_ended : taken me.pool.value.len old_log < me.pool.value.len → me.has_seen_end ≡ false
+  not_ended l = let t : nat_eq (taken me.pool.value.len old_log) me.pool.value.len ≡ false = grind (arith, nat_tests) in seat.end ∙ t
 
   -- the load of a claim finds no place, and the seat has seen the end as before
-  pub after_load : (n : ℕ) (w : Seated) → took_effect Claim me.seat.me n w → gone me.pool.value.len old_log ≡ me.pool.value.len
+  pub after_load : (n : ℕ) (w : Seated) → took_effect Claim me.seat.me n w → taken me.pool.value.len old_log ≡ me.pool.value.len
       → (reply_at me.pool.value.len n Claim ≡ Ended) × (me.has_seen_end ≡ nat_eq (turn me.pool.value.len (min n me.pool.value.len) Claim).1 me.pool.value.len)
   after_load n w told end =
       let len = me.pool.value.len in
@@ -205,7 +208,7 @@ module _ (me : Inside) (seat : IsWell me) where
 -- the same of a seat
 pub ended_seen : (pool : PoolState) (old new : SeatState) → old.pool ≡ pool → Calls old Claim Ended new → seen new ≡ pool.len
 ended_seen pool old new same calls =
-    ap (λ (p : PoolState). gone p.len new.log) calls.0 ∙ end_from old.pool.len old.number old.log new.log calls.2 ∙ ap (λ (p : PoolState). p.len) same
+    ap (λ (p : PoolState). taken p.len new.log) calls.0 ∙ end_from old.pool.len old.number old.log new.log calls.2 ∙ ap (λ (p : PoolState). p.len) same
 
 pub place_seen : (place : ℕ) (old new : SeatState) → Calls old Claim (Place place) new → seen old ≤ place
 place_seen place old new calls = place_from old.pool.len old.number place old.log new.log calls.2

@@ -3,12 +3,11 @@ ghost use Rattle.std.specs.Prelude.{◌≡◌, ◌≤◌, All, IfOk};
 ghost use Rattle.lms_pool.specs.Rule.{most_seats};
 
 mod fixtures;
-mod pools;
 
 use crate::tests::fixtures::{lease, pool};
-use crate::tests::pools::{Claimed, Pool};
 use lms_cell_pool::CellPool;
 use lms_pool::{Ended, IndexPool, MissingSeats, Tally};
+use lms_pool_fixtures::{Claimed, Pool};
 use std::alloc::{AllocGlobal, Global};
 use std::process::Abort;
 use std::sync::Wait;
@@ -90,7 +89,8 @@ fn a_stopped_pool_has_ended(rt: HostRuntime) -> Result<(), Fail> {
     ends_where_stopped::<CellPool, HostRuntime>(&rt)
 }
 
-/// Ends a pool without its last seat, which is refused, and then with it. Answers how many seats came first.
+/// Ends a pool without its last seat, which is refused, and then with it. Answers how many seats
+/// came first.
 fn finished_at_last<P: Pool + Drop, R: Wait>(
     rt: &R,
     pool: P,
@@ -123,7 +123,8 @@ fn a_seat_is_missing(rt: HostRuntime) -> Result<(), Fail> {
     waits_for_all::<CellPool, HostRuntime>(&rt)
 }
 
-/// A pool of three places from index 7 on and its two seats, made at the first or at the second try.
+/// A pool of three places from index 7 on and its two seats, made at the first or at the second
+/// try.
 fn made_at_last<P: Pool, R: AllocGlobal + Wait + Abort>(rt: &R) -> Result<(P, Vec<P::Seat>), Fail>
     ensures { IfOk result (λ r. All (λ seat. P.pool_of seat ≡ P.state r.0) r.1.items) }
 {
@@ -148,7 +149,7 @@ fn hands_back<P: Pool + Drop, R: AllocGlobal + Wait + Abort>(rt: &R) -> Result<(
     Ok(())
 }
 
-/// `tests/refused` refuses each request for memory in turn.
+/// The merge check refuses each request for memory in turn.
 #[test]
 fn a_pool_is_made_after_refused_memory(rt: HostRuntime) -> Result<(), Fail> {
     hands_back::<IndexPool, HostRuntime>(&rt)?;
@@ -171,7 +172,8 @@ fn look_reads_the_word(rt: HostRuntime) -> Result<(), Fail> {
     reads_what_others_do::<CellPool, HostRuntime>(&rt)
 }
 
-/// Lets as many threads begin together, or gives up after a million turns. Answers how many came before this one.
+/// Lets as many threads begin together, or gives up after a million turns. Answers how many came
+/// before this one.
 fn begin_together(begun: &AtomicUsize, threads: usize) -> usize {
     let before = begun.fetch_add(1, Ordering::SeqCst);
     for _ in 0..1_000_000 {
@@ -221,9 +223,9 @@ fn stop_after_ten<P: Pool, R: Wait>(
     (seat, places)
 }
 
-/// Each seat claims in a thread of its own, all at once, up to `most` places; where one is to stop the pool, the first to begin does,
-/// after ten.
-fn drawn_by_all<P: Pool, R: Threads + Wait + Sync>(
+/// Each seat claims in a thread of its own, all at once, up to `most` places; where one is to stop
+/// the pool, the first to begin does, after ten.
+fn claimed_by_all<P: Pool, R: Threads + Wait + Sync>(
     rt: &R,
     alloc: Global,
     pool: &P,
@@ -234,7 +236,8 @@ fn drawn_by_all<P: Pool, R: Threads + Wait + Sync>(
 where
     P::Seat: Send,
     requires { All (λ seat. P.pool_of seat ≡ P.state pool.now) seats.items }
-    ensures { IfOk result (λ all. All (λ drawn. P.pool_of drawn.0 ≡ P.state pool.now) all.items) }
+    ensures { IfOk result (λ all.
+        All (λ claimed. P.pool_of claimed.0 ≡ P.state pool.now) all.items) }
 {
     let threads = seats.len();
     let begun = AtomicUsize::new(0);
@@ -256,21 +259,21 @@ where
     Ok(all)
 }
 
-/// Ends a pool of which each seat drew, and answers what became of the places, where those that were claimed are 0, 1, 2 and so
-/// on, each once.
+/// Ends a pool of which each seat claimed, and answers what became of the places, where those that
+/// were claimed are 0, 1, 2 and so on, each once.
 fn finished_in_order<P: Pool + Drop, R: Wait>(
     rt: &R,
     alloc: Global,
     pool: P,
     all: Vec<(P::Seat, Vec<u64>)>,
 ) -> Result<Tally, Fail>
-    requires { All (λ drawn. P.pool_of drawn.0 ≡ P.state pool) all.items }
+    requires { All (λ claimed. P.pool_of claimed.0 ≡ P.state pool) all.items }
 {
     let mut all = all;
     let mut seats = Vec::new(alloc);
     let mut places = Vec::new(alloc);
-    while let Some(drawn) = all.pop() {
-        let (seat, more) = drawn;
+    while let Some(claimed) = all.pop() {
+        let (seat, more) = claimed;
         seats.push(seat)?;
         places.extend_from_slice(more.as_slice())?;
     }
@@ -287,8 +290,8 @@ fn finished_in_order<P: Pool + Drop, R: Wait>(
     Ok(tally)
 }
 
-/// What becomes of the places of a pool whose seats all draw at once.
-fn drawn_at_once<P: Pool + Drop, R: Threads + Wait + Sync + AllocGlobal>(
+/// What becomes of the places of a pool whose seats all claim at once.
+fn claimed_at_once<P: Pool + Drop, R: Threads + Wait + Sync + AllocGlobal>(
     rt: &R,
     len: u64,
     seats: usize,
@@ -302,12 +305,12 @@ where
     requires seats { (1 ≤ seats) × (seats ≤ most_seats) }
 {
     let (pool, seats) = pool::<P, R>(rt, 0, len, seats)?;
-    let all = drawn_by_all(rt, rt.alloc(), &pool, seats, most, stops)?;
+    let all = claimed_by_all(rt, rt.alloc(), &pool, seats, most, stops)?;
     finished_in_order(rt, rt.alloc(), pool, all)
 }
 
 /// What becomes of the places of both pools.
-fn both_drawn_at_once<R: Threads + Wait + Sync + AllocGlobal>(
+fn both_claimed_at_once<R: Threads + Wait + Sync + AllocGlobal>(
     rt: &R,
     len: u64,
     seats: usize,
@@ -318,15 +321,15 @@ fn both_drawn_at_once<R: Threads + Wait + Sync + AllocGlobal>(
     requires seats { (1 ≤ seats) × (seats ≤ most_seats) }
 {
     Ok([
-        drawn_at_once::<IndexPool, R>(rt, len, seats, most, false)?,
-        drawn_at_once::<CellPool, R>(rt, len, seats, most, false)?,
+        claimed_at_once::<IndexPool, R>(rt, len, seats, most, false)?,
+        claimed_at_once::<CellPool, R>(rt, len, seats, most, false)?,
     ])
 }
 
 #[test]
-fn four_threads_draw_100_places(rt: HostRuntime) -> Result<(), Fail> {
+fn four_threads_claim_100_places(rt: HostRuntime) -> Result<(), Fail> {
     assert_eq!(rt;
-        both_drawn_at_once(&rt, 100, 4, 1025)?,
+        both_claimed_at_once(&rt, 100, 4, 1025)?,
         [tally(100, 0, 0); 2]
     );
     Ok(())
@@ -334,14 +337,14 @@ fn four_threads_draw_100_places(rt: HostRuntime) -> Result<(), Fail> {
 
 #[test]
 fn one_of_64_threads_gets_the_place(rt: HostRuntime) -> Result<(), Fail> {
-    assert_eq!(rt; both_drawn_at_once(&rt, 1, 64, 1)?, [tally(1, 0, 0); 2]);
+    assert_eq!(rt; both_claimed_at_once(&rt, 1, 64, 1)?, [tally(1, 0, 0); 2]);
     Ok(())
 }
 
 #[test]
-fn sixty_four_threads_draw_1024_places(rt: HostRuntime) -> Result<(), Fail> {
+fn sixty_four_threads_claim_1024_places(rt: HostRuntime) -> Result<(), Fail> {
     assert_eq!(rt;
-        both_drawn_at_once(&rt, 1024, 64, 1025)?,
+        both_claimed_at_once(&rt, 1024, 64, 1025)?,
         [tally(1024, 0, 0); 2]
     );
     Ok(())
@@ -350,8 +353,8 @@ fn sixty_four_threads_draw_1024_places(rt: HostRuntime) -> Result<(), Fail> {
 #[test]
 fn a_thread_stops_the_pool(rt: HostRuntime) -> Result<(), Fail> {
     for tally in [
-        drawn_at_once::<IndexPool, HostRuntime>(&rt, 1000, 4, 1025, true)?,
-        drawn_at_once::<CellPool, HostRuntime>(&rt, 1000, 4, 1025, true)?,
+        claimed_at_once::<IndexPool, HostRuntime>(&rt, 1000, 4, 1025, true)?,
+        claimed_at_once::<CellPool, HostRuntime>(&rt, 1000, 4, 1025, true)?,
     ] {
         assert_eq!(rt; tally.left, 0);
         assert_eq!(rt; tally.claimed.saturating_add(tally.stopped), 1000);

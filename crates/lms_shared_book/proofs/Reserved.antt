@@ -5,10 +5,9 @@ use Rattle.std.proofs.lemmas.List.{append_assoc, append-nil}
 use Rattle.std.proofs.lemmas.List.Sums.{sum_by-append}
 use Rattle.lms_book.specs.declared.history.Entry.{Entry}
 use Rattle.lms_book.specs.declared.history.Entry.TheVariants.{Given, Burnt}
-use Rattle.lms_book.specs.declared.refusals.BookFault.TheVariants.{Store}
+use Rattle.lms_book.specs.declared.fault.BookFault.TheVariants.{Store}
 use Rattle.lms_book.specs.History.{given_len, burnt_len}
-use Rattle.lms_book.specs.Stops.{Texts}
-use Rattle.lms_book.specs.States.{BookState, LeaseState, IsOpenedFrom}
+use Rattle.lms_book.specs.States.{BookState, LeaseState, IsSameOpening}
 use Rattle.lms_book.specs.Books.{Reserves}
 use Rattle.lms_shared_book.specs.Desks.{Sums, plus, sums_of}
 use Rattle.lms_shared_book.specs.Shared.{IsAfter, IsAfterEntry, IsFound, IsSettled}
@@ -49,16 +48,16 @@ pub after_sums : (start : BookState) (es : List Entry) (book : BookState) → Is
 after_sums start es book is = ap sums_of (after_history start es book is) ∙ sums_append start.history es
 
 -- what a reservation gave is an entry
-pub gives_entry : (n : ℕ) (old : BookState) (lease : LeaseState) (new : BookState) → new.key ≡ old.key → new.base ≡ old.base
-    → new.openings ≡ old.openings → new.burnt ≡ old.burnt → ((held : Texts) → IsOpenedFrom held old → IsOpenedFrom held new)
+pub gives_entry : (n : ℕ) (old : BookState) (lease : LeaseState) (new : BookState) → IsSameOpening old new
     → Reserves n old (Ok lease) new → IsAfterEntry old (Given n) new
-gives_entry n old lease new k b o u kept (room, is, history, wrote) = record { key = k; base = b; openings = o; burnt = u; opened = kept; reservation = (room, refl, history, wrote) }
+gives_entry n old lease new same (room, is, history, wrote) =
+    record { opening = same; reservation = (room, refl, history, wrote) }
 
 -- so is what it burnt
-pub burns_entry : (n start len : ℕ) (old new : BookState) → new.key ≡ old.key → new.base ≡ old.base
-    → new.openings ≡ old.openings → new.burnt ≡ old.burnt → ((held : Texts) → IsOpenedFrom held old → IsOpenedFrom held new)
+pub burns_entry : (n start len : ℕ) (old new : BookState) → IsSameOpening old new
     → Reserves n old (Err (Store start len)) new → IsAfterEntry old (Burnt n) new
-burns_entry n start len old new k b o u kept (room, s, l, history, failed) = record { key = k; base = b; openings = o; burnt = u; opened = kept; reservation = (room, refl, refl, history, failed) }
+burns_entry n start len old new same (room, s, l, history, failed) =
+    record { opening = same; reservation = (room, refl, refl, history, failed) }
 
 -- a book behind the lock; the part of the sums that is the book's own counts what was before
 pub behind : (shared : BookState) (desks : ℕ) (desk part totals : Sums) (found : BookState) (es : List Entry) → IsAfter shared es found

@@ -2,8 +2,8 @@
 use Rattle.std.specs.Prelude.{◌≡◌, ℕ, ◌+◌, ◌≤◌, List, [], ◌∷◌, length, Result, Ok, Err}
 use Rattle.std.specs.declared.sync.ledger.Blank.{Blank as BlankOfCode}
 use Rattle.lms_book.specs.declared.history.Entry.{Entry}
-use Rattle.lms_book.specs.declared.refusals.BookFault.{BookFault}
-use Rattle.lms_book.specs.declared.refusals.BookFault.TheVariants.{Exhausted, OutOfMemory, Store}
+use Rattle.lms_book.specs.declared.fault.BookFault.{BookFault}
+use Rattle.lms_book.specs.declared.fault.BookFault.TheVariants.{Exhausted, OutOfMemory, Store}
 use Rattle.lms_book.specs.History.{given_of, burnt_of}
 use Rattle.lms_book.specs.States.{BookState, LeaseState}
 

@@ -1,3 +1,3 @@
 pub mod Desks
-pub mod Missing
+pub mod Faults
 pub mod Shared

@@ -2,9 +2,8 @@
 use Rattle.std.specs.Prelude.{◌≡◌, ℕ, List, [], ◌∷◌, Ok, Err}
 use Rattle.lms_book.specs.declared.history.Entry.{Entry}
 use Rattle.lms_book.specs.declared.history.Entry.TheVariants.{Given, Burnt}
-use Rattle.lms_book.specs.declared.refusals.BookFault.TheVariants.{Store}
-use Rattle.lms_book.specs.Stops.{Texts}
-use Rattle.lms_book.specs.States.{BookState, LeaseState, IsOpenedFrom}
+use Rattle.lms_book.specs.declared.fault.BookFault.TheVariants.{Store}
+use Rattle.lms_book.specs.States.{BookState, LeaseState, IsSameOpening}
 use Rattle.lms_book.specs.Books.{Reserves, counter}
 use Rattle.lms_shared_book.specs.Desks.{SharedState, Sums, sums_of}
 
@@ -12,32 +11,30 @@ use Rattle.lms_shared_book.specs.Desks.{SharedState, Sums, sums_of}
 abbrev pub next_lease : BookState → ℕ → LeaseState
 next_lease book n = record { key = book.key; start = counter book; len = n }
 
--- the reservation that this entry of the history tells of
+-- the reservation that this entry of the history is of
 abbrev pub IsReservationOf : BookState → Entry → BookState → Type 0
 IsReservationOf old (Given n) new = Reserves n old (Ok (next_lease old n)) new
 IsReservationOf old (Burnt n) new = Reserves n old (Err (Store (counter old) n)) new
 
--- the same, which keeps the key and what was read, and goes on being an opening of the same texts
+-- that reservation, under one opening
 pub record IsAfterEntry (old : BookState) (entry : Entry) (new : BookState) : Type 0 where
-  pub key : new.key ≡ old.key
-  pub base : new.base ≡ old.base
-  pub openings : new.openings ≡ old.openings
-  pub burnt : new.burnt ≡ old.burnt
-  pub opened : (held : Texts) → IsOpenedFrom held old → IsOpenedFrom held new
+  pub opening : IsSameOpening old new
   pub reservation : IsReservationOf old entry new
 
 -- a book became this one by the reservations of these entries, one after another
 abbrev pub IsAfter : BookState → List Entry → BookState → Type 0
 IsAfter start [] book = book ≡ start
-IsAfter start (entry ∷ entries) book = (next : BookState) × IsAfterEntry start entry next × IsAfter next entries book
+IsAfter start (entry ∷ entries) book =
+    (next : BookState) × IsAfterEntry start entry next × IsAfter next entries book
 
--- what is found behind the lock: the book that was shared, after some reservations. A desk that is the only one counts them all.
+-- what is found under the lock: the book that was shared, after some reservations. A desk that is
+-- the only one counts them all.
 pub record IsFound (shared : SharedState) (counted : Sums) (found : BookState) : Type 0 where
   pub entries : List Entry
   pub after : IsAfter shared.book entries found
   pub alone : shared.desks ≡ 1 → sums_of entries ≡ counted
 
--- what is behind the lock in the end: all desks together count the reservations
+-- what is under the lock in the end: all desks together count the reservations
 pub record IsSettled (shared : BookState) (counted : Sums) (book : BookState) : Type 0 where
   pub entries : List Entry
   pub after : IsAfter shared entries book

@@ -1,23 +1,24 @@
-//! What lies behind the lock of a shared book.
+//! What is under the lock of a shared book.
 ghost use Rattle.std.specs.Prelude.{◌≡◌, ℕ, ◌+◌, ◌≤◌, length, IfOk};
-ghost use Rattle.lms_hss.specs.Covered.{longest_lease};
+ghost use Rattle.lms_hss.specs.Covered.{most_covered};
 ghost use Rattle.lms_shared_book.specs.Desks.{total, Counts};
 ghost use Rattle.lms_shared_book.specs.Shared.{IsFound, IsSettled};
 
+use crate::book_ledger::{BookLedger, Shares, Totals};
 use crate::desk::{Desk, all_shares};
-use crate::tally::{Shares, Tally, Totals};
 use lms_book::{Book, BookFault, Lease, StateStore};
 use std::marker::Model;
 
-/// A book, with the sums of its history. What the history counted before it was shared is one share of them.
+/// A book, with the sums of its history. What the history counted before it was shared is one share
+/// of them.
 #[derive(Drop)]
-pub(crate) struct CountedBook<S: StateStore, E: Tally, G: Tally, B: Tally> {
+pub(crate) struct CountedBook<S: StateStore, E: BookLedger, G: BookLedger, B: BookLedger> {
     pub(crate) book: Book<S>,
     pub(crate) totals: Totals<E, G, B>,
     pub(crate) shares: Shares<E, G, B>,
 }
 
-impl<S: StateStore, E: Tally, G: Tally, B: Tally> Model for CountedBook<S, E, G, B> {
+impl<S: StateStore, E: BookLedger, G: BookLedger, B: BookLedger> Model for CountedBook<S, E, G, B> {
     ghost use Rattle.std.specs.Prelude.{◌≡◌, List};
     ghost use Rattle.lms_shared_book.specs.Desks.{sums_of};
     ghost use Rattle.lms_shared_book.specs.Shared.{IsAfter};
@@ -31,26 +32,28 @@ impl<S: StateStore, E: Tally, G: Tally, B: Tally> Model for CountedBook<S, E, G,
 
     ghost invariant = { λ c. IsInOrder c.book × (c.totals ≡ sums_of c.book.history)
         × (c.shares.parts ≡ 1) × (c.shares.counted ≡ sums_of E.book.history)
-        × (c.book.key ≡ E.book.key) × ((entries : List EntryOfCode) × IsAfter E.book entries c.book) };
+        × (c.book.key ≡ E.book.key)
+        × ((entries : List EntryOfCode) × IsAfter E.book entries c.book) };
 }
 
-impl<S: StateStore, E: Tally, G: Tally, B: Tally> CountedBook<S, E, G, B> {
+impl<S: StateStore, E: BookLedger, G: BookLedger, B: BookLedger> CountedBook<S, E, G, B> {
     ghost use Rattle.lms_book.specs.Books.{ReservesInOrder};
 
     /// `Book::reserve`, counted at the desk and in the totals.
     pub(crate) fn reserve(&mut self, desk: &mut Desk<E, G, B>, n: u64) -> Result<Lease, BookFault>
         requires some { 1 ≤ n }
-        requires at_most { n ≤ longest_lease }
+        requires at_most { n ≤ most_covered }
         ensures key { self.old.key ≡ E.book.key }
         ensures lease { IfOk result (λ lease. lease.key ≡ E.book.key) }
-        ensures found { (desks : ℕ) → (E.parts ≡ desks + 1) × (G.parts ≡ desks + 1) × (B.parts ≡ desks + 1)
+        ensures found { (desks : ℕ) → (E.parts ≡ desks + 1) × (G.parts ≡ desks + 1)
+            × (B.parts ≡ desks + 1)
             → IsFound (record { book = E.book; desks = desks }) desk.old self.old }
         ensures reserves { ReservesInOrder n self.old result self.new }
         ensures desk { Counts n desk.old result desk.new }
     {
-        // Its clause bounds the sum of entries.
+        // for the proof: the number of entries is bounded
         let _entries = self.book.history().len();
-        // Its clause says that a desk which is the only one counted all of them.
+        // for the proof: a desk that is the only one has counted every reservation
         desk.audit(&mut self.totals, &mut self.shares);
         match self.book.reserve(n) {
             Ok(lease) => {

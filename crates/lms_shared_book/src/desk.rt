@@ -1,21 +1,21 @@
-//! Desks, which count what they got from a shared book.
+//! Desks, which count what they received from a shared book.
 ghost use Rattle.std.specs.Prelude.{◌≡◌, ◌+◌, ◌<◌, ◌≤◌, ◌^◌, length, vec_len, vec_capacity, replicate};
 ghost use Rattle.lms_shared_book.specs.Desks.{Sums, sums, plus, total};
 
-use crate::tally::{Shares, Tally, Totals};
+use crate::book_ledger::{BookLedger, Shares, Totals};
 use std::marker::Model;
 
-/// A caller's place at a shared book. It counts what the reservations made at it added to the book's history. Its
-/// ledgers are its book's, so a desk of another book does not fit.
+/// A caller's desk at a shared book. It counts what its reservations added to the book's history.
+/// Its ledgers are those of its book, so a desk of another book does not fit.
 #[derive(Drop)]
-pub struct Desk<E: Tally, G: Tally, B: Tally> {
+pub struct Desk<E: BookLedger, G: BookLedger, B: BookLedger> {
     entries: u64,
     received: u64,
     burnt: u64,
     shares: Shares<E, G, B>,
 }
 
-impl<E: Tally, G: Tally, B: Tally> Model for Desk<E, G, B> {
+impl<E: BookLedger, G: BookLedger, B: BookLedger> Model for Desk<E, G, B> {
     ghost use Rattle.std.specs.Prelude.{◌≡◌};
     ghost use Rattle.lms_shared_book.specs.Desks.{Sums, sums};
 
@@ -24,10 +24,11 @@ impl<E: Tally, G: Tally, B: Tally> Model for Desk<E, G, B> {
     ghost view = { λ desk. sums desk.entries desk.received desk.burnt };
 
     ghost invariant = { λ desk.
-        (desk.shares.parts ≡ 1) × (desk.shares.counted ≡ sums desk.entries desk.received desk.burnt) };
+        (desk.shares.parts ≡ 1)
+        × (desk.shares.counted ≡ sums desk.entries desk.received desk.burnt) };
 }
 
-impl<E: Tally, G: Tally, B: Tally> Desk<E, G, B> {
+impl<E: BookLedger, G: BookLedger, B: BookLedger> Desk<E, G, B> {
     /// How many entries its reservations added to the history.
     pub fn entries(&self) -> u64
         ensures { result ≡ self.now.entries }
@@ -35,7 +36,7 @@ impl<E: Tally, G: Tally, B: Tally> Desk<E, G, B> {
         self.entries
     }
 
-    /// How many indices it was given.
+    /// How many indices it received.
     pub fn received(&self) -> u64
         ensures { result ≡ self.now.received }
     {
@@ -49,13 +50,15 @@ impl<E: Tally, G: Tally, B: Tally> Desk<E, G, B> {
         self.burnt
     }
 
-    /// Changes nothing, and tells what the desk and another share count, where the two are all there are.
+    /// Changes nothing. For the proof: where the desk and another share are all there are, the two
+    /// count the totals.
     pub(crate) fn audit(&mut self, totals: &mut Totals<E, G, B>, other: &mut Shares<E, G, B>)
         requires { other.old.parts ≡ 1 }
         ensures desk { self.new ≡ self.old }
         ensures totals { totals.new ≡ totals.old }
         ensures other { other.new ≡ other.old }
-        ensures alone { (E.parts ≡ 2) × (G.parts ≡ 2) × (B.parts ≡ 2) → plus other.old.counted self.old ≡ totals.old }
+        ensures alone { (E.parts ≡ 2) × (G.parts ≡ 2)
+            × (B.parts ≡ 2) → plus other.old.counted self.old ≡ totals.old }
     {
         self.shares
             .give(other, self.entries, self.received, self.burnt);
@@ -63,25 +66,25 @@ impl<E: Tally, G: Tally, B: Tally> Desk<E, G, B> {
         other.give(&mut self.shares, self.entries, self.received, self.burnt);
     }
 
-    /// Counts one entry more, with the indices that it gave and those that it burnt.
-    pub(crate) fn count(&mut self, totals: &mut Totals<E, G, B>, given: u64, burnt: u64)
+    /// Counts one entry more, with the indices that the desk received and those that were burnt.
+    pub(crate) fn count(&mut self, totals: &mut Totals<E, G, B>, received: u64, burnt: u64)
         requires entries { totals.old.entries + 1 < 2 ^ 64 }
-        requires given { totals.old.received + given < 2 ^ 64 }
+        requires received { totals.old.received + received < 2 ^ 64 }
         requires burnt { totals.old.burnt + burnt < 2 ^ 64 }
-        ensures desk { self.new ≡ plus self.old (sums 1 given burnt) }
-        ensures totals { totals.new ≡ plus totals.old (sums 1 given burnt) }
+        ensures desk { self.new ≡ plus self.old (sums 1 received burnt) }
+        ensures totals { totals.new ≡ plus totals.old (sums 1 received burnt) }
     {
-        // No number of a desk is past the total.
+        // for the proof: no number of a desk is above its total
         totals.audit(&mut self.shares);
-        totals.add(&mut self.shares, 1, given, burnt);
+        totals.add(&mut self.shares, 1, received, burnt);
         self.entries += 1;
-        self.received += given;
+        self.received += received;
         self.burnt += burnt;
     }
 }
 
 /// Desks that have counted nothing, each with one part of the shares.
-pub(crate) fn new_desks<E: Tally, G: Tally, B: Tally>(
+pub(crate) fn new_desks<E: BookLedger, G: BookLedger, B: BookLedger>(
     room: Vec<Desk<E, G, B>>,
     shares: &mut Shares<E, G, B>,
     count: usize,
@@ -106,7 +109,7 @@ pub(crate) fn new_desks<E: Tally, G: Tally, B: Tally>(
 }
 
 /// These shares with those of all desks.
-pub(crate) fn all_shares<E: Tally, G: Tally, B: Tally>(
+pub(crate) fn all_shares<E: BookLedger, G: BookLedger, B: BookLedger>(
     shares: Shares<E, G, B>,
     desks: Vec<Desk<E, G, B>>,
 ) -> Shares<E, G, B>

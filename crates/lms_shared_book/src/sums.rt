@@ -1,4 +1,4 @@
-//! What a history gave and burnt, added up.
+//! The sums of a history.
 ghost use Rattle.std.specs.Prelude.{◌≡◌, ◌<◌, ◌^◌};
 ghost use Rattle.lms_book.specs.History.{given_of, burnt_of};
 

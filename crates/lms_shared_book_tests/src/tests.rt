@@ -1,12 +1,10 @@
 ghost use Rattle.std.specs.Prelude.{◌≡◌, ◌≤◌, ◌+◌};
 ghost use Rattle.lms_shared_book.specs.Desks.{most_desks, BlankFits};
 
-mod fixtures;
-
-use crate::tests::fixtures::{opened, reserved, small_store, tall_store};
 use lms_book::{Book, BookFault, Entry, Lease, Left, MemoryStore};
-use lms_params::OutOfMemory;
-use lms_shared_book::{Blanks, Desk, MissingDesks, SharedBook, Tally};
+use lms_fixtures::{book_of, key_of, reserved, store_at};
+use lms_params::{LmsType, OtsType, OutOfMemory};
+use lms_shared_book::{Blanks, BookLedger, Desk, MissingDesks, SharedBook};
 use std::alloc::{AllocGlobal, Global};
 use std::marker::Brand;
 use std::process::Abort;
@@ -16,23 +14,34 @@ use std::test::Fail;
 use std::thread;
 use std::thread::Threads;
 
+/// A store that holds the image of 5/8 and this counter.
+fn small_store(alloc: Global, counter: u64) -> Result<MemoryStore, &'static str> {
+    store_at(alloc, key_of(&[(LmsType::H5, OtsType::W8)], 0x11)?, counter)
+}
+
+/// A store that holds the image of an unused key of 10/8.
+fn tall_store(alloc: Global) -> Result<MemoryStore, &'static str> {
+    store_at(alloc, key_of(&[(LmsType::H10, OtsType::W8)], 0x11)?, 0)
+}
+
 fn blanks(parts: u64) -> Blanks
-    ensures { (result.entries.parts ≡ parts) × (result.given.parts ≡ parts) × (result.burnt.parts ≡ parts) }
+    ensures { (result.entries.parts ≡ parts) × (result.received.parts ≡ parts)
+        × (result.burnt.parts ≡ parts) }
 {
     Blanks {
         entries: Blank::new(parts),
-        given: Blank::new(parts),
+        received: Blank::new(parts),
         burnt: Blank::new(parts),
     }
 }
 
 /// What a desk counted: entries, received, burnt.
-fn counts<E: Tally, G: Tally, B: Tally>(desk: &Desk<E, G, B>) -> (u64, u64, u64) {
+fn counts<E: BookLedger, G: BookLedger, B: BookLedger>(desk: &Desk<E, G, B>) -> (u64, u64, u64) {
     (desk.entries(), desk.received(), desk.burnt())
 }
 
 /// What the desk of this place counted.
-fn counts_at<E: Tally, G: Tally, B: Tally>(
+fn counts_at<E: BookLedger, G: BookLedger, B: BookLedger>(
     desks: &[Desk<E, G, B>],
     place: usize,
 ) -> Option<(u64, u64, u64)> {
@@ -46,8 +55,9 @@ fn spent(lease: Lease) -> (u64, u64) {
     range
 }
 
-/// Reserves at the desk of this place, and gives the lease back: the first index and the number of indices.
-fn reserved_at<E: Tally, G: Tally, B: Tally>(
+/// Reserves at the desk of this place, and gives the lease back: the first index and the number of
+/// indices.
+fn reserved_at<E: BookLedger, G: BookLedger, B: BookLedger>(
     rt: &impl Wait,
     shared: &SharedBook<MemoryStore, E, G, B>,
     desks: &mut [Desk<E, G, B>],
@@ -66,7 +76,7 @@ fn reserved_at<E: Tally, G: Tally, B: Tally>(
 }
 
 /// Settles with all desks, and compares the history.
-fn settled<E: Tally, G: Tally, B: Tally>(
+fn settled<E: BookLedger, G: BookLedger, B: BookLedger>(
     rt: &impl Abort,
     shared: SharedBook<MemoryStore, E, G, B>,
     desks: Vec<Desk<E, G, B>>,
@@ -78,13 +88,13 @@ fn settled<E: Tally, G: Tally, B: Tally>(
 }
 
 /// Shares a book, and once more with what was handed back where memory is refused.
-fn shared_at_last<E: Tally, G: Tally, B: Tally>(
+fn shared_at_last<E: BookLedger, G: BookLedger, B: BookLedger>(
     alloc: Global,
     book: Book<MemoryStore>,
     blanks: Blanks,
 ) -> Result<(SharedBook<MemoryStore, E, G, B>, Vec<Desk<E, G, B>>), Fail>
     requires entries { BlankFits blanks.entries E.name E.parts 3 }
-    requires given { BlankFits blanks.given G.name G.parts 3 }
+    requires received { BlankFits blanks.received G.name G.parts 3 }
     requires burnt { BlankFits blanks.burnt B.name B.parts 3 }
     requires same { book ≡ E.book }
 {
@@ -96,13 +106,13 @@ fn shared_at_last<E: Tally, G: Tally, B: Tally>(
 }
 
 /// Shares a book that gave 3 indices before, and reserves 2 at the second of two desks.
-fn two_desks<E: Tally, G: Tally, B: Tally>(
+fn two_desks<E: BookLedger, G: BookLedger, B: BookLedger>(
     rt: &(impl Abort + AllocGlobal + Wait),
     book: Book<MemoryStore>,
     blanks: Blanks,
 ) -> Result<(), Fail>
     requires entries { BlankFits blanks.entries E.name E.parts 3 }
-    requires given { BlankFits blanks.given G.name G.parts 3 }
+    requires received { BlankFits blanks.received G.name G.parts 3 }
     requires burnt { BlankFits blanks.burnt B.name B.parts 3 }
     requires same { book ≡ E.book }
 {
@@ -117,17 +127,17 @@ fn two_desks<E: Tally, G: Tally, B: Tally>(
     settled(rt, shared, desks, &history)
 }
 
-/// `rt test` refuses no memory. `tests/refused lms_shared_book_tests tests::a_book_is_shared_after_refused_memory`, at the
-/// workspace's top, refuses each of the four requests that are made here, the last for the desks: the second call works.
+/// The merge check refuses each of the four requests for memory in turn, the last for the desks:
+/// the second call works.
 #[test]
 fn a_book_is_shared_after_refused_memory(rt: HostRuntime) -> Result<(), Fail> {
-    let mut book = opened(rt.alloc(), small_store(rt.alloc(), 5)?)?;
+    let mut book = book_of(rt.alloc(), small_store(rt.alloc(), 5)?)?;
     assert_eq!(rt; reserved(&mut book, 3), Ok((5, 3)));
     two_desks::<Brand, Brand, Brand>(&rt, book, blanks(3))
 }
 
 /// Settles with a desk less than all, reads those that are handed back, and settles with all.
-fn settled_at_last<E: Tally, G: Tally, B: Tally>(
+fn settled_at_last<E: BookLedger, G: BookLedger, B: BookLedger>(
     rt: &(impl Abort + AllocGlobal),
     shared: SharedBook<MemoryStore, E, G, B>,
     desks: Vec<Desk<E, G, B>>,
@@ -150,14 +160,14 @@ fn settled_at_last<E: Tally, G: Tally, B: Tally>(
 }
 
 /// Three desks: 2 given, 3 burnt, 5 given, and one at which nothing is reserved.
-fn three_desks<E: Tally, G: Tally, B: Tally>(
+fn three_desks<E: BookLedger, G: BookLedger, B: BookLedger>(
     rt: &(impl Abort + AllocGlobal + Wait),
     book: Book<MemoryStore>,
     blanks: Blanks,
 ) -> Result<(), Fail>
     requires same { book ≡ E.book }
     requires entries { BlankFits blanks.entries E.name E.parts 4 }
-    requires given { BlankFits blanks.given G.name G.parts 4 }
+    requires received { BlankFits blanks.received G.name G.parts 4 }
     requires burnt { BlankFits blanks.burnt B.name B.parts 4 }
 {
     let key = book.key();
@@ -190,8 +200,9 @@ fn three_desks<E: Tally, G: Tally, B: Tally>(
     settled_at_last(rt, shared, desks, &history)
 }
 
-/// What a shared book says of its reservations: base, counter, what is stored, entries. Its key is that of the reservations.
-fn base_counter_stored_entries<E: Tally, G: Tally, B: Tally>(
+/// What a shared book says of its reservations: base, counter, what is stored, entries. Its key is
+/// that of the reservations.
+fn base_counter_stored_entries<E: BookLedger, G: BookLedger, B: BookLedger>(
     rt: &(impl Abort + Wait),
     shared: &SharedBook<MemoryStore, E, G, B>,
 ) -> (u64, u64, u64, usize) {
@@ -212,12 +223,12 @@ fn base_counter_stored_entries<E: Tally, G: Tally, B: Tally>(
 fn desks_count_what_they_got(rt: HostRuntime) -> Result<(), Fail> {
     let mut store = small_store(rt.alloc(), 0)?;
     store.fail_replace(2, Left::Old);
-    let book = opened(rt.alloc(), store)?;
+    let book = book_of(rt.alloc(), store)?;
     three_desks::<Brand, Brand, Brand>(&rt, book, blanks(4))
 }
 
 /// Reserves at each desk once.
-fn each_reserves<E: Tally, G: Tally, B: Tally>(
+fn each_reserves<E: BookLedger, G: BookLedger, B: BookLedger>(
     rt: &(impl Abort + Wait),
     shared: &SharedBook<MemoryStore, E, G, B>,
     desks: &mut [Desk<E, G, B>],
@@ -233,7 +244,7 @@ fn each_reserves<E: Tally, G: Tally, B: Tally>(
 }
 
 /// So many desks, each of which reserves once.
-fn many_desks<E: Tally, G: Tally, B: Tally>(
+fn many_desks<E: BookLedger, G: BookLedger, B: BookLedger>(
     rt: &(impl Abort + AllocGlobal + Wait),
     book: Book<MemoryStore>,
     blanks: Blanks,
@@ -243,7 +254,7 @@ fn many_desks<E: Tally, G: Tally, B: Tally>(
     requires at_most { desks ≤ most_desks }
     requires same { book ≡ E.book }
     requires entries { BlankFits blanks.entries E.name E.parts (desks + 1) }
-    requires given { BlankFits blanks.given G.name G.parts (desks + 1) }
+    requires received { BlankFits blanks.received G.name G.parts (desks + 1) }
     requires burnt { BlankFits blanks.burnt B.name B.parts (desks + 1) }
 {
     let shared = SharedBook::<MemoryStore, E, G, B>::share(rt.alloc(), book, blanks, desks);
@@ -257,7 +268,7 @@ fn desks_of_a_new_book(rt: &(impl Abort + AllocGlobal + Wait), desks: usize) -> 
     requires some { 1 ≤ desks }
     requires at_most { desks ≤ most_desks }
 {
-    let book = opened(rt.alloc(), tall_store(rt.alloc())?)?;
+    let book = book_of(rt.alloc(), tall_store(rt.alloc())?)?;
     many_desks::<Brand, Brand, Brand>(rt, book, blanks(desks as u64 + 1), desks)
 }
 
@@ -270,7 +281,7 @@ fn each_number_of_desks_is_shared(rt: HostRuntime) -> Result<(), Fail> {
 }
 
 /// Eight leases of one index, each asked of the book: the starts of those that it knew.
-fn reserve_eight<E: Tally, G: Tally, B: Tally>(
+fn reserve_eight<E: BookLedger, G: BookLedger, B: BookLedger>(
     rt: &impl Wait,
     shared: &SharedBook<MemoryStore, E, G, B>,
     desk: Desk<E, G, B>,
@@ -289,7 +300,7 @@ fn reserve_eight<E: Tally, G: Tally, B: Tally>(
 }
 
 /// The desks of four threads, where the starts that they got are 0 to 31, each once.
-fn gathered<E: Tally, G: Tally, B: Tally>(
+fn gathered<E: BookLedger, G: BookLedger, B: BookLedger>(
     rt: &(impl Abort + AllocGlobal),
     visits: Vec<(Desk<E, G, B>, [Option<u64>; 8])>,
 ) -> Result<Vec<Desk<E, G, B>>, Fail> {
@@ -310,7 +321,7 @@ fn gathered<E: Tally, G: Tally, B: Tally>(
 }
 
 /// Settles with no desk, which is refused, and then with all.
-fn settled_after_none<E: Tally, G: Tally, B: Tally>(
+fn settled_after_none<E: BookLedger, G: BookLedger, B: BookLedger>(
     rt: &(impl Abort + AllocGlobal),
     shared: SharedBook<MemoryStore, E, G, B>,
     desks: Vec<Desk<E, G, B>>,
@@ -324,14 +335,18 @@ fn settled_after_none<E: Tally, G: Tally, B: Tally>(
 }
 
 /// Four threads, each with a desk, use up a key of 32 indices.
-fn four_threads<E: Tally + Send + Sync, G: Tally + Send + Sync, B: Tally + Send + Sync>(
+fn four_threads<
+    E: BookLedger + Send + Sync,
+    G: BookLedger + Send + Sync,
+    B: BookLedger + Send + Sync,
+>(
     rt: &(impl Abort + AllocGlobal + Threads + Wait + Sync),
     book: Book<MemoryStore>,
     blanks: Blanks,
 ) -> Result<(), Fail>
     requires same { book ≡ E.book }
     requires entries { BlankFits blanks.entries E.name E.parts 5 }
-    requires given { BlankFits blanks.given G.name G.parts 5 }
+    requires received { BlankFits blanks.received G.name G.parts 5 }
     requires burnt { BlankFits blanks.burnt B.name B.parts 5 }
 {
     let shared = SharedBook::<MemoryStore, E, G, B>::share(rt.alloc(), book, blanks, 4);
@@ -350,6 +365,6 @@ fn four_threads<E: Tally + Send + Sync, G: Tally + Send + Sync, B: Tally + Send 
 
 #[test]
 fn leases_are_known(rt: HostRuntime) -> Result<(), Fail> {
-    let book = opened(rt.alloc(), small_store(rt.alloc(), 0)?)?;
+    let book = book_of(rt.alloc(), small_store(rt.alloc(), 0)?)?;
     four_threads::<Brand, Brand, Brand>(&rt, book, blanks(5))
 }

@@ -6,7 +6,7 @@ use lms_params::OtsType;
 use std::alloc::{AllocError, Global};
 
 /// The digits that a hash signs (RFC 8554, 4.5), p in all and each below 2^w: those of the hash and
-/// then those of its checksum. Errs where memory runs out.
+/// then those of its checksum. Fails when out of memory.
 pub fn slow_digits(alloc: Global, hash: &[u8; 32], ots: OtsType) -> Result<Vec<u8>, AllocError> {
     let mut text = Vec::from_slice(alloc, hash)?;
     text.extend_from_slice(&checksum(hash, ots))?;
@@ -20,7 +20,7 @@ fn checksum(hash: &[u8; 32], ots: OtsType) -> [u8; 2] {
     [high, low]
 }
 
-/// What the first `count` digits of a hash lack to the greatest digit, added up.
+/// The sum of what the first `count` digits of a hash lack to the greatest digit.
 fn lacking(hash: &[u8; 32], ots: OtsType, count: usize) -> u32
     requires { count * (ots_set_of ots).w ≤ 256 }
     ensures { result ≤ 255 * count }

@@ -38,8 +38,8 @@ pub(crate) fn signatures(
     }
 }
 
-/// How many leaves of the level over `below`, in all of its trees, lie before the one that index `g`
-/// goes through.
+/// How many leaves of the level over `below`, in all of its trees, lie before the one that index
+/// `g` goes through.
 fn leaves_before(below: &[(LmsType, OtsType)], g: u64) -> u64 {
     match below {
         [] => g,

@@ -1,6 +1,6 @@
-//! A slow signer of HSS/LMS (RFC 8554 with SHA-256), for tests alone. It is written by recursion
-//! straight from the standard's definitions and shares no code with the product but the enums of
-//! `lms_params`: a test that compares the two compares two programs.
+//! A slow signer of HSS/LMS (RFC 8554 with SHA-256) for tests, written by recursion straight from
+//! the standard's definitions. It shares no code with the product but the enums of `lms_params`: a
+//! test that compares the two compares two programs.
 #![tactic(auto)]
 
 ghost use Rattle.std.specs.Prelude.{◌≤◌, length};
@@ -35,7 +35,7 @@ pub struct PlantedTexts {
 }
 
 /// The HSS public key (RFC 8554, 6.1), 60 bytes: the number of levels and the LMS public key of the
-/// top tree, which is worked out whole. Errs where memory runs out.
+/// top tree, which is computed whole. Fails when out of memory.
 pub fn slow_public(alloc: Global, key: &SlowKey) -> Result<Vec<u8>, AllocError>
     requires some { 1 ≤ length key.now.levels.now }
     requires eight_at_most { length key.now.levels.now ≤ 8 }
@@ -48,7 +48,7 @@ pub fn slow_public(alloc: Global, key: &SlowKey) -> Result<Vec<u8>, AllocError>
 
 /// The HSS signature (RFC 8554, 6.2) of a message by index `g`, which counts the one-time keys of
 /// the bottom level, over all of its trees, from 0. `c` is the randomizer of the message's own
-/// signature. Each tree on the way is worked out whole. Errs where memory runs out.
+/// signature. Each tree on the way is computed whole. Fails when out of memory.
 pub fn slow_sign(
     alloc: Global,
     key: &SlowKey,
@@ -66,9 +66,9 @@ pub fn slow_sign(
 }
 
 /// The one-level HSS public key and signature that leaf `q` of a tree makes under path values
-/// `path[i]` = 32 bytes of value i + 1, the key's root being where that climb ends. No other leaf is
-/// worked out, so height 25 is quick too. A `q` of 2^h or more is no leaf's number, and that alone
-/// spoils what is planted. Errs where memory runs out.
+/// `path[i]` = 32 bytes of value i + 1, the key's root being where that climb ends. No other leaf
+/// is computed, so height 25 is quick too. A `q` of 2^h or more is no leaf's number; nothing else
+/// is wrong with the signature then. Fails when out of memory.
 pub fn planted(
     alloc: Global,
     tree: &SlowTree,

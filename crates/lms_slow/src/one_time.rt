@@ -4,16 +4,16 @@ use crate::tree::SlowTree;
 use sha2::{Digest, Sha256};
 use std::alloc::{AllocError, Global};
 
-/// What keeps the hashed texts of public hashes and of messages apart from the others (RFC 8554,
-/// 4.3 and 4.5).
+/// The constants that keep the hashes of public keys and of messages apart from the others (RFC
+/// 8554, 4.3 and 4.5).
 const D_PBLC: u16 = 0x8080;
 
 const D_MESG: u16 = 0x8181;
 
 /// The one-time keys of a tree, each named by its leaf's number `q` (RFC 8554, section 4).
 impl SlowTree {
-    /// A hasher that has taken in the identifier, the number of a leaf or a node, and a chain's
-    /// number or what stands in its place.
+    /// A hasher that has taken the identifier, the number of a leaf or a node, and a chain's
+    /// number or one of the constants in its place.
     pub(crate) fn hasher(&self, number: u32, separator: u16) -> Sha256 {
         let mut hasher = Sha256::new();
         hasher.update(self.id);
@@ -31,7 +31,7 @@ impl SlowTree {
         hasher.finalize()
     }
 
-    /// The value of chain i that stands `steps` steps after its secret (RFC 8554, 4.3).
+    /// The value of chain i after `steps` steps from its secret (RFC 8554, 4.3).
     fn chain(&self, q: u32, i: u16, steps: u8) -> [u8; 32] {
         if steps == 0 {
             return self.derived(q, i);
@@ -60,8 +60,8 @@ impl SlowTree {
         hasher.finalize()
     }
 
-    /// The one-time signature of a message (RFC 8554, 4.5), 4 + 32 * (p + 1) bytes. Errs where memory
-    /// runs out.
+    /// The one-time signature of a message (RFC 8554, 4.5), 4 + 32 * (p + 1) bytes. Fails when out
+    /// of memory.
     pub fn one_time_signature(
         &self,
         alloc: Global,

@@ -5,7 +5,8 @@ use lms_params::{LmsType, OtsType};
 use sha2::Digest;
 use std::alloc::{AllocError, Global};
 
-/// What keeps the hashed texts of leaves and of inner nodes apart from the others (RFC 8554, 5.3).
+/// The constants that keep the hashes of leaves and of inner nodes apart from the others (RFC 8554,
+/// 5.3).
 const D_LEAF: u16 = 0x8282;
 
 const D_INTR: u16 = 0x8383;
@@ -34,7 +35,7 @@ impl SlowTree {
         self.leaves().wrapping_add(q)
     }
 
-    /// The value of node r (RFC 8554, 5.3). All leaves below it are worked out.
+    /// The value of node r (RFC 8554, 5.3). All leaves below it are computed.
     pub fn node(&self, r: u32) -> [u8; 32]
         requires { 1 ≤ r }
     {
@@ -62,13 +63,14 @@ impl SlowTree {
     }
 
     /// The siblings of node r and of each node above it, up to a child of the root (RFC 8554, 5.4).
-    /// Errs where memory runs out.
+    /// Fails when out of memory.
     pub(crate) fn path(&self, alloc: Global, r: u32) -> Result<Vec<[u8; 32]>, AllocError> {
         let mut path = Vec::new(alloc);
         self.add_path(&mut path, r)?;
         Ok(path)
     }
 
+    /// Adds the siblings of node r and of each node above it.
     fn add_path(&self, path: &mut Vec<[u8; 32]>, r: u32) -> Result<(), AllocError> {
         if r <= 1 {
             return Ok(());
@@ -93,7 +95,7 @@ impl SlowTree {
         }
     }
 
-    /// The LMS public key over this root (RFC 8554, 5.3), 56 bytes. Errs where memory runs out.
+    /// The LMS public key over this root (RFC 8554, 5.3), 56 bytes. Fails when out of memory.
     pub(crate) fn public_key(&self, alloc: Global, root: &[u8; 32]) -> Result<Vec<u8>, AllocError> {
         let mut text = Vec::from_slice(alloc, &self.lms.code().to_be_bytes())?;
         text.extend_from_slice(&self.ots.code().to_be_bytes())?;
@@ -103,7 +105,7 @@ impl SlowTree {
     }
 
     /// The LMS signature of a message by leaf `q` with these path values (RFC 8554, 5.4.1),
-    /// 12 + 32 * (p + 1) bytes and 32 for each of them. Errs where memory runs out.
+    /// 12 + 32 * (p + 1) bytes and 32 for each of them. Fails when out of memory.
     pub(crate) fn signature(
         &self,
         alloc: Global,

@@ -81,7 +81,7 @@ const SIGNED: [(&[(LmsType, OtsType)], u64, usize, &str); 5] = [
     ),
 ];
 
-/// The digest of two texts, one after the other, in hexadecimal.
+/// The digest of two byte strings, one after the other, in hexadecimal.
 fn digest_of(alloc: Global, first: &[u8], second: &[u8]) -> Result<String, AllocError> {
     let mut hasher = Sha256::new();
     hasher.update(first);
@@ -89,7 +89,8 @@ fn digest_of(alloc: Global, first: &[u8], second: &[u8]) -> Result<String, Alloc
     hex::encode(alloc, hasher.finalize())
 }
 
-/// The public key of these levels and their signature of `abc` by index `g` have these lengths and this digest.
+/// The public key of these levels and their signature of `abc` by index `g` have these lengths and
+/// this digest.
 fn check_signed(
     rt: &(impl Abort + AllocGlobal),
     levels: &[(LmsType, OtsType)],
@@ -212,7 +213,8 @@ fn has_head(signature: &[u8], q: u32, code: u8) -> bool {
         && signature.get(8..12) == Some([0, 0, 0, code].as_slice())
 }
 
-/// Whether after p chains a signature has the typecode `lms_code` and a planted path of `height` values.
+/// Whether after p chains a signature has the typecode `lms_code` and a planted path of `height`
+/// values.
 fn has_path(signature: &[u8], p: u16, lms_code: u8, height: u8) -> bool {
     let path_at = 16 + 32 * (usize::from(p) + 1);
     signature.len() == path_at + 32 * usize::from(height)

@@ -96,7 +96,7 @@ through-parts count m t id root message signatures km kt li (signature, next, re
       subst₂ (λ x y. AcceptsThrough count x message y) (sym second) (sym third) r,
     )
 
--- an upper signature and the key that it signs fit the text
+-- an upper signature and the key that it signs fit into the byte string
 pub through-length : (count : ℕ) (m : LmsSet) (t : OtsSet) (id root message signatures : List ℕ)
     → lms_set m.code ≡ Some m → ots_set t.code ≡ Some t → length id ≡ 16
     → AcceptsThrough (suc count) (lms_public_key m t id root) message signatures

@@ -1,4 +1,4 @@
--- The parts of a public key and of a signature are told by their bytes.
+-- The bytes of a public key and of a signature determine their parts.
 use Rattle.std.proofs.Common.{ℕ, ◌≡◌, ◌+◌, ◌^◌, ◌<◌, List, ◌++◌, length, All, Some, refl, sym, ◌∙◌, ap, arith, length-append}
 use Rattle.std.specs.List.{concat}
 use Rattle.lms_spec.specs.Parameters.{OtsSet, LmsSet, ots_set, lms_set, ots_signature_length}

@@ -1,11 +1,11 @@
--- Texts joined of pieces: how long they are, and that the pieces are told apart.
+-- Byte strings joined of pieces: how long they are, and that they determine the pieces.
 use Rattle.std.proofs.Common.{ℕ, ◌≡◌, ◌*◌, List, [], ◌∷◌, ◌++◌, length, All, take, drop, refl, sym, ◌∙◌, ap, ap₂, arith, length-append}
 use Rattle.std.specs.List.{concat}
 use Rattle.std.proofs.Math.Nat.{suc_inj}
 use Rattle.std.proofs.lemmas.List.{take_at, drop_at}
 use Rattle.std.proofs.lemmas.List.Elements.{All-head, All-tail}
 
--- a text of 32 bytes
+-- a byte string of 32 bytes
 abbrev pub Is32 : List ℕ → Type 0
 Is32 v = length v ≡ 32
 
@@ -22,7 +22,7 @@ same-front n a b x y la lb e = sym (take_at a x n la) ∙ (ap (take n) e ∙ tak
 pub same-rest : (n : ℕ) (a b x y : List ℕ) → length a ≡ n → length b ≡ n → a ++ x ≡ b ++ y → x ≡ y
 same-rest n a b x y la lb e = sym (drop_at a x n la) ∙ (ap (drop n) e ∙ drop_at b y n lb)
 
--- texts of 32 bytes joined are told apart
+-- byte strings of 32 bytes are determined by what they are joined to
 pub concat-same : (xs ys : List (List ℕ)) → length xs ≡ length ys → All Is32 xs → All Is32 ys → concat xs ≡ concat ys → xs ≡ ys
 concat-same [] [] same long long' e = refl
 concat-same [] (y ∷ ys) same long long' e = absurd (omega arith)

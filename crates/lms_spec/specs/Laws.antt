@@ -1,4 +1,5 @@
--- Laws over the definitions, from the bottom up: numbers and tables, digits, one-time signatures, trees, levels.
+-- Laws over the definitions, from the bottom up: numbers and tables, digits, one-time signatures,
+-- trees, levels.
 use Rattle.std.specs.Prelude.{ℕ, suc, ◌≡◌, ◌+◌, ◌-◌, ◌*◌, ◌/◌, ◌%◌, ◌^◌, ◌<◌, ◌≤◌, List, ◌++◌, length, All, Some, slice_index, take, drop}
 use Rattle.std.specs.List.{concat}
 use Rattle.lms_spec.specs.Bytes.{number_of, u16str, u32str}
@@ -13,10 +14,12 @@ use Rattle.lms_spec.specs.Profile.{leaf_at, signed_key, hss_public_key, hss_sign
 -- a number's bytes read as one number are that number
 abbrev pub NumbersReadBack : Type 0
 NumbersReadBack =
-    ((n : ℕ) → n < 2 ^ 16 → number_of (u16str n) ≡ n) × ((n : ℕ) → n < 2 ^ 32 → number_of (u32str n) ≡ n)
+    ((n : ℕ) → n < 2 ^ 16 → number_of (u16str n) ≡ n)
+    × ((n : ℕ) → n < 2 ^ 32 → number_of (u32str n) ≡ n)
 
--- what the width of an LM-OTS set says of its other columns, with v digits for the checksum (appendix B): v is the
--- least number of digits that holds the largest sum, and the sum stands at the top of 16 bits
+-- what the width of an LM-OTS set says of its other columns, with v digits for the checksum
+-- (appendix B): v is the least number of digits that holds the largest sum, and the sum is at the
+-- top of 16 bits
 pub record FollowsFromWidth (t : OtsSet) : Type 0 where
   pub v : ℕ
   pub chains : 256 / t.w + v ≡ t.p
@@ -34,7 +37,9 @@ ChecksumFits = (t : OtsSet) (hash : List ℕ) → ots_set t.code ≡ Some t → 
 
 -- the digits are p in number, each of w bits
 abbrev pub DigitsFit : Type 0
-DigitsFit = (t : OtsSet) (hash : List ℕ) → (length (digits_of t hash) ≡ t.p) × All (λ d. d < 2 ^ t.w) (digits_of t hash)
+DigitsFit =
+    (t : OtsSet) (hash : List ℕ) → (length (digits_of t hash) ≡ t.p)
+    × All (λ d. d < 2 ^ t.w) (digits_of t hash)
 
 -- a digit is some bits of one byte: u digits to a byte, the highest first
 abbrev pub DigitBits : Type 0
@@ -42,10 +47,12 @@ DigitBits =
     (bytes : List ℕ) (w u j r : ℕ) → w * u ≡ 8 → All (λ b. b < 256) bytes → j < length bytes → r < u
     → digit bytes (j * u + r) w ≡ slice_index bytes j / 2 ^ (w * (u - 1 - r)) % 2 ^ w
 
--- what the checksum is for: where each digit of one hash, its checksum's too, is at most another's, the two hashes have the same digits
+-- what the checksum is for: where each digit of one hash, its checksum's too, is at most another's,
+-- the two hashes have the same digits
 abbrev pub ChecksumGuards : Type 0
 ChecksumGuards =
-    (t : OtsSet) (hash hash' : List ℕ) → ots_set t.code ≡ Some t → length hash ≡ hash_length → length hash' ≡ hash_length
+    (t : OtsSet) (hash hash' : List ℕ) → ots_set t.code ≡ Some t → length hash ≡ hash_length
+    → length hash' ≡ hash_length
     → ((i : ℕ) → i < t.p → slice_index (digits_of t hash) i ≤ slice_index (digits_of t hash') i)
     → (i : ℕ) → i < 256 / t.w → digit hash i t.w ≡ digit hash' i t.w
 
@@ -58,14 +65,17 @@ ChainsCompose =
 -- how long a one-time signature is
 abbrev pub OtsSignatureLength : Type 0
 OtsSignatureLength =
-    (t : OtsSet) (id seed : List ℕ) (q : ℕ) (randomizer message : List ℕ) → length randomizer ≡ hash_length
+    (t : OtsSet) (id seed : List ℕ) (q : ℕ) (randomizer message : List ℕ)
+    → length randomizer ≡ hash_length
     → length (ots_signature t id seed q randomizer message) ≡ ots_signature_length t
 
 -- a one-time signature leads to the public hash of its key
 abbrev pub CandidateIsPublicHash : Type 0
 CandidateIsPublicHash =
-    (t : OtsSet) (id seed : List ℕ) (q : ℕ) (randomizer message : List ℕ) → length randomizer ≡ hash_length
-    → LeadsTo t id q (ots_signature t id seed q randomizer message) message (public_hash t id seed q)
+    (t : OtsSet) (id seed : List ℕ) (q : ℕ) (randomizer message : List ℕ)
+    → length randomizer ≡ hash_length
+    → LeadsTo t id q (ots_signature t id seed q randomizer message) message
+    (public_hash t id seed q)
 
 -- a one-time signature leads to one candidate
 abbrev pub OneCandidate : Type 0
@@ -93,7 +103,8 @@ ClimbReachesRoot =
 
 -- how long a tree's public key is
 abbrev pub LmsPublicKeyLength : Type 0
-LmsPublicKeyLength = (key : Tree) → length key.id ≡ 16 → length (public_key_of key) ≡ lms_public_key_length
+LmsPublicKeyLength =
+    (key : Tree) → length key.id ≡ 16 → length (public_key_of key) ≡ lms_public_key_length
 
 -- how long a leaf's signature is
 abbrev pub LmsSignatureLength : Type 0
@@ -113,42 +124,54 @@ LmsSignatureAccepted =
 abbrev pub AcceptedLengths : Type 0
 AcceptedLengths =
     (public_key message signature : List ℕ) (a : LmsAccepts public_key message signature)
-    → (length public_key ≡ lms_public_key_length) × (length signature ≡ lms_signature_length a.lms a.ots)
+    → (length public_key ≡ lms_public_key_length)
+    × (length signature ≡ lms_signature_length a.lms a.ots)
 
--- one parse of a key and a signature decides: if it is accepted at all, then this parse climbs to the root
+-- one parse of a key and a signature decides: if it is accepted at all, then this parse climbs to
+-- the root
 abbrev pub AcceptedByParts : Type 0
 AcceptedByParts =
-    (m : LmsSet) (t : OtsSet) (id root : List ℕ) (q : ℕ) (ots_part : List ℕ) (path : List (List ℕ)) (message candidate : List ℕ)
-    → lms_set m.code ≡ Some m → ots_set t.code ≡ Some t → length id ≡ 16 → q < 2 ^ m.h → length path ≡ m.h → All (λ v. length v ≡ hash_length) path
+    (m : LmsSet) (t : OtsSet) (id root : List ℕ) (q : ℕ) (ots_part : List ℕ) (path : List (List ℕ))
+    (message candidate : List ℕ)
+    → lms_set m.code ≡ Some m → ots_set t.code ≡ Some t → length id ≡ 16 → q < 2 ^ m.h
+    → length path ≡ m.h → All (λ v. length v ≡ hash_length) path
     → LeadsTo t id q ots_part message candidate
-    → LmsAccepts (lms_public_key m t id root) message (u32str q ++ ots_part ++ u32str m.code ++ concat path)
+    → LmsAccepts (lms_public_key m t id root) message
+    (u32str q ++ ots_part ++ u32str m.code ++ concat path)
     → climb id (2 ^ m.h + q) (leaf_hash id (2 ^ m.h + q) candidate) path ≡ root
 
 -- how long a hierarchy's public key is
 abbrev pub HssPublicKeyLength : Type 0
-HssPublicKeyLength = (key : HssKey) → length key.id ≡ 16 → length (hss_public_key key) ≡ 4 + lms_public_key_length
+HssPublicKeyLength =
+    (key : HssKey) → length key.id ≡ 16 → length (hss_public_key key) ≡ 4 + lms_public_key_length
 
 -- how long a hierarchy's signature is
 abbrev pub HssSignatureLength : Type 0
 HssSignatureLength =
-    (key : HssKey) (g : ℕ) (randomizer message : List ℕ) → 1 ≤ length key.levels → length key.id ≡ 16 → length randomizer ≡ hash_length
+    (key : HssKey) (g : ℕ) (randomizer message : List ℕ) → 1 ≤ length key.levels
+    → length key.id ≡ 16 → length randomizer ≡ hash_length
     → length (hss_signature key g randomizer message) ≡ hss_signature_length key.levels
 
 -- a signature by any index is accepted under the key's public key
 abbrev pub HssSignatureAccepted : Type 0
 HssSignatureAccepted =
     (key : HssKey) (g : ℕ) (randomizer message : List ℕ)
-    → 1 ≤ length key.levels → length key.levels ≤ most_levels → All HasKnownSets key.levels → length key.id ≡ 16 → length randomizer ≡ hash_length
+    → 1 ≤ length key.levels → length key.levels ≤ most_levels → All HasKnownSets key.levels
+    → length key.id ≡ 16 → length randomizer ≡ hash_length
     → HssAccepts (hss_public_key key) message (hss_signature key g randomizer message)
 
--- the parts of accepted signatures stand where the sets of the key above put them
+-- the parts of accepted signatures are where the sets of the key above put them
 abbrev pub ThroughParts : Type 0
 ThroughParts =
     (count : ℕ) (m : LmsSet) (t : OtsSet) (id root message signatures : List ℕ)
     → lms_set m.code ≡ Some m → ots_set t.code ≡ Some t → length id ≡ 16
     → AcceptsThrough (suc count) (lms_public_key m t id root) message signatures
-    → LmsAccepts (lms_public_key m t id root) (take lms_public_key_length (drop (lms_signature_length m t) signatures)) (take (lms_signature_length m t) signatures)
-    × AcceptsThrough count (take lms_public_key_length (drop (lms_signature_length m t) signatures)) message (drop (lms_signature_length m t + lms_public_key_length) signatures)
+    → LmsAccepts (lms_public_key m t id root)
+    (take lms_public_key_length (drop (lms_signature_length m t) signatures))
+    (take (lms_signature_length m t) signatures)
+    × AcceptsThrough count
+    (take lms_public_key_length (drop (lms_signature_length m t) signatures)) message
+    (drop (lms_signature_length m t + lms_public_key_length) signatures)
 
 -- what a level signs depends on the leaves that the index goes through down to it
 abbrev pub SameUpperText : Type 0

@@ -2,7 +2,8 @@
 use Rattle.std.specs.Prelude.{ℕ, ◌+◌, ◌*◌, List, [], ◌∷◌, ◌==◌, find, Option}
 use Rattle.lms_spec.specs.HashLength.{hash_length}
 
--- an LM-OTS set: its typecode, the Winternitz width w, the number of chains p, the checksum's shift ls
+-- an LM-OTS set: its typecode, the Winternitz width w, the number of chains p, the checksum's shift
+-- ls
 pub record OtsSet : Type 0 where
   pub code : ℕ
   pub w : ℕ
@@ -50,7 +51,8 @@ ots_sets = ots_w1 ∷ ots_w2 ∷ ots_w4 ∷ ots_w8 ∷ []
 abbrev pub lms_sets : List LmsSet
 lms_sets = lms_h5 ∷ lms_h10 ∷ lms_h15 ∷ lms_h20 ∷ lms_h25 ∷ []
 
--- the most chains of a one-time key, which has them at the least width, and the greatest height of a tree
+-- the most chains of a one-time key, which has them at the least width, and the greatest height of
+-- a tree
 abbrev pub most_chains : ℕ
 most_chains = ots_w1.p
 

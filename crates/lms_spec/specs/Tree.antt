@@ -1,12 +1,12 @@
--- LMS, the Merkle tree of one-time keys (RFC 8554, section 5). Node 1 is the root, nodes 2r and 2r + 1 are the
--- children of r, and leaf q is node 2^h + q.
+-- LMS, the Merkle tree of one-time keys (RFC 8554, section 5). Node 1 is the root, nodes 2r and
+-- 2r + 1 are the children of r, and leaf q is node 2^h + q.
 use Rattle.std.specs.Prelude.{ℕ, zero, suc, ◌≡◌, ◌+◌, ◌-◌, ◌*◌, ◌/◌, ◌%◌, ◌^◌, ◌<◌, ◌==◌, nat_le, if◌then◌else◌, Bool, List, [], ◌∷◌, ◌++◌, length, map, All, Some}
 use Rattle.std.specs.List.{concat}
 use Rattle.sha2.specs.Sha256.{sha256}
 use Rattle.lms_spec.specs.HashLength.{hash_length}
 use Rattle.lms_spec.specs.Parameters.{OtsSet, LmsSet, ots_set, lms_set}
 use Rattle.lms_spec.specs.Bytes.{below, u16str, u32str}
-use Rattle.lms_spec.specs.Hashing.{d_leaf, d_intr, place}
+use Rattle.lms_spec.specs.Hashing.{d_leaf, d_intr, hash_prefix}
 use Rattle.lms_spec.specs.Ots.{public_hash, ots_signature, LeadsTo}
 
 -- a tree's private key: its two sets, its identifier and its seed
@@ -18,13 +18,13 @@ pub record Tree : Type 0 where
 
 -- the value of node r, a leaf, over its one-time public hash (5.3)
 unfoldable pub leaf_hash : List ℕ → ℕ → List ℕ → List ℕ
-leaf_hash id r ots_public = sha256 (place id r ++ u16str d_leaf ++ ots_public)
+leaf_hash id r ots_public = sha256 (hash_prefix id r ++ u16str d_leaf ++ ots_public)
 
 -- the value of node r over its two children's (5.3)
 unfoldable pub inner_hash : List ℕ → ℕ → List ℕ → List ℕ → List ℕ
-inner_hash id r left right = sha256 (place id r ++ u16str d_intr ++ left ++ right)
+inner_hash id r left right = sha256 (hash_prefix id r ++ u16str d_intr ++ left ++ right)
 
--- node r is a leaf, or stands below one (5.3)
+-- node r is a leaf, or is below one (5.3)
 abbrev pub is_leaf : Tree → ℕ → Bool
 is_leaf key r = nat_le (2 ^ key.lms.h) r
 
@@ -32,7 +32,8 @@ is_leaf key r = nat_le (2 ^ key.lms.h) r
 abbrev pub node_within : Tree → ℕ → ℕ → List ℕ
 node_within key zero r = []
 node_within key (suc depth) r =
-    if is_leaf key r then leaf_hash key.id r (public_hash key.ots key.id key.seed (r - 2 ^ key.lms.h))
+    if is_leaf key r
+    then leaf_hash key.id r (public_hash key.ots key.id key.seed (r - 2 ^ key.lms.h))
     else inner_hash key.id r (node_within key depth (2 * r)) (node_within key depth (2 * r + 1))
 
 -- T[r], the value of node r (5.3)
@@ -45,13 +46,16 @@ sibling r = if r % 2 == 0 then r + 1 else r - 1
 
 -- the siblings of the nodes from leaf q up to the root's child (5.4)
 abbrev pub path_of : Tree → ℕ → List (List ℕ)
-path_of key q = map (λ level. node key (sibling ((2 ^ key.lms.h + q) / 2 ^ level))) (below key.lms.h)
+path_of key q =
+    map (λ level. node key (sibling ((2 ^ key.lms.h + q) / 2 ^ level))) (below key.lms.h)
 
 -- where a climb from node r with this value ends (5.4.2)
 abbrev pub climb : List ℕ → ℕ → List ℕ → List (List ℕ) → List ℕ
 climb id r value [] = value
 climb id r value (other ∷ path) =
-    climb id (r / 2) (if r % 2 == 0 then inner_hash id (r / 2) value other else inner_hash id (r / 2) other value) path
+    climb id (r / 2)
+    (if r % 2 == 0 then inner_hash id (r / 2) value other
+    else inner_hash id (r / 2) other value) path
 
 -- the public key (5.3)
 unfoldable pub lms_public_key : LmsSet → OtsSet → List ℕ → List ℕ → List ℕ
@@ -64,7 +68,8 @@ public_key_of key = lms_public_key key.lms key.ots key.id (node key 1)
 -- the signature of a message by leaf q (5.4.1)
 unfoldable pub lms_signature : Tree → ℕ → List ℕ → List ℕ → List ℕ
 lms_signature key q randomizer message =
-    u32str q ++ ots_signature key.ots key.id key.seed q randomizer message ++ u32str key.lms.code ++ concat (path_of key q)
+    u32str q ++ ots_signature key.ots key.id key.seed q randomizer message ++ u32str key.lms.code
+    ++ concat (path_of key q)
 
 -- the signature is accepted for the message under the public key (5.4.2)
 pub record LmsAccepts (public_key message signature : List ℕ) : Type 0 where

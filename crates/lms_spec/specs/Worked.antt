@@ -26,16 +26,18 @@ pub record WorkedExtremes : Type 0 where
   pub ones_w4 : digits_of ots_w4 (replicate 32 0xff) ≡ replicate 64 15 ++ replicate 3 0
   pub ones_w8 : digits_of ots_w8 (replicate 32 0xff) ≡ replicate 32 255 ++ replicate 2 0
 
--- the digits stand in the order of the bytes, the highest bits of a byte first
+-- the digits are in the order of the bytes, the highest bits of a byte first
 pub record WorkedOrder : Type 0 where
   pub bytes_w8 : digits_of ots_w8 (below 32) ≡ below 32 ++ 29 ∷ 240 ∷ []
   pub halves_w4 :
       digits_of ots_w4 (times 4 (0x01 ∷ 0x23 ∷ 0x45 ∷ 0x67 ∷ 0x89 ∷ 0xab ∷ 0xcd ∷ 0xef ∷ []))
       ≡ times 4 (below 16) ++ 1 ∷ 14 ∷ 0 ∷ []
-  pub quarters_w2 : digits_of ots_w2 (replicate 32 0x1b) ≡ times 32 (below 4) ++ 0 ∷ 3 ∷ 0 ∷ 0 ∷ 0 ∷ []
-  pub bits_w1 : digits_of ots_w1 (replicate 32 0xaa) ≡ times 128 (1 ∷ 0 ∷ []) ++ 0 ∷ 1 ∷ replicate 7 0
+  pub quarters_w2 : digits_of ots_w2 (replicate 32 0x1b) ≡ times 32 (below 4)
+      ++ 0 ∷ 3 ∷ 0 ∷ 0 ∷ 0 ∷ []
+  pub bits_w1 : digits_of ots_w1 (replicate 32 0xaa) ≡ times 128 (1 ∷ 0 ∷ [])
+      ++ 0 ∷ 1 ∷ replicate 7 0
 
--- the values that the hashed texts of the cases below are made of: an identifier, a seed or a hash, a randomizer
+-- the values that are hashed in the cases below: an identifier, a seed or a hash, a randomizer
 abbrev pub id_bytes : List ℕ
 id_bytes = below 16
 
@@ -45,23 +47,28 @@ value_bytes = replicate 32 0xaa
 abbrev pub randomizer_bytes : List ℕ
 randomizer_bytes = replicate 32 0xcc
 
--- the texts that the standard hashes, byte by byte
+-- what the standard hashes, byte by byte
 pub record WorkedTexts : Type 0 where
   pub last_digits : map last_digit ots_sets ≡ 1 ∷ 3 ∷ 15 ∷ 255 ∷ []
-  pub secret : chain_secret id_bytes value_bytes 1 0x102 ≡ sha256 (id_bytes ++ 0 ∷ 0 ∷ 0 ∷ 1 ∷ 1 ∷ 2 ∷ 0xff ∷ value_bytes)
-  pub step : chain_step id_bytes 1 0x102 3 value_bytes ≡ sha256 (id_bytes ++ 0 ∷ 0 ∷ 0 ∷ 1 ∷ 1 ∷ 2 ∷ 3 ∷ value_bytes)
+  pub secret : chain_secret id_bytes value_bytes 1 0x102
+      ≡ sha256 (id_bytes ++ 0 ∷ 0 ∷ 0 ∷ 1 ∷ 1 ∷ 2 ∷ 0xff ∷ value_bytes)
+  pub step : chain_step id_bytes 1 0x102 3 value_bytes
+      ≡ sha256 (id_bytes ++ 0 ∷ 0 ∷ 0 ∷ 1 ∷ 1 ∷ 2 ∷ 3 ∷ value_bytes)
   pub ends :
       ends_hash id_bytes 1 (value_bytes ∷ randomizer_bytes ∷ [])
       ≡ sha256 (id_bytes ++ 0 ∷ 0 ∷ 0 ∷ 1 ∷ 0x80 ∷ 0x80 ∷ value_bytes ++ randomizer_bytes)
   pub message :
       message_hash id_bytes 1 randomizer_bytes (0x61 ∷ 0x62 ∷ 0x63 ∷ [])
-      ≡ sha256 (id_bytes ++ 0 ∷ 0 ∷ 0 ∷ 1 ∷ 0x81 ∷ 0x81 ∷ randomizer_bytes ++ 0x61 ∷ 0x62 ∷ 0x63 ∷ [])
-  pub leaf : leaf_hash id_bytes 33 value_bytes ≡ sha256 (id_bytes ++ 0 ∷ 0 ∷ 0 ∷ 33 ∷ 0x82 ∷ 0x82 ∷ value_bytes)
+      ≡ sha256 (id_bytes ++ 0 ∷ 0 ∷ 0 ∷ 1 ∷ 0x81 ∷ 0x81 ∷ randomizer_bytes
+      ++ 0x61 ∷ 0x62 ∷ 0x63 ∷ [])
+  pub leaf : leaf_hash id_bytes 33 value_bytes
+      ≡ sha256 (id_bytes ++ 0 ∷ 0 ∷ 0 ∷ 33 ∷ 0x82 ∷ 0x82 ∷ value_bytes)
   pub inner :
       inner_hash id_bytes 16 value_bytes randomizer_bytes
       ≡ sha256 (id_bytes ++ 0 ∷ 0 ∷ 0 ∷ 16 ∷ 0x83 ∷ 0x83 ∷ value_bytes ++ randomizer_bytes)
   pub public_key :
-      lms_public_key lms_h5 ots_w8 id_bytes value_bytes ≡ 0 ∷ 0 ∷ 0 ∷ 5 ∷ 0 ∷ 0 ∷ 0 ∷ 4 ∷ id_bytes ++ value_bytes
+      lms_public_key lms_h5 ots_w8 id_bytes value_bytes ≡ 0 ∷ 0 ∷ 0 ∷ 5 ∷ 0 ∷ 0 ∷ 0 ∷ 4 ∷ id_bytes
+      ++ value_bytes
 
 abbrev pub level_in_case : LmsSet → OtsSet → Level
 level_in_case m t = record { lms = m; ots = t }
@@ -78,7 +85,8 @@ pub record WorkedChildren : Type 0 where
       (child tree_in_case 1 (level_in_case lms_h5 ots_w8)).id
       ≡ take 16 (sha256 (id_bytes ++ 0 ∷ 0 ∷ 0 ∷ 1 ∷ 0xff ∷ 0xff ∷ 0xff ∷ value_bytes))
   pub randomizer :
-      derived tree_in_case 1 for_randomizer ≡ sha256 (id_bytes ++ 0 ∷ 0 ∷ 0 ∷ 1 ∷ 0xff ∷ 0xfd ∷ 0xff ∷ value_bytes)
+      derived tree_in_case 1 for_randomizer
+      ≡ sha256 (id_bytes ++ 0 ∷ 0 ∷ 0 ∷ 1 ∷ 0xff ∷ 0xfd ∷ 0xff ∷ value_bytes)
 
 -- a key of these levels
 abbrev pub key_of : List Level → HssKey
@@ -92,7 +100,8 @@ abbrev pub two_levels : List Level
 two_levels = replicate 2 (level_in_case lms_h5 ots_w8)
 
 abbrev pub three_levels : List Level
-three_levels = level_in_case lms_h5 ots_w8 ∷ level_in_case lms_h10 ots_w4 ∷ level_in_case lms_h5 ots_w8 ∷ []
+three_levels =
+    level_in_case lms_h5 ots_w8 ∷ level_in_case lms_h10 ots_w4 ∷ level_in_case lms_h5 ots_w8 ∷ []
 
 abbrev pub eight_levels : List Level
 eight_levels = replicate 8 (level_in_case lms_h5 ots_w8)
@@ -106,7 +115,8 @@ pub record WorkedPlaces : Type 0 where
   pub below_the_top : leaves_of eight_levels 34359738367 ≡ 0 ∷ replicate 7 31
   pub at_the_top : leaves_of eight_levels 34359738368 ≡ 1 ∷ replicate 7 0
   pub two_capacity : capacity_of (key_of two_levels) ≡ 1024
-  pub four_capacity : capacity_of (key_of (replicate 4 (level_in_case lms_h15 ots_w8))) ≡ 1152921504606846976
+  pub four_capacity : capacity_of (key_of (replicate 4 (level_in_case lms_h15 ots_w8)))
+      ≡ 1152921504606846976
   pub eight_capacity : capacity_of (key_of eight_levels) ≡ 1099511627776
 
 -- the lengths of signatures

@@ -1,4 +1,5 @@
-//! Laws over the definitions in `specs/`: each function is one law, which its contract states and a proof shows.
+//! Laws over the definitions in `specs/`: each function is one law, which its contract states and a
+//! proof shows.
 
 ghost use Rattle.lms_spec.specs.Laws.{NumbersReadBack, ColumnsFollow, ChecksumFits, DigitsFit, DigitBits, ChecksumGuards};
 ghost use Rattle.lms_spec.specs.Laws.{ChainsCompose, OtsSignatureLength, CandidateIsPublicHash, OneCandidate};
@@ -13,7 +14,7 @@ pub fn numbers_read_back()
     ensures { NumbersReadBack }
 {}
 
-/// The columns of LM-OTS's table belong together: p and ls are what the width asks for.
+/// The columns of LM-OTS's table belong together: p and ls follow from the width.
 pub fn columns_follow()
     ensures { ColumnsFollow }
 {}
@@ -33,7 +34,8 @@ pub fn digit_bits()
     ensures { DigitBits }
 {}
 
-/// Where each digit of one hash is at most another's, the two hashes have the same digits: what the checksum is for.
+/// Where each digit of one hash is at most another's, the two hashes have the same digits: what the
+/// checksum is for.
 pub fn checksum_guards()
     ensures { ChecksumGuards }
 {}
@@ -113,7 +115,7 @@ pub fn hss_signature_accepted()
     ensures { HssSignatureAccepted }
 {}
 
-/// The parts of accepted signatures stand where the sets of the key above put them.
+/// The parts of accepted signatures are where the sets of the key above put them.
 pub fn through_parts()
     ensures { ThroughParts }
 {}
@@ -138,7 +140,7 @@ pub fn worked_order()
     ensures { WorkedOrder }
 {}
 
-/// The texts that the standard hashes, and a public key, byte by byte.
+/// What the standard hashes, and a public key, byte by byte.
 pub fn worked_texts()
     ensures { WorkedTexts }
 {}

@@ -16,10 +16,12 @@ levels_line key = codes "levels " ++ levels_text key.levels ++ codes "\n"
 -- a key's levels, the indices used so far, those that there are, and those that are left
 abbrev pub indices_text : HssKey → ℕ → List ℕ
 indices_text key counter = let capacity = capacity_of (hss_key_of key) in
-    levels_line key ++ number_line (codes "counter") counter ++ number_line (codes "capacity") capacity
+    levels_line key ++ number_line (codes "counter") counter
+    ++ number_line (codes "capacity") capacity
     ++ number_line (codes "left") (capacity - counter)
 
 -- and the openings that stored something, and the indices that were burnt
 abbrev pub info_text : HssKey → ℕ → ℕ → ℕ → List ℕ
 info_text key counter openings burnt =
-    indices_text key counter ++ number_line (codes "openings") openings ++ number_line (codes "burnt") burnt
+    indices_text key counter ++ number_line (codes "openings") openings
+    ++ number_line (codes "burnt") burnt

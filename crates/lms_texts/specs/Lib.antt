@@ -1,2 +1,3 @@
 pub mod Descriptions
+pub mod Faults
 pub mod Options

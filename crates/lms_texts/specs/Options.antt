@@ -1,13 +1,10 @@
--- The texts of options, and of why one is not read.
-use Rattle.std.specs.Prelude.{ℕ, ◌≡◌, ◌<◌, ◌≤◌, List, codes, length}
+-- The texts of options.
+use Rattle.std.specs.Prelude.{ℕ, ◌≡◌, ◌<◌, ◌≤◌, List, length}
 use Rattle.std.specs.Fmt.{decimal}
 use Rattle.lms_params.specs.declared.lms_type.LmsType.{LmsType}
 use Rattle.lms_params.specs.declared.ots_type.OtsType.{OtsType}
-use Rattle.lms_params.specs.Memory.{out_of_memory_text}
 use Rattle.lms_hss.specs.Texts.{levels_text}
 use Rattle.lms_batch.specs.Jobs.{most_workers}
-use Rattle.lms_texts.specs.declared.levels_fault.LevelsTextFault.{LevelsTextFault}
-use Rattle.lms_texts.specs.declared.levels_fault.LevelsTextFault.TheVariants.{Bad, OutOfMemory}
 
 -- the text is that of these levels, of which there is one at least
 abbrev pub IsLevelsText : List ℕ → List (LmsType × OtsType) → Type 0
@@ -19,8 +16,3 @@ IsWorkers text workers = (1 ≤ workers) × (workers ≤ most_workers) × (text 
 
 abbrev pub AreWorkers : List ℕ → Type 0
 AreWorkers text = (workers : ℕ) × IsWorkers text workers
-
--- why no levels are read, as it is printed
-abbrev pub levels_fault_text : LevelsTextFault → List ℕ
-levels_fault_text Bad = codes "bad levels"
-levels_fault_text OutOfMemory = out_of_memory_text

@@ -12,8 +12,8 @@ use lms_image::Image;
 use lms_lines::WriteFault;
 use std::io::Write;
 
-/// Prints six lines: a key's levels, the indices used so far, those that there are, and those that are left, the openings that
-/// stored something, and the indices that were burnt.
+/// Prints six lines: a key's levels, the indices used so far, those that there are, and those that
+/// are left, the openings that stored something, and the indices that were burnt.
 ///
 /// On a fault, a beginning of them was written.
 pub fn print_info<O: Write>(output: &mut O, image: &Image) -> Result<(), WriteFault>
@@ -30,13 +30,16 @@ pub fn print_info<O: Write>(output: &mut O, image: &Image) -> Result<(), WriteFa
     print_line(output, format_args!("burnt {burnt}"))
 }
 
-/// Prints four lines: a key's levels, the indices used so far, those that there are, and those that are left.
+/// Prints four lines: a key's levels, the indices used so far, those that there are, and those that
+/// are left.
 ///
 /// On a fault, a beginning of them was written.
 fn print_indices<O: Write>(output: &mut O, key: HssKey, counter: u64) -> Result<(), WriteFault>
     requires { counter ≤ capacity_of (hss_key_of key) }
-    ensures printed { OnOk result (Appends (O.contents output.old) (O.contents output.new) (indices_text key counter)) }
-    ensures broken { OnErr result (AppendsFront (O.contents output.old) (O.contents output.new) (indices_text key counter)) }
+    ensures printed { OnOk result
+        (Appends (O.contents output.old) (O.contents output.new) (indices_text key counter)) }
+    ensures broken { OnErr result
+        (AppendsFront (O.contents output.old) (O.contents output.new) (indices_text key counter)) }
 {
     let levels = LevelsText(key.levels.as_slice());
     let capacity = key.capacity();

@@ -2,11 +2,11 @@
 #![tactic(auto)]
 
 mod description;
-mod levels_fault;
+mod fault;
 mod line;
 mod options;
 
 pub use crate::description::{print_capacity, print_index, print_info};
-pub use crate::levels_fault::LevelsTextFault;
+pub use crate::fault::LevelsTextFault;
 pub use crate::line::print_line;
 pub use crate::options::{read_bytes, read_levels, workers_from};

@@ -12,10 +12,11 @@ use std::io::Write;
 /// The most bytes of a line. The longest, a burnt range between two numbers of 64 bits, has 78.
 const MOST_BYTES: usize = 128;
 
-/// Prints a line, with its end, in one write where the writer takes it whole, so that a crash leaves no half of it, and flushes it.
+/// Prints a line, with its end, in one write where the writer takes it whole, so that a crash
+/// leaves no half of it, and flushes it.
 ///
-/// On a fault a beginning of the line was printed; nothing of one that has over 128 bytes. It takes no memory, so that a line can be printed where
-/// memory ran out.
+/// On a fault a beginning of the line was printed; nothing of one that has over 128 bytes. It takes
+/// no memory, so that a line can be printed where memory ran out.
 pub fn print_line<W: Write, D: Display + Drop>(writer: &mut W, text: D) -> Result<(), WriteFault>
     ensures printed { OnOk result (IfSome (D.output text) (λ bytes.
         Appends (W.contents writer.old) (W.contents writer.new) (bytes ++ codes "\n"))) }
@@ -30,8 +31,10 @@ pub fn print_line<W: Write, D: Display + Drop>(writer: &mut W, text: D) -> Resul
 
 /// Writes these bytes, and flushes them. On a fault, a beginning of them was written.
 fn write_flushed<W: Write>(writer: &mut W, bytes: &[u8]) -> Result<(), WriteFault>
-    ensures printed { OnOk result (Appends (W.contents writer.old) (W.contents writer.new) bytes.now) }
-    ensures broken { OnErr result (AppendsFront (W.contents writer.old) (W.contents writer.new) bytes.now) }
+    ensures printed { OnOk result
+        (Appends (W.contents writer.old) (W.contents writer.new) bytes.now) }
+    ensures broken { OnErr result
+        (AppendsFront (W.contents writer.old) (W.contents writer.new) bytes.now) }
 {
     write_bytes(writer, bytes)?;
     match writer.flush() {
@@ -40,9 +43,10 @@ fn write_flushed<W: Write>(writer: &mut W, bytes: &[u8]) -> Result<(), WriteFaul
     }
 }
 
-/// A text and the end of its line, where both have room.
+/// A text and the end of its line, where both fit.
 fn line_of<D: Display + Drop>(text: D) -> Result<ArrayString<MOST_BYTES>, fmt::Error>
-    ensures { IfOk result (λ line. IfSome (D.output text) (λ bytes. line.bytes ≡ bytes ++ codes "\n")) }
+    ensures { IfOk result (λ line.
+        IfSome (D.output text) (λ bytes. line.bytes ≡ bytes ++ codes "\n")) }
 {
     let mut line = ArrayString::new();
     writeln!(line, "{text}")?;

@@ -1,4 +1,4 @@
-//! The texts of options read.
+//! The values of options, read from their texts.
 ghost use Rattle.std.specs.Prelude.{◌≡◌, ◌≢◌, ℕ, List, IfErr, IfNone, IfOk, IfSome, Ok, length};
 ghost use Rattle.hex.specs.Hex.{decode_of};
 ghost use Rattle.lms_params.specs.declared.lms_type.LmsType.{LmsType as LmsKind};
@@ -6,14 +6,15 @@ ghost use Rattle.lms_params.specs.declared.ots_type.OtsType.{OtsType as OtsKind}
 ghost use Rattle.lms_hss.specs.Texts.{height_text, pair_text, width_text};
 ghost use Rattle.lms_texts.specs.Options.{AreWorkers, IsLevelsText, IsWorkers};
 
-use crate::levels_fault::LevelsTextFault;
+use crate::fault::LevelsTextFault;
 use hex::FromHex;
 use lms_batch::MOST_WORKERS;
 use lms_params::{LmsType, OtsType};
 use std::alloc::{AllocError, Global};
 
-/// The levels of a text such as `10/8,5/4`, from the top: the height of each and its Winternitz width, with a comma
-/// between each two. `Bad` only where the text is no such list, `OutOfMemory` where memory ran out first.
+/// The levels of a text such as `10/8,5/4`, from the top: the height of each and its Winternitz
+/// width, with a comma between each two. `Bad` only where the text is no such list, `OutOfMemory`
+/// where memory ran out first.
 pub fn read_levels(alloc: Global, text: &str) -> Result<Vec<(LmsType, OtsType)>, LevelsTextFault>
     ensures levels { IfOk result (λ pairs. IsLevelsText text.now pairs.items) }
     ensures bad { IfErr result (λ fault. fault ≡ LevelsTextFault.Bad →
@@ -29,15 +30,17 @@ pub fn read_levels(alloc: Global, text: &str) -> Result<Vec<(LmsType, OtsType)>,
     Ok(pairs)
 }
 
-/// The N bytes of a text of 2N hexadecimal digits in either case. None exactly where the text is no such digits.
+/// The N bytes of a text of 2N hexadecimal digits in either case. `None` exactly where the text is
+/// no such digits.
 pub fn read_bytes<const N: usize>(text: &str) -> Option<[u8; N]>
     ensures some { IfSome result (λ bytes. decode_of text.now ≡ Ok bytes) }
-    ensures none { IfNone result ((bytes : List ℕ) → length bytes ≡ N → decode_of text.now ≢ Ok bytes) }
+    ensures none { IfNone result
+        ((bytes : List ℕ) → length bytes ≡ N → decode_of text.now ≢ Ok bytes) }
 {
     <[u8; N] as FromHex>::from_hex(text).ok()
 }
 
-/// The level of a text such as `5/8`. None exactly where the text is that of no level.
+/// The level of a text such as `5/8`. `None` exactly where the text is that of no level.
 fn pair_from(piece: &str) -> Option<(LmsType, OtsType)>
     ensures some { IfSome result (λ pair. piece.now ≡ pair_text pair) }
     ensures none { IfNone result ((pair : LmsKind × OtsKind) → piece.now ≢ pair_text pair) }
@@ -46,13 +49,13 @@ fn pair_from(piece: &str) -> Option<(LmsType, OtsType)>
     Some((lms_type_from(height)?, ots_type_from(width)?))
 }
 
-/// The number of workers of a text: a decimal number from 1 to `MOST_WORKERS`, without leading zeros. None exactly where the text is no
-/// such number.
+/// The number of workers of a text: a decimal number from 1 to `MOST_WORKERS`, without leading
+/// zeros. `None` exactly where the text is no such number.
 pub fn workers_from(text: &str) -> Option<usize>
     ensures some { IfSome result (λ workers. IsWorkers text.now workers) }
     ensures none { IfNone result (¬ AreWorkers text.now) }
 {
-    // A sign and a zero stand below the other digits.
+    // A sign and a zero are below the other digits.
     let first = text.as_bytes().first()?;
     if *first <= b'0' {
         return None;

@@ -1,12 +1,12 @@
-//! A signer and an exact verifier of HSS/LMS signatures (RFC 8554).
+//! The command-line program.
 #![tactic(auto)]
 
 mod streams;
 
 use crate::streams::hold_closed_streams;
+use lms_cli::run::{report, run_watched};
 use lms_commands::Fault;
 use lms_meter::{Meter, Wiping};
-use lms_program::run::{report, run_watched};
 use lms_world::{DiskWorld, Log, Printer};
 use std::env;
 use std::io::{ErrorKind, IsTerminal};
@@ -37,7 +37,7 @@ fn main(rt: HostRuntime) -> ExitCode {
         ),
         Err(fault) => report(fault, &mut errors),
     };
-    // Nothing is printed any more.
+    // Nothing more is printed.
     drop(held);
     ExitCode::from(status.code())
 }

@@ -1,3 +1,4 @@
+mod arguments;
 mod batch;
 mod batch_faults;
 mod faults;
@@ -6,9 +7,8 @@ mod lines;
 mod memory;
 mod meter;
 mod states;
-mod words;
 
-use lms_program::run::run;
+use lms_cli::run::run;
 use lms_slow::vectors::ONE_5_8;
 use lms_world::{Log, MemoryWorld, Printer, World, WorldFault};
 use std::alloc::Global;
@@ -31,7 +31,7 @@ const VERIFY: [&str; 8] = [
     "text.sig",
 ];
 
-/// What a run left behind.
+/// What a run left.
 #[derive(Drop)]
 struct Ended {
     status: u8,
@@ -61,10 +61,11 @@ fn text_of(bytes: &[u8]) -> &str {
     str::from_utf8(bytes).unwrap_or("no text")
 }
 
-/// Runs the program with no input. What `run` promises of the status and of what it is lent is left to its proof.
+/// Runs the program with no input. What `run` promises of the status and of what it is lent is left
+/// to its proof.
 fn status_of<W: World<Log = Log>, O: Write, E: Write>(
     rt: &(impl Threads + Wait + AllocGlobal + Sync),
-    words: &[&str],
+    arguments: &[&str],
     world: &mut W,
     output: &mut O,
     errors: &mut E,
@@ -73,7 +74,7 @@ fn status_of<W: World<Log = Log>, O: Write, E: Write>(
     run(
         rt,
         rt.alloc(),
-        words,
+        arguments,
         world,
         &mut Log::new(),
         &mut input,
@@ -85,12 +86,12 @@ fn status_of<W: World<Log = Log>, O: Write, E: Write>(
 
 fn end_of<W: World<Log = Log>>(
     rt: &(impl Threads + Wait + AllocGlobal + Sync),
-    words: &[&str],
+    arguments: &[&str],
     world: &mut W,
 ) -> Ended {
     let mut output = Vec::new(rt.alloc());
     let mut errors = Vec::new(rt.alloc());
-    let status = status_of(rt, words, world, &mut output, &mut errors);
+    let status = status_of(rt, arguments, world, &mut output, &mut errors);
     Ended {
         status,
         output,
@@ -101,35 +102,35 @@ fn end_of<W: World<Log = Log>>(
 /// Whether a run ends with this status, and prints this output and these errors.
 fn ends<W: World<Log = Log>>(
     rt: &(impl Threads + Wait + AllocGlobal + Sync),
-    words: &[&str],
+    arguments: &[&str],
     world: &mut W,
     status: u8,
     output: &str,
     errors: &str,
 ) -> bool {
-    end_of(rt, words, world).is(status, output, errors)
+    end_of(rt, arguments, world).is(status, output, errors)
 }
 
 /// The same of files in memory, where no errors are printed.
 fn says(
     rt: &(impl Threads + Wait + AllocGlobal + Sync),
-    words: &[&str],
+    arguments: &[&str],
     world: &mut MemoryWorld,
     status: u8,
     output: &str,
 ) -> bool {
-    ends(rt, words, world, status, output, "")
+    ends(rt, arguments, world, status, output, "")
 }
 
 /// The same of files in memory, where nothing but errors is printed.
 fn fails_with(
     rt: &(impl Threads + Wait + AllocGlobal + Sync),
-    words: &[&str],
+    arguments: &[&str],
     world: &mut MemoryWorld,
     status: u8,
     line: &str,
 ) -> bool {
-    ends(rt, words, world, status, "", line)
+    ends(rt, arguments, world, status, "", line)
 }
 
 /// Writes the bytes of a text of hexadecimal digits.
@@ -148,7 +149,8 @@ fn signed(alloc: Global) -> Result<MemoryWorld, Fail> {
     Ok(world)
 }
 
-/// Whether the three files, of which one holds other bytes, are verified with this status and this line.
+/// Whether the three files, of which one holds other bytes, are verified with this status and this
+/// line.
 fn is_judged(
     rt: &(impl Threads + Wait + AllocGlobal + Sync),
     name: &str,
@@ -171,7 +173,7 @@ fn prints_a_verdict(rt: HostRuntime) -> Result<(), Fail> {
     Ok(())
 }
 
-/// The three files, of which the one at a place fails, and those behind it fail in another way.
+/// The three files, of which the one at a place fails, and those after it fail in another way.
 fn failing(
     alloc: Global,
     place: usize,
@@ -257,12 +259,12 @@ impl Write for Stuck {
 /// Whether a command whose output can't be printed, by this stream, says so.
 fn is_unprinted<O: Write>(
     rt: &(impl Threads + Wait + AllocGlobal + Sync),
-    words: &[&str],
+    arguments: &[&str],
     world: &mut MemoryWorld,
     output: &mut O,
 ) -> bool {
     let mut errors = Vec::new(rt.alloc());
-    let status = status_of(rt, words, world, output, &mut errors);
+    let status = status_of(rt, arguments, world, output, &mut errors);
     status == 6 && errors.as_slice() == b"error: cannot write output\n".as_slice()
 }
 

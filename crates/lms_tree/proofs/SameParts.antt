@@ -4,8 +4,6 @@ use Rattle.lms_spec.specs.Parameters.{OtsSet, LmsSet, ots_signature_length}
 use Rattle.lms_spec.specs.Ots.{IsOtsSignature}
 use Rattle.lms_spec.proofs.Parts.{key-parts-same, signature-parts-same}
 use Rattle.lms_spec.proofs.Sets.{small-leaf}
-use Rattle.lms_params.specs.LmsType.{lms_set_of}
-use Rattle.lms_params.specs.OtsType.{ots_set_of}
 use Rattle.lms_tree.specs.Parts.{IsLmsPublicKey, IsLmsSignature, HasParts}
 use Rattle.lms_tree.specs.Verifying.{HasTaken}
 use Rattle.lms_tree.specs.declared.verification.Verifier.{Verifier}
@@ -38,10 +36,10 @@ one-time-parts-under m t id root public_key q ots_part path signature key is has
 -- a key and a signature that a verifier has begun with have parts
 pub parts-taken : (v : Verifier) (public_key signature message : List ℕ) → HasTaken v public_key signature message → HasParts public_key signature
 parts-taken v public_key signature message taken = record {
-  lms = lms_set_of v.key.lms;
-  ots = ots_set_of v.key.ots;
-  id = v.key.i;
-  root = v.key.root;
+  lms = taken.lms;
+  ots = taken.ots;
+  id = v.i;
+  root = v.root;
   key_parts = taken.key_parts;
   q = taken.q;
   ots_part = taken.ots_part;

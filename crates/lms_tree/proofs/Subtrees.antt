@@ -1,4 +1,5 @@
--- The bottom subtrees that hold a range of leaves have all nodes below their roots that signatures by these leaves need.
+-- The bottom subtrees that hold a range of leaves have all nodes below their roots that signatures
+-- by these leaves need.
 use Rattle.std.proofs.Common.{ℕ, ◌≡◌, ◌≢◌, ◌+◌, ◌-◌, ◌*◌, ◌/◌, ◌%◌, ◌^◌, ◌<◌, ◌≤◌, ◌==◌, inl, inr, sym, ◌∙◌, ap, arith, subst, ⊎_elim, eqb-true, pow_pos, pow_mono, pow-suc, add-one, shr-shr}
 use Rattle.std.proofs.lemmas.Bool.{cases_Bool, eqb-false}
 use Rattle.std.proofs.lemmas.Nat.{pow-add}
@@ -55,7 +56,8 @@ row-in-path t m leaf k r level in_tree low is from to =
 is-root : (r : ℕ) → r ≡ 1 → 2 ≤ r → ⊥
 is-root r is more = omega arith
 
--- a node that is needed stands in the bottom subtrees of the leaves served, where it stands below their roots
+-- a node that is needed stands in the bottom subtrees of the leaves served, where it stands below
+-- their roots
 below-roots : (t m first last r level : ℕ) → last < 2 ^ (t + m) → IsNeeded (t + m) first last r → 2 ^ level ≤ r → r < 2 * 2 ^ level → t < level
     → (level - t ≤ m) × ((2 ^ t + first / 2 ^ m) * 2 ^ (level - t) ≤ r)
     × (r < (2 ^ t + first / 2 ^ m + (last / 2 ^ m - first / 2 ^ m + 1)) * 2 ^ (level - t))

@@ -5,7 +5,8 @@ use Rattle.lms_tree.specs.declared.band.Rows.{Rows}
 use Rattle.lms_tree.specs.TreeKey.{tree_of}
 use Rattle.lms_tree.specs.Held.{RowsOf}
 
--- what contracts see of a `BandTree`: a key, and the first and the last of the leaves that are served
+-- what contracts see of a `BandTree`: a key, and the first and the last of the leaves that are
+-- served
 pub record ServedLeaves : Type 0 where
   pub key : TreeKey
   pub first : ℕ
@@ -39,10 +40,11 @@ lower_rows h first last = record {
   depth = bottom_height h;
 }
 
--- the number of nodes of both: the nodes from the root down to the roots of the bottom subtrees, and all nodes of each subtree
--- that holds one of the leaves
+-- the number of nodes of both: the nodes from the root down to the roots of the bottom subtrees,
+-- and all nodes of each subtree that holds one of the leaves
 abbrev pub kept_nodes : ℕ → ℕ → ℕ → ℕ
-kept_nodes h first last = 2 ^ (h - bottom_height h + 1) - 1 + subtrees h first last * (2 ^ (bottom_height h + 1) - 1)
+kept_nodes h first last =
+    2 ^ (h - bottom_height h + 1) - 1 + subtrees h first last * (2 ^ (bottom_height h + 1) - 1)
 
 -- the most nodes of both, which a tree of height 25 has where two of its subtrees hold the leaves
 abbrev pub most_kept : ℕ
@@ -52,11 +54,18 @@ most_kept = 69629
 abbrev pub most_kept_of_20 : ℕ
 most_kept_of_20 = 6141
 
+-- a `BandTree` can serve the leaves from `first` to `last`
+pub record CanServe (key : TreeKey) (first last : ℕ) : Type 0 where
+  pub order : first ≤ last
+  pub in_tree : last < 2 ^ (tree_of key).lms.h
+  pub at_most : last - first < most_served
+
 -- what serves the leaves from `first` to `last`
 pub record HoldsBands (first last : ℕ) (upper lower : RowsOf) : Type 0 where
   pub order : first ≤ last
   pub in_tree : last < 2 ^ (tree_of upper.key).lms.h
   pub at_most : last - first < most_served
-  pub upper_rows : upper.rows ≡ root_rows ((tree_of upper.key).lms.h - bottom_height (tree_of upper.key).lms.h)
+  pub upper_rows : upper.rows
+      ≡ root_rows ((tree_of upper.key).lms.h - bottom_height (tree_of upper.key).lms.h)
   pub lower_key : lower.key ≡ upper.key
   pub lower_rows_are : lower.rows ≡ lower_rows (tree_of upper.key).lms.h first last

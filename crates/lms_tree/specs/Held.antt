@@ -28,7 +28,8 @@ row_of rows level = record {
 
 -- the row below another, after it
 abbrev pub row_below : Row → Row
-row_below row = record { first = 2 * row.first; count = 2 * row.count; place = row.place + row.count }
+row_below row =
+    record { first = 2 * row.first; count = 2 * row.count; place = row.place + row.count }
 
 -- the number of nodes of all rows
 abbrev pub nodes_in : Rows → ℕ
@@ -37,7 +38,8 @@ nodes_in rows = rows.width * (2 ^ (rows.depth + 1) - 1)
 -- the nodes of a row stand at their places
 abbrev pub HoldsRow : TreeKey → Row → List (List ℕ) → Type 0
 HoldsRow key row nodes =
-    (i : ℕ) → i < row.count → slice_index_or nodes (row.place + i) [] ≡ node (tree_of key) (row.first + i)
+    (i : ℕ) → i < row.count
+    → slice_index_or nodes (row.place + i) [] ≡ node (tree_of key) (row.first + i)
 
 -- all nodes of all rows, each at its place
 pub record HoldsRows (key : TreeKey) (rows : Rows) (nodes : List (List ℕ)) : Type 0 where

@@ -10,7 +10,8 @@ use Rattle.lms_tree.specs.TreeKey.{tree_of}
 use Rattle.lms_tree.specs.Bands.{bottom_height, root_rows}
 use Rattle.lms_tree.specs.Held.{nodes_in, HoldsRows}
 
--- what contracts see of a `KeptTree`: a key, the number of the bottom subtree whose leaves are served, and two lists of nodes
+-- what contracts see of a `KeptTree`: a key, the number of the bottom subtree whose leaves are
+-- served, and two lists of nodes
 pub record KeptNodes : Type 0 where
   pub key : TreeKey
   pub subtree : ℕ
@@ -50,7 +51,9 @@ pub record HasShape (kept : KeptNodes) : Type 0 where
 
 -- the public key over what was given for the root (5.3)
 abbrev pub given_public : KeptNodes → List ℕ
-given_public kept = lms_public_key (tree_of kept.key).lms (tree_of kept.key).ots (tree_of kept.key).id (slice_index_or kept.upper 0 [])
+given_public kept =
+    lms_public_key (tree_of kept.key).lms (tree_of kept.key).ots (tree_of kept.key).id
+    (slice_index_or kept.upper 0 [])
 
 -- they are the tree's, each at its place
 pub record AreNodes (kept : KeptNodes) : Type 0 where
@@ -61,7 +64,8 @@ pub record AreNodes (kept : KeptNodes) : Type 0 where
 abbrev pub ServesLeaf : KeptNodes → ℕ → Type 0
 ServesLeaf kept q = q / 2 ^ bottom_height (tree_of kept.key).lms.h ≡ kept.subtree
 
--- the same upper nodes with those of another bottom subtree, which are the tree's, as is the node that was given for its root
+-- the same upper nodes with those of another bottom subtree, which are the tree's, as is the node
+-- that was given for its root
 pub record MovesTo (kept : KeptNodes) (n : ℕ) (moved : KeptNodes) : Type 0 where
   pub key : moved.key ≡ kept.key
   pub subtree : moved.subtree ≡ n
@@ -70,8 +74,11 @@ pub record MovesTo (kept : KeptNodes) (n : ℕ) (moved : KeptNodes) : Type 0 whe
       ≡ node (tree_of kept.key) (subtree_root (tree_of kept.key).lms.h n)
   pub lower : HoldsRows kept.key (subtree_rows (tree_of kept.key).lms.h n) moved.lower
 
--- the signature of a message by leaf q of a tree, but that any bytes may stand in the place of its path (5.4.1)
-pub record IsSignatureAlong (tree : Tree) (q : ℕ) (randomizer message signature : List ℕ) : Type 0 where
+-- the signature of a message by leaf q of a tree, but that any bytes may stand in the place of its
+-- path (5.4.1)
+pub record IsSignatureAlong (tree : Tree) (q : ℕ)
+    (randomizer message signature : List ℕ) : Type 0 where
   pub path : List ℕ
   pub path_length : length path ≡ hash_length * tree.lms.h
-  pub parts : signature ≡ u32str q ++ ots_signature tree.ots tree.id tree.seed q randomizer message ++ u32str tree.lms.code ++ path
+  pub parts : signature ≡ u32str q ++ ots_signature tree.ots tree.id tree.seed q randomizer message
+      ++ u32str tree.lms.code ++ path

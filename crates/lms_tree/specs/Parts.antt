@@ -25,14 +25,16 @@ pub record HasSignaturesOf (n : ℕ) (public_key : List ℕ) : Type 0 where
   pub length_is : n ≡ lms_signature_length lms ots
 
 -- the parts of an LMS signature under a key of these sets (5.4)
-pub record IsLmsSignature (m : LmsSet) (t : OtsSet) (q : ℕ) (ots_part : List ℕ) (path : List (List ℕ)) (signature : List ℕ) : Type 0 where
+pub record IsLmsSignature (m : LmsSet) (t : OtsSet) (q : ℕ) (ots_part : List ℕ)
+    (path : List (List ℕ)) (signature : List ℕ) : Type 0 where
   pub q_in_tree : q < 2 ^ m.h
   pub ots_length : length ots_part ≡ ots_signature_length t
   pub path_count : length path ≡ m.h
   pub path_lengths : All (λ v. length v ≡ hash_length) path
   pub parts : signature ≡ u32str q ++ ots_part ++ u32str m.code ++ concat path
 
--- a public key of known sets, and a signature of its typecodes and lengths, the one-time part's among them (5.3, 5.4 and 4.5)
+-- a public key of known sets, and a signature of its typecodes and lengths, the one-time part's
+-- among them (5.3, 5.4 and 4.5)
 pub record HasParts (public_key signature : List ℕ) : Type 0 where
   pub lms : LmsSet
   pub ots : OtsSet

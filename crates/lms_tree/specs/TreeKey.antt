@@ -10,7 +10,8 @@ use Rattle.lms_tree.specs.declared.tree_key.TreeKey.{TreeKey}
 
 -- the tree of a key
 abbrev pub tree_of : TreeKey → Tree
-tree_of key = record { lms = lms_set_of key.lms; ots = ots_set_of key.ots; id = key.i; seed = key.seed }
+tree_of key =
+    record { lms = lms_set_of key.lms; ots = ots_set_of key.ots; id = key.i; seed = key.seed }
 
 -- the public key (5.3)
 abbrev pub public_text : TreeKey → List ℕ

@@ -1,16 +1,17 @@
 -- What a verifier has taken of a message.
 use Rattle.std.specs.Prelude.{ℕ, ◌≡◌, ◌+◌, ◌^◌, List}
-use Rattle.lms_params.specs.LmsType.{lms_set_of}
-use Rattle.lms_params.specs.OtsType.{ots_set_of}
+use Rattle.lms_spec.specs.Parameters.{OtsSet, LmsSet}
 use Rattle.lms_ots.specs.Verifying.{HasTaken as HasTakenOnce}
 use Rattle.lms_tree.specs.Parts.{IsLmsPublicKey, IsLmsSignature}
 use Rattle.lms_tree.specs.declared.verification.Verifier.{Verifier}
 
 -- the verifier of a signature under a public key has taken the message so far (5.4.2)
 pub record HasTaken (v : Verifier) (public_key signature message : List ℕ) : Type 0 where
-  pub key_parts : IsLmsPublicKey (lms_set_of v.key.lms) (ots_set_of v.key.ots) v.key.i v.key.root public_key
+  pub lms : LmsSet
+  pub ots : OtsSet
+  pub key_parts : IsLmsPublicKey lms ots v.i v.root public_key
   pub q : ℕ
   pub ots_part : List ℕ
-  pub signature_parts : IsLmsSignature (lms_set_of v.key.lms) (ots_set_of v.key.ots) q ots_part v.path.now signature
-  pub leaf_is : v.leaf ≡ 2 ^ (lms_set_of v.key.lms).h + q
-  pub taken : HasTakenOnce v.ots (ots_set_of v.key.ots) v.key.i q ots_part message
+  pub signature_parts : IsLmsSignature lms ots q ots_part v.path.now signature
+  pub leaf_is : v.leaf ≡ 2 ^ lms.h + q
+  pub taken : HasTakenOnce v.ots ots v.i q ots_part message

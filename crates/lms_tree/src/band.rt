@@ -1,4 +1,4 @@
-//! Nodes of a tree that are held, row by row.
+//! Nodes of a tree in memory, row by row.
 ghost use Rattle.std.specs.Prelude.{ℕ, ◌≡◌, ◌+◌, ◌*◌, ◌^◌, ◌<◌, ◌≤◌, ◌↔◌, [], length, slice_index_or, IsTrue, IfOk, IfSome};
 ghost use Rattle.lms_spec.specs.Parameters.{greatest_height};
 ghost use Rattle.lms_spec.specs.Tree.{node as node_of};
@@ -12,12 +12,12 @@ use crate::nodes::{inner_hash, leaf_count};
 use crate::progress::{Begun, Progress};
 use crate::row::fill_lowest_row;
 use crate::tree_key::TreeKey;
-use lms_params::OutOfMemory;
+use lms_params::{HASH_LEN, OutOfMemory};
 use std::alloc::Global;
 use std::marker::Model;
 use std::thread::Threads;
 
-/// Rows of a tree: `width` nodes that stand side by side, the first of them being number `first`, and all nodes below them in
+/// Rows of a tree: `width` adjacent nodes from number `first` on, and all nodes below them in
 /// `depth` more rows.
 #[derive(Clone, Copy)]
 pub(crate) struct Rows {
@@ -26,7 +26,8 @@ pub(crate) struct Rows {
     pub(crate) depth: u32,
 }
 
-/// One of several rows in a list: `count` nodes from number `first` on, of which the first stands at `place`.
+/// One of several rows in a list: `count` nodes from number `first` on. The first is at `place` of
+/// the list.
 #[derive(Clone, Copy)]
 struct Row {
     first: u32,
@@ -46,12 +47,13 @@ impl Rows {
         }
     }
 
-    /// Room for all nodes of these rows, 32 bytes each. `OutOfMemory` where the one request for memory is refused.
-    pub(crate) fn room(self, alloc: Global) -> Result<Vec<[u8; 32]>, OutOfMemory>
+    /// Memory for all nodes of these rows, 32 bytes each. `OutOfMemory` where the one request for
+    /// it is refused.
+    pub(crate) fn room(self, alloc: Global) -> Result<Vec<[u8; HASH_LEN]>, OutOfMemory>
         requires { AreInTree greatest_height self }
         ensures { IfOk result (λ nodes. length nodes.items ≡ nodes_in self) }
     {
-        Ok(vec![in alloc; [0; 32]; self.len()]?)
+        Ok(vec![in alloc; [0; HASH_LEN]; self.len()]?)
     }
 
     /// The number of nodes of all rows.
@@ -63,8 +65,8 @@ impl Rows {
         lowest.place + lowest.count
     }
 
-    /// Row `level`, counted from the top, in a list of the rows from the top down. Each row has twice as many nodes as the one
-    /// above it.
+    /// Row `level`, counted from the top, in a list of the rows from the top down. Each row has
+    /// twice as many nodes as the one above it.
     fn row(self, level: u32) -> Row
         requires in_tree { AreInTree greatest_height self }
         requires level { level ≤ self.depth }
@@ -87,7 +89,7 @@ pub(crate) struct Band {
     key: TreeKey,
     rows: Rows,
     /// Row after row from the top, each from left to right.
-    nodes: Vec<[u8; 32]>,
+    nodes: Vec<[u8; HASH_LEN]>,
 }
 
 impl Model for Band {
@@ -101,15 +103,15 @@ impl Model for Band {
 }
 
 impl Band {
-    /// Works out the nodes in these rows, where there is room for them: the lowest row by as many threads at once as there are
-    /// processors, up to 32, then the rows above it. A node of the lowest row that stands in the top row of `lower`, a band of the
-    /// same tree, is copied from there. The memory of `room` becomes the band's. The `Progress` of `begun` is told of the leaves under
-    /// each other node of that row.
+    /// Computes the nodes in these rows and stores them in `room`: the lowest row by as many
+    /// threads as there are processors, at most 32, then the rows above it. A node of the lowest
+    /// row that is in the top row of `lower`, a band of the same tree, is copied from there. The
+    /// leaves under every other node of that row are reported to the `Progress` of `begun`.
     pub(crate) fn build(
         rt: &(impl Threads + Sync),
         key: TreeKey,
         rows: Rows,
-        room: Vec<[u8; 32]>,
+        room: Vec<[u8; HASH_LEN]>,
         lower: Option<&Band>,
         begun: &Begun<impl Progress>,
     ) -> Self
@@ -148,8 +150,8 @@ impl Band {
         self.nodes.len()
     }
 
-    /// The value of node r, which stands in row `level`, counted from the top.
-    pub(crate) fn node(&self, level: u32, r: u32) -> [u8; 32]
+    /// The value of node r, which is in row `level`, counted from the top.
+    pub(crate) fn node(&self, level: u32, r: u32) -> [u8; HASH_LEN]
         requires level { level ≤ self.now.rows.depth }
         requires from { self.now.rows.first * 2 ^ level ≤ r }
         requires to { r < (self.now.rows.first + self.now.rows.width) * 2 ^ level }
@@ -167,7 +169,7 @@ impl Band {
     }
 
     /// The nodes, row after row from the top.
-    pub(crate) fn into_nodes(self) -> Vec<[u8; 32]>
+    pub(crate) fn into_nodes(self) -> Vec<[u8; HASH_LEN]>
         ensures held { HoldsRows self.key self.rows result.items }
         ensures filled { FillsRows self.rows result.items }
     {
@@ -180,21 +182,22 @@ impl Band {
         nodes
     }
 
-    /// Whether node r stands in the top row.
+    /// Whether node r is in the top row.
     pub(crate) fn has_on_top(&self, r: u32) -> bool
-        ensures { IsTrue result ↔ ((self.now.rows.first ≤ r) × (r < self.now.rows.first + self.now.rows.width)) }
+        ensures { IsTrue result
+            ↔ ((self.now.rows.first ≤ r) × (r < self.now.rows.first + self.now.rows.width)) }
     {
         r >= self.rows.first && r - self.rows.first < self.rows.width
     }
 }
 
 /// Each node is 32 bytes long, as its type says.
-pub(crate) fn are_hashes(nodes: &[[u8; 32]])
+pub(crate) fn are_hashes(nodes: &[[u8; HASH_LEN]])
     ensures { AreHashes nodes.now }
 {}
 
-/// What stands in the place of node r, in row `level` of these rows, counted from the top.
-pub(crate) fn node_in(nodes: &[[u8; 32]], rows: Rows, level: u32, r: u32) -> [u8; 32]
+/// What is at the place of node r, in row `level` of these rows, counted from the top.
+pub(crate) fn node_in(nodes: &[[u8; HASH_LEN]], rows: Rows, level: u32, r: u32) -> [u8; HASH_LEN]
     requires in_tree { AreInTree greatest_height rows }
     requires count { length nodes.now ≡ nodes_in rows }
     requires level { level ≤ rows.depth }
@@ -206,8 +209,8 @@ pub(crate) fn node_in(nodes: &[[u8; 32]], rows: Rows, level: u32, r: u32) -> [u8
     nodes[row.place + (r - row.first) as usize]
 }
 
-/// Works out the rows above the lowest one, from there up.
-fn fill_upper_rows(key: &TreeKey, rows: Rows, nodes: &mut [[u8; 32]])
+/// Computes the rows above the lowest one, from there up.
+fn fill_upper_rows(key: &TreeKey, rows: Rows, nodes: &mut [[u8; HASH_LEN]])
     requires in_tree { AreInTree (tree_of key.now).lms.h rows }
     requires count { length nodes.old ≡ nodes_in rows }
     requires lowest { HoldsRow key.now (row_of rows rows.depth) nodes.old }
@@ -220,15 +223,16 @@ fn fill_upper_rows(key: &TreeKey, rows: Rows, nodes: &mut [[u8; 32]])
     }
 }
 
-/// Works out a row from the row below it, which stands after it.
-fn fill_row(key: &TreeKey, row: Row, nodes: &mut [[u8; 32]])
+/// Computes a row from the row below it, which is after it in the list.
+fn fill_row(key: &TreeKey, row: Row, nodes: &mut [[u8; HASH_LEN]])
     requires from_root { 1 ≤ row.first }
     requires inner { row.first + row.count ≤ 2 ^ (tree_of key.now).lms.h }
     requires room { row.place + 3 * row.count ≤ length nodes.old }
     requires below { HoldsRow key.now (row_below row) nodes.old }
     ensures count { length nodes.new ≡ length nodes.old }
     ensures row { HoldsRow key.now row nodes.new }
-    ensures others { (k : ℕ) → row.place + row.count ≤ k → slice_index_or nodes.new k [] ≡ slice_index_or nodes.old k [] }
+    ensures others { (k : ℕ) → row.place + row.count ≤ k
+        → slice_index_or nodes.new k [] ≡ slice_index_or nodes.old k [] }
 {
     for i in 0..row.count {
         let left = row.place + row.count + 2 * i;

@@ -1,8 +1,8 @@
-//! A tree of which the upper nodes are held, and of the lower ones those that a range of leaves needs.
-ghost use Rattle.std.specs.Prelude.{◌≡◌, ◌+◌, ◌-◌, ◌/◌, ◌^◌, ◌<◌, ◌≤◌, IfOk};
+//! A tree with its upper nodes in memory, and of the lower ones those that a range of leaves needs.
+ghost use Rattle.std.specs.Prelude.{◌≡◌, ◌+◌, ◌/◌, ◌^◌, ◌<◌, ◌≤◌, IfOk};
 ghost use Rattle.lms_tree.specs.TreeKey.{tree_of};
 ghost use Rattle.lms_params.specs.LmsType.{lms_set_of};
-ghost use Rattle.lms_tree.specs.Bands.{bottom_height as bottom_height_of, kept_nodes, lower_rows as lower_rows_of, most_kept, most_kept_of_20, most_served};
+ghost use Rattle.lms_tree.specs.Bands.{bottom_height as bottom_height_of, CanServe, kept_nodes, lower_rows as lower_rows_of, most_kept, most_kept_of_20};
 ghost use Rattle.lms_tree.specs.Kept.{AreNodes, HasShape, ServesLeaf, upper_rows as upper_rows_of};
 
 use crate::band::{Band, Rows};
@@ -10,7 +10,7 @@ use crate::kept_tree::KeptTree;
 use crate::node_source::NodeSource;
 use crate::progress::{Begun, Progress, Unwatched};
 use crate::tree_key::TreeKey;
-use lms_params::{LmsType, OutOfMemory};
+use lms_params::{HASH_LEN, LmsType, OutOfMemory};
 use std::alloc::Global;
 use std::marker::Model;
 use std::thread::Threads;
@@ -18,9 +18,9 @@ use std::thread::Threads;
 /// The greatest height of a bottom subtree.
 const TALLEST_SUBTREE: u32 = 10;
 
-/// A tree that serves a range of leaves. Its bottom subtrees are those of height 10, or of the tree's height where that is less:
-/// their roots and all nodes above them are held, and the one or two bottom subtrees that hold the leaves served are held whole.
-/// Contracts see the key and the range.
+/// A tree that serves a range of leaves. Its bottom subtrees have height 10, or the tree's height
+/// where that is less. Their roots and all nodes above are held, and all nodes of the one or two
+/// bottom subtrees that have the leaves served. Contracts see the key and the range.
 #[derive(Drop)]
 pub struct BandTree {
     first: u32,
@@ -40,10 +40,11 @@ impl Model for BandTree {
 }
 
 impl BandTree {
-    /// Works out what serves the leaves from `first` to `last`, at most 1024 leaves of the tree: first the bottom subtrees that
-    /// hold them, then the roots of the others and the nodes above, leaves and roots by as many threads at once as there are
-    /// processors, up to 32. `OutOfMemory` where one of the two requests for memory is refused, for the nodes that are kept, 32 bytes
-    /// each: nothing was worked out then.
+    /// Computes what serves the leaves from `first` to `last`, at most 1024 leaves of the tree:
+    /// first the bottom subtrees that have them, then the roots of the others and the nodes above.
+    /// Leaves and roots are computed by as many threads as there are processors, at most 32.
+    /// `OutOfMemory` where one of the two requests for memory is refused, before anything is
+    /// computed.
     pub fn build(
         rt: &(impl Threads + Sync),
         alloc: Global,
@@ -51,15 +52,14 @@ impl BandTree {
         first: u32,
         last: u32,
     ) -> Result<Self, OutOfMemory>
-        requires order { first ≤ last }
-        requires in_tree { last < 2 ^ (tree_of key).lms.h }
-        requires at_most { last - first < most_served }
+        requires { CanServe key first last }
         ensures { IfOk result (λ tree. tree ≡ record { key = key; first = first; last = last }) }
     {
         BandTree::build_watched(rt, alloc, key, first, last, &Begun::new(&Unwatched, 0))
     }
 
-    /// The same, and tells the `Progress` of `begun` of the leaves that are worked out, 2^h in all.
+    /// As `build`. The leaves that are computed, 2^h in all, are reported to the `Progress` of
+    /// `begun`.
     pub fn build_watched(
         rt: &(impl Threads + Sync),
         alloc: Global,
@@ -68,9 +68,7 @@ impl BandTree {
         last: u32,
         begun: &Begun<impl Progress>,
     ) -> Result<Self, OutOfMemory>
-        requires order { first ≤ last }
-        requires in_tree { last < 2 ^ (tree_of key).lms.h }
-        requires at_most { last - first < most_served }
+        requires { CanServe key first last }
         ensures { IfOk result (λ tree. tree ≡ record { key = key; first = first; last = last }) }
     {
         let lower_rows = lower_rows(key.lms, first, last);
@@ -87,20 +85,23 @@ impl BandTree {
         })
     }
 
-    /// The number of nodes that are held: those from the root down to the roots of all bottom subtrees, and all nodes of each
-    /// bottom subtree that holds a leaf served, whose root so counts twice. At most 69629 in a tree of height 25, and 6141 up to
-    /// height 20.
+    /// The number of nodes that are held: those from the root down to the roots of all bottom
+    /// subtrees, and all nodes of each bottom subtree that has a leaf served. The root of such a
+    /// subtree is held twice. At most 69629 in a tree of height 25, and 6141 up to height 20.
     pub fn kept(&self) -> usize
-        ensures count { result ≡ kept_nodes (tree_of self.now.key).lms.h self.now.first self.now.last }
+        ensures count { result
+            ≡ kept_nodes (tree_of self.now.key).lms.h self.now.first self.now.last }
         ensures limit { result ≤ most_kept }
         ensures shorter { (tree_of self.now.key).lms.h ≤ 20 → result ≤ most_kept_of_20 }
     {
         self.upper.len() + self.lower.len()
     }
 
-    /// The nodes that are held, where the leaves served are of one bottom subtree. They are the tree's.
+    /// The nodes that are held, where the leaves served are in one bottom subtree. They are the
+    /// tree's.
     pub fn into_kept(self) -> KeptTree
-        requires { self.first / 2 ^ bottom_height_of (tree_of self.key).lms.h ≡ self.last / 2 ^ bottom_height_of (tree_of self.key).lms.h }
+        requires { self.first / 2 ^ bottom_height_of (tree_of self.key).lms.h
+            ≡ self.last / 2 ^ bottom_height_of (tree_of self.key).lms.h }
         ensures key { result.key ≡ self.key }
         ensures subtree { ServesLeaf result self.first }
         ensures shape { HasShape result }
@@ -141,7 +142,7 @@ impl NodeSource for BandTree {
         self.last
     }
 
-    fn node(&self, r: u32) -> [u8; 32] {
+    fn node(&self, r: u32) -> [u8; HASH_LEN] {
         let top = self.upper.depth();
         let level = r.ilog2();
         if level <= top {
@@ -166,7 +167,7 @@ pub(crate) fn upper_rows(lms: LmsType) -> Rows
     Rows::from_root(lms.height() - bottom_height(lms))
 }
 
-/// The rows of the bottom subtrees that hold a range of leaves.
+/// The rows of the bottom subtrees that have a range of leaves.
 fn lower_rows(lms: LmsType, first: u32, last: u32) -> Rows
     requires order { first ≤ last }
     requires in_tree { last < 2 ^ (lms_set_of lms).h }

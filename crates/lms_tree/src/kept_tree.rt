@@ -1,4 +1,4 @@
-//! A tree whose nodes were given, as from a file.
+//! A tree whose nodes were given, for example read from a file.
 ghost use Rattle.std.specs.Prelude.{ℕ, ◌≡◌, ◌≢◌, ◌+◌, ◌-◌, ◌*◌, ◌/◌, ◌^◌, ◌<◌, ◌↔◌, [], length, slice_index_or, IfOk, IfSome, IfNone, IsTrue};
 ghost use Rattle.lms_spec.specs.Parameters.{greatest_height};
 ghost use Rattle.lms_spec.specs.Tree.{node as node_of};
@@ -13,22 +13,22 @@ use crate::band::{Band, Rows, node_in};
 use crate::band_tree::{bottom_height, upper_rows};
 use crate::nodes::leaf_count;
 use crate::progress::{Begun, Progress};
-use crate::signing::{public_key_bytes, sibling, write_head};
+use crate::signing::{LMS_KEY_LEN, public_key_bytes, sibling, write_head};
 use crate::tree_key::TreeKey;
-use lms_params::{LmsType, OutOfMemory};
+use lms_params::{HASH_LEN, LmsType, OutOfMemory};
 use std::alloc::Global;
 use std::marker::Model;
 use std::thread::Threads;
 
-/// What signs by the leaves of one bottom subtree: the nodes of that subtree, and those from the root down to the roots of all bottom
-/// subtrees, as they were given. Nothing here tells whether they are the tree's. Contracts see the key, the number of the subtree and
-/// the nodes.
+/// Signs by the leaves of one bottom subtree. It has the nodes of that subtree, and those from the
+/// root down to the roots of all bottom subtrees, as they were given. Whether they are the tree's
+/// is not known. Contracts see the key, the number of the subtree and the nodes.
 #[derive(Drop)]
 pub struct KeptTree {
     pub(crate) key: TreeKey,
     pub(crate) subtree: u32,
-    pub(crate) upper: Vec<[u8; 32]>,
-    pub(crate) lower: Vec<[u8; 32]>,
+    pub(crate) upper: Vec<[u8; HASH_LEN]>,
+    pub(crate) lower: Vec<[u8; HASH_LEN]>,
 }
 
 impl Model for KeptTree {
@@ -36,24 +36,35 @@ impl Model for KeptTree {
 
     ghost Value = { KeptNodes };
 
-    ghost view = { λ a. record { key = a.key; subtree = a.subtree; upper = a.upper.items; lower = a.lower.items } };
+    ghost view = { λ a.
+        record { key = a.key; subtree = a.subtree; upper = a.upper.items; lower = a.lower.items } };
 
-    ghost invariant = { λ a. HasShape (record { key = a.key; subtree = a.subtree; upper = a.upper.items; lower = a.lower.items }) };
+    ghost invariant = { λ a.
+        HasShape (record {
+          key = a.key;
+          subtree = a.subtree;
+          upper = a.upper.items;
+          lower = a.lower.items;
+        }) };
 }
 
 impl KeptTree {
-    /// These nodes of a tree: those from the root down to the roots of the bottom subtrees, row by row, and those of one of these, which
-    /// is counted from 0, row by row. `None` where they are not as many as `counts` says.
+    /// Takes nodes of a tree: `upper` from the root down to the roots of the bottom subtrees, and
+    /// `lower` of one bottom subtree, counted from 0; both row by row. `None` where their numbers
+    /// are not those of `counts`.
     pub fn given(
         key: TreeKey,
         subtree: u32,
-        upper: Vec<[u8; 32]>,
-        lower: Vec<[u8; 32]>,
+        upper: Vec<[u8; HASH_LEN]>,
+        lower: Vec<[u8; HASH_LEN]>,
     ) -> Option<Self>
         requires { subtree < 2 ^ upper_height (tree_of key).lms.h }
-        ensures some { IfSome result (λ tree. tree ≡ record { key = key; subtree = subtree; upper = upper.items; lower = lower.items }) }
+        ensures some { IfSome result (λ tree.
+            tree
+            ≡ record { key = key; subtree = subtree; upper = upper.items; lower = lower.items }) }
         ensures shape { IfSome result HasShape }
-        ensures none { IfNone result ((length upper.items ≡ nodes_in (upper_rows_of (tree_of key).lms.h))
+        ensures none { IfNone result
+            ((length upper.items ≡ nodes_in (upper_rows_of (tree_of key).lms.h))
             → ¬ (length lower.items ≡ nodes_in (subtree_rows_of (tree_of key).lms.h subtree))) }
     {
         if !fills(&upper, upper_rows(key.lms)) || !fills(&lower, subtree_rows(key.lms, subtree)) {
@@ -67,7 +78,8 @@ impl KeptTree {
         })
     }
 
-    /// How many nodes there are in each of the two lists: from the root down to the roots of the bottom subtrees, and in one of these.
+    /// How many nodes there are in each of the two lists: from the root down to the roots of the
+    /// bottom subtrees, and in one of these.
     pub fn counts(lms: LmsType) -> (usize, usize)
         ensures upper { result.0 ≡ nodes_in (upper_rows_of (lms_set_of lms).h) }
         ensures lower { (n : ℕ) → result.1 ≡ nodes_in (subtree_rows_of (lms_set_of lms).h n) }
@@ -90,21 +102,21 @@ impl KeptTree {
     }
 
     /// The nodes from the root down to the roots of the bottom subtrees, row by row.
-    pub fn upper(&self) -> &[[u8; 32]]
+    pub fn upper(&self) -> &[[u8; HASH_LEN]]
         ensures { result.now ≡ self.now.upper }
     {
         self.upper.as_slice()
     }
 
     /// The nodes of the bottom subtree whose leaves are served, row by row.
-    pub fn lower(&self) -> &[[u8; 32]]
+    pub fn lower(&self) -> &[[u8; HASH_LEN]]
         ensures { result.now ≡ self.now.lower }
     {
         self.lower.as_slice()
     }
 
-    /// The public key over the node that was given for the root, 56 bytes (RFC 8554, 5.3).
-    pub fn public_bytes(&self) -> [u8; 56]
+    /// The public key over the node that was given for the root (RFC 8554, 5.3).
+    pub fn public_bytes(&self) -> [u8; LMS_KEY_LEN]
         ensures given { result ≡ given_public self.now }
         ensures right { AreNodes self.now → result ≡ public_text self.now.key }
     {
@@ -112,22 +124,25 @@ impl KeptTree {
         public_key_bytes(self.key.lms, self.key.ots, &self.key.i, &root)
     }
 
-    /// Signs a message with leaf q, which must be served, under the randomizer `c`, and writes the signature to `out`. Its path is of
-    /// the nodes given: where they are the tree's, it is RFC 8554's signature (5.4.1), and else one that a verifier may refuse, whose
-    /// one-time signature is the same.
-    pub fn sign_into(&self, q: u32, c: &[u8; 32], msg: &[u8], out: &mut [u8])
+    /// Signs a message with leaf q, which must be served, under the randomizer `c`, and writes the
+    /// signature to `out`. Its path is made of the nodes given. Where they are the tree's, it is
+    /// RFC 8554's signature (5.4.1); else a verifier may refuse it, but its one-time signature is
+    /// the same.
+    pub fn sign_into(&self, q: u32, c: &[u8; HASH_LEN], msg: &[u8], out: &mut [u8])
         requires served { ServesLeaf self.now q }
         requires room { length out.old ≡ signature_length_under self.now.key }
         ensures along { IsSignatureAlong (tree_of self.now.key) q c.now msg.now out.new }
-        ensures signature { AreNodes self.now → out.new ≡ signature_text self.now.key q c.now msg.now }
+        ensures signature { AreNodes self.now
+            → out.new ≡ signature_text self.now.key q c.now msg.now }
     {
         let path_start = 8 + self.key.ots.sig_len();
         write_head(&self.key, q, c, msg, &mut out[..path_start]);
         self.write_path(q, &mut out[path_start..]);
     }
 
-    /// Goes on to the leaves of another bottom subtree, which is worked out: 2^10 leaves in a tree of height 10 or more, of which the
-    /// `Progress` of `begun` is told. `None` where its root isn't the node that was given for it.
+    /// Moves to another bottom subtree and computes its nodes: 2^10 leaves in a tree of height 10
+    /// or more, reported to the `Progress` of `begun`. `None` where its root is not the node that
+    /// was given for it.
     pub fn moved_to(
         self,
         rt: &(impl Threads + Sync),
@@ -160,9 +175,11 @@ impl KeptTree {
         }))
     }
 
-    /// The node that was given for node r, which must stand in the path of a leaf that is served, or be the root, 1.
-    fn node(&self, r: u32) -> [u8; 32]
-        requires { (q : ℕ) × ServesLeaf self.now q × (q < 2 ^ (tree_of self.now.key).lms.h) × IsNeeded (tree_of self.now.key).lms.h q q r }
+    /// The node that was given for node r, which must be the root, 1, or in the path of a leaf that
+    /// is served.
+    fn node(&self, r: u32) -> [u8; HASH_LEN]
+        requires { (q : ℕ) × ServesLeaf self.now q × (q < 2 ^ (tree_of self.now.key).lms.h)
+            × IsNeeded (tree_of self.now.key).lms.h q q r }
         ensures { AreNodes self.now → result ≡ node_of (tree_of self.now.key) r }
     {
         let upper = upper_rows(self.key.lms);
@@ -175,7 +192,7 @@ impl KeptTree {
         }
     }
 
-    /// Writes the path of leaf q, of the nodes given (5.4).
+    /// Writes the path of leaf q from the nodes given (5.4).
     fn write_path(&self, q: u32, out: &mut [u8])
         requires served { ServesLeaf self.now q }
         requires room { length out.old ≡ path_length_under self.now.key }
@@ -191,7 +208,7 @@ impl KeptTree {
 }
 
 /// Whether there are as many nodes as these rows have.
-fn fills(nodes: &[[u8; 32]], rows: Rows) -> bool
+fn fills(nodes: &[[u8; HASH_LEN]], rows: Rows) -> bool
     requires { AreInTree greatest_height rows }
     ensures filled { IsTrue result → FillsRows rows nodes.now }
     ensures not { ¬ IsTrue result → length nodes.now ≢ nodes_in rows }
@@ -212,12 +229,13 @@ fn subtree_rows(lms: LmsType, subtree: u32) -> Rows
     }
 }
 
-/// Whether the node that was given for the root of a bottom subtree is the one that was worked out.
-fn has_root(upper: &[[u8; 32]], subtree: u32, band: &Band) -> bool
+/// Whether the node that was given for the root of a bottom subtree is the one that was computed.
+fn has_root(upper: &[[u8; HASH_LEN]], subtree: u32, band: &Band) -> bool
     requires count { length upper.now ≡ nodes_in (upper_rows_of (tree_of band.now.key).lms.h) }
     requires in_tree { subtree < 2 ^ upper_height (tree_of band.now.key).lms.h }
     requires rows { band.now.rows ≡ subtree_rows_of (tree_of band.now.key).lms.h subtree }
-    ensures { IsTrue result ↔ (slice_index_or upper.now (2 ^ upper_height (tree_of band.now.key).lms.h - 1 + subtree) []
+    ensures { IsTrue result
+        ↔ (slice_index_or upper.now (2 ^ upper_height (tree_of band.now.key).lms.h - 1 + subtree) []
         ≡ node_of (tree_of band.now.key) (subtree_root (tree_of band.now.key).lms.h subtree)) }
 {
     upper[upper.len() / 2 + subtree as usize] == band.node(0, band.rows().first)

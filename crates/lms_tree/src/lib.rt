@@ -1,7 +1,7 @@
 //! LMS, the Merkle tree of one-time keys (RFC 8554, section 5).
 //!
-//! A leaf signs one message. Two messages under one leaf give a forger what he needs: who calls `sign_into` keeps the
-//! leaves apart.
+//! A leaf signs one message. Two messages under one leaf let a forger sign others: a caller of
+//! `sign_into` must never use a leaf twice.
 #![tactic(auto)]
 
 mod band;
@@ -21,9 +21,9 @@ pub use crate::band_tree::{BandTree, bottom_height};
 pub use crate::kept_tree::KeptTree;
 pub use crate::node_source::NodeSource;
 pub use crate::progress::{Begun, Progress, Unwatched};
-pub use crate::signing::{public_bytes, sign_into};
+pub use crate::signing::{LMS_KEY_LEN, public_bytes, sign_into};
 pub use crate::tree_key::TreeKey;
-pub use crate::verification::{Verifier, signature_len, verify, verify_with};
+pub use crate::verification::{PublicKey, Verifier, verify};
 pub use crate::whole_tree::WholeTree;
-pub use lms_ots::{ByEights, ChainEnds, OneByOne};
+pub use lms_ots::{ByEights, ChainEnds, MESSAGE_HEAD_LEN, OneByOne};
 pub use lms_params::OutOfMemory;

@@ -1,4 +1,4 @@
-//! Where the nodes come from that public keys and signatures need.
+//! Where the nodes for public keys and signatures come from.
 ghost use Rattle.std.specs.Prelude.{ℕ, ◌≡◌, ◌^◌, ◌<◌};
 ghost use Rattle.lms_spec.specs.Tree.{node as node_of};
 ghost use Rattle.lms_tree.specs.declared.tree_key.TreeKey.{TreeKey as KeyOfTree};
@@ -6,8 +6,10 @@ ghost use Rattle.lms_tree.specs.TreeKey.{tree_of};
 ghost use Rattle.lms_tree.specs.Served.{IsNeeded};
 
 use crate::tree_key::TreeKey;
+use lms_params::HASH_LEN;
 
-/// The nodes of a tree that are needed for its public key and for signatures by a range of its leaves, the leaves served.
+/// The nodes of a tree that its public key and the signatures by a range of its leaves, the leaves
+/// served, need.
 pub trait NodeSource {
     // The key of the tree, and the first and the last leaf that are served.
     ghost tree_key: { Self → KeyOfTree };
@@ -29,8 +31,10 @@ pub trait NodeSource {
     fn last(&self) -> u32
         ensures { result ≡ last_leaf self.now };
 
-    /// The value of node r (RFC 8554, 5.3), 32 bytes. Node r must be the root, 1, or stand in the path of a leaf served.
-    fn node(&self, r: u32) -> [u8; 32]
-        requires { IsNeeded (tree_of (tree_key self.now)).lms.h (first_leaf self.now) (last_leaf self.now) r }
+    /// The value of node r (RFC 8554, 5.3). Node r must be the root, 1, or in the path of a leaf
+    /// served.
+    fn node(&self, r: u32) -> [u8; HASH_LEN]
+        requires { IsNeeded (tree_of (tree_key self.now)).lms.h (first_leaf self.now)
+            (last_leaf self.now) r }
         ensures { result ≡ node_of (tree_of (tree_key self.now)) r };
 }

@@ -1,17 +1,17 @@
-//! The nodes of a tree (RFC 8554, 5.3). Node 1 is the root, nodes 2r and 2r + 1 are the children of r, and leaf q is node
-//! 2^h + q.
+//! The nodes of a tree (RFC 8554, 5.3). Node 1 is the root, nodes 2r and 2r + 1 are the children of
+//! r, and leaf q is node 2^h + q.
 ghost use Rattle.std.specs.Prelude.{◌≡◌, ◌+◌, ◌^◌, ◌<◌};
 ghost use Rattle.lms_spec.specs.Parameters.{greatest_height};
 ghost use Rattle.lms_spec.specs.Tree.{leaf_hash as leaf_hash_of, inner_hash as inner_hash_of};
 ghost use Rattle.lms_params.specs.LmsType.{lms_set_of};
 
 use lms_ots::hasher_at;
-use lms_params::LmsType;
+use lms_params::{HASH_LEN, LmsType};
 use sha2::Digest;
 
-/// D_LEAF: what keeps the hash of a leaf apart from other hashes (5.3).
+/// D_LEAF: separates the hash of a leaf from other hashes (5.3).
 const D_LEAF: u16 = 0x8282;
-/// D_INTR: what keeps the hash of an inner node apart from other hashes (5.3).
+/// D_INTR: separates the hash of an inner node from other hashes (5.3).
 const D_INTR: u16 = 0x8383;
 
 /// The number of leaves, 2^h.
@@ -24,7 +24,7 @@ pub(crate) fn leaf_count(lms: LmsType) -> u32
 
 /// The value of node r, a leaf, from its one-time public hash (5.3).
 #[tactic(auto, unfolding(lms_spec::specs::Tree::leaf_hash))]
-pub(crate) fn leaf_hash(id: &[u8; 16], r: u32, ots_public: &[u8; 32]) -> [u8; 32]
+pub(crate) fn leaf_hash(id: &[u8; 16], r: u32, ots_public: &[u8; HASH_LEN]) -> [u8; HASH_LEN]
     ensures { result ≡ leaf_hash_of id.now r ots_public.now }
 {
     let mut hasher = hasher_at(id, r);
@@ -35,7 +35,12 @@ pub(crate) fn leaf_hash(id: &[u8; 16], r: u32, ots_public: &[u8; 32]) -> [u8; 32
 
 /// The value of node r from those of its two children (5.3).
 #[tactic(auto, unfolding(lms_spec::specs::Tree::inner_hash))]
-pub(crate) fn inner_hash(id: &[u8; 16], r: u32, left: &[u8; 32], right: &[u8; 32]) -> [u8; 32]
+pub(crate) fn inner_hash(
+    id: &[u8; 16],
+    r: u32,
+    left: &[u8; HASH_LEN],
+    right: &[u8; HASH_LEN],
+) -> [u8; HASH_LEN]
     ensures { result ≡ inner_hash_of id.now r left.now right.now }
 {
     let mut hasher = hasher_at(id, r);

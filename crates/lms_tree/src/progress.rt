@@ -1,32 +1,33 @@
-//! How far a call is that works out trees.
+//! The progress of a call that computes trees.
 use std::marker::Sync;
 
-/// Who is told how far a call is that works out trees. All its threads tell, several at once, and each goes on when the method
-/// returns.
+/// Receives the progress of a call that computes trees. All threads of the call report, several at
+/// once, and each goes on when the method returns.
 pub trait Progress: Sync {
-    /// Comes before the first leaf, and again where the call has to begin anew: it is to work out so many leaves.
+    /// Comes before the first leaf, and again where the call begins anew: it is going to compute so
+    /// many leaves.
     fn begin(&self, leaves: u64);
 
-    /// So many more of them are worked out.
+    /// So many more of them are computed.
     fn done(&self, leaves: u64);
 }
 
-/// A `Progress` that was told how many leaves are to be worked out: `new` tells it. This crate tells of leaves by such a one alone, so
-/// `begin` comes before.
+/// A `Progress` whose `begin` was called, by `new`. This crate calls `done` only through such a
+/// value, so `begin` comes first.
 #[derive(Drop)]
 pub struct Begun<'a, P> {
     pub(crate) progress: &'a P,
 }
 
 impl<'a, P: Progress> Begun<'a, P> {
-    /// Tells `progress` that so many leaves are to be worked out.
+    /// Reports to `progress` that so many leaves are going to be computed.
     pub fn new(progress: &'a P, leaves: u64) -> Self {
         progress.begin(leaves);
         Begun { progress }
     }
 }
 
-/// Tells nobody.
+/// Ignores what is reported.
 #[derive(Clone, Copy)]
 pub struct Unwatched;
 

@@ -1,4 +1,4 @@
-//! A row of nodes, worked out by several threads at once.
+//! A row of nodes, computed by several threads at once.
 ghost use Rattle.std.specs.Prelude.{ℕ, ◌≡◌, ◌+◌, ◌*◌, ◌^◌, ◌<◌, ◌≤◌, [], length, slice_index_or, IfSome};
 ghost use Rattle.std.specs.Option.{ForSome};
 ghost use Rattle.std.specs.Thread.{IsSync};
@@ -10,13 +10,14 @@ use crate::nodes::leaf_count;
 use crate::progress::Progress;
 use crate::tree_key::TreeKey;
 use crate::workers::Workers;
+use lms_params::HASH_LEN;
 use rayon::current_num_threads;
 use std::thread::{Threads, join_mut};
 
-/// The most threads that work out a row at once.
+/// The most threads that compute a row at once.
 const MOST_THREADS: usize = 32;
 
-/// What the threads that work out a row share.
+/// What the threads that compute a row share.
 #[derive(Drop)]
 struct Work<'a, R, P> {
     rt: &'a R,
@@ -27,22 +28,24 @@ struct Work<'a, R, P> {
     ghost lower_key: { ForSome lower (λ band. band.now.key ≡ key) },
 }
 
-/// Works out a row from node `first` on. As many threads work at once as there are processors, up to 32, and others may wait for them:
-/// they begin with parts alike, and one that has much left gives half of it to a new thread when a processor comes free. A node that
-/// stands in the top row of `lower`, a band of the same tree, is copied from there, and `progress` is told of the leaves under each
-/// other one.
+/// Computes a row from node `first` on. As many threads work at once as there are processors, at
+/// most 32, and others may wait for them: they begin with equal parts, and one that has much left
+/// gives half of it to a new thread when a processor becomes free. A node that is in the top row of
+/// `lower`, a band of the same tree, is copied from there. The leaves under every other node are
+/// reported to `progress`.
 pub(crate) fn fill_lowest_row(
     rt: &(impl Threads + Sync),
     key: TreeKey,
     first: u32,
     lower: Option<&Band>,
-    row: &mut [[u8; 32]],
+    row: &mut [[u8; HASH_LEN]],
     progress: &impl Progress,
 )
     requires from_root { 1 ≤ first }
     requires in_tree { first + length row.old ≤ 2 * 2 ^ (tree_of key).lms.h }
     requires lower { IfSome lower (λ band. band.now.key ≡ key) }
-    ensures { (i : ℕ) → i < length row.new → slice_index_or row.new i [] ≡ node_of (tree_of key) (first + i) }
+    ensures { (i : ℕ) → i < length row.new
+        → slice_index_or row.new i [] ≡ node_of (tree_of key) (first + i) }
 {
     let threads = current_num_threads(rt).min(MOST_THREADS);
     let work = Work {
@@ -55,19 +58,21 @@ pub(crate) fn fill_lowest_row(
     fill(&work, threads, first, row);
 }
 
-/// Works out a part of a row by so many threads, of which the caller's is one. All of them count as at work before, and none after.
+/// Computes a part of a row by so many threads, one of which is the caller's. All of them count as
+/// at work before, and none after.
 #[cycle(parts)]
 fn fill<R: Threads + Sync, P: Progress>(
     work: &Work<R, P>,
     threads: usize,
     first: u32,
-    part: &mut [[u8; 32]],
+    part: &mut [[u8; HASH_LEN]],
 )
     requires threads { (0 < threads) × (threads ≤ 32) }
     requires from_root { 1 ≤ first }
     requires in_tree { first + length part.old ≤ 2 * 2 ^ (tree_of work.now.key).lms.h }
     ensures count { length part.new ≡ length part.old }
-    ensures nodes { (i : ℕ) → i < length part.new → slice_index_or part.new i [] ≡ node_of (tree_of work.now.key) (first + i) }
+    ensures nodes { (i : ℕ) → i < length part.new
+        → slice_index_or part.new i [] ≡ node_of (tree_of work.now.key) (first + i) }
 {
     if threads > 1 && part.len() > 1 {
         fill_both(work, threads, first, part);
@@ -82,38 +87,49 @@ fn fill<R: Threads + Sync, P: Progress>(
     }
 }
 
-/// Works out a part of a row by so many threads, half of them for the nodes on the left and half for those on the right. Where no thread
-/// can be made the caller's goes on to the right. All of them count as at work before, and none after.
+/// Computes a part of a row by so many threads, half of them for the nodes on the left and half for
+/// those on the right. Where no thread can be made the caller's computes both. All of them count as
+/// at work before, and none after.
 #[cycle(parts)]
 fn fill_both<R: Threads + Sync, P: Progress>(
     work: &Work<R, P>,
     threads: usize,
     first: u32,
-    part: &mut [[u8; 32]],
+    part: &mut [[u8; HASH_LEN]],
 )
     requires threads { (1 < threads) × (threads ≤ 32) }
     requires nodes { 1 < length part.old }
     requires from_root { 1 ≤ first }
     requires in_tree { first + length part.old ≤ 2 * 2 ^ (tree_of work.now.key).lms.h }
     ensures count { length part.new ≡ length part.old }
-    ensures nodes { (i : ℕ) → i < length part.new → slice_index_or part.new i [] ≡ node_of (tree_of work.now.key) (first + i) }
+    ensures nodes { (i : ℕ) → i < length part.new
+        → slice_index_or part.new i [] ≡ node_of (tree_of work.now.key) (first + i) }
 {
     let own = threads / 2;
     let others = threads - own;
     let (left, right) = part.split_at_mut(left_len(part.len(), own, threads));
     let next = first + left.len() as u32;
     let mut theirs = ||
-        requires { IsSync R.row × IsSync P.row × (0 < others) × (others ≤ 32) × (1 ≤ next) × (next + length right.now ≤ 2 * 2 ^ (tree_of work.now.key).lms.h) }
-        ensures { (length right.exit.now ≡ length right.entry.now) × ((i : ℕ) → i < length right.exit.now → slice_index_or right.exit.now i [] ≡ node_of (tree_of work.entry.now.key) (next + i)) }
+        requires { IsSync R.row × IsSync P.row × (0 < others) × (others ≤ 32) × (1 ≤ next)
+            × (next + length right.now ≤ 2 * 2 ^ (tree_of work.now.key).lms.h) }
+        ensures { (length right.exit.now ≡ length right.entry.now)
+            × ((i : ℕ) → i < length right.exit.now
+            → slice_index_or right.exit.now i []
+            ≡ node_of (tree_of work.entry.now.key) (next + i)) }
     { fill(work, others, next, right) };
     let mut ours = ||
-        requires { IsSync R.row × IsSync P.row × (0 < own) × (own ≤ 32) × (1 ≤ first) × (first + length left.now ≤ 2 * 2 ^ (tree_of work.now.key).lms.h) }
-        ensures { (length left.exit.now ≡ length left.entry.now) × ((i : ℕ) → i < length left.exit.now → slice_index_or left.exit.now i [] ≡ node_of (tree_of work.entry.now.key) (first + i)) }
+        requires { IsSync R.row × IsSync P.row × (0 < own) × (own ≤ 32) × (1 ≤ first)
+            × (first + length left.now ≤ 2 * 2 ^ (tree_of work.now.key).lms.h) }
+        ensures { (length left.exit.now ≡ length left.entry.now)
+            × ((i : ℕ) → i < length left.exit.now
+            → slice_index_or left.exit.now i []
+            ≡ node_of (tree_of work.entry.now.key) (first + i)) }
     { fill(work, own, first, left) };
     join_mut(work.rt, &mut theirs, &mut ours);
 }
 
-/// The share of so many of the threads in so many nodes: whole eights, where that makes little difference.
+/// How many of these nodes `own` of the threads compute: whole eights, where that makes little
+/// difference.
 fn left_len(nodes: usize, own: usize, threads: usize) -> usize
     requires own { own < threads }
     requires threads { threads ≤ 32 }
@@ -127,19 +143,21 @@ fn left_len(nodes: usize, own: usize, threads: usize) -> usize
     whole.clamp(1, nodes - 1)
 }
 
-/// Works out nodes from the first on, until all are done or a processor is free while much is left, and tells how many are done. Where
-/// not all are, one more thread counts as at work, which is to have some of the others.
+/// Computes nodes from the first on, until all are done or a processor is free while much is left.
+/// The result is how many are done. Where some are left, one more thread counts as at work: it will
+/// get a part of them.
 fn fill_until_free<R: Threads + Sync, P: Progress>(
     work: &Work<R, P>,
     first: u32,
-    part: &mut [[u8; 32]],
+    part: &mut [[u8; HASH_LEN]],
 ) -> usize
     requires from_root { 1 ≤ first }
     requires in_tree { first + length part.old ≤ 2 * 2 ^ (tree_of work.now.key).lms.h }
     ensures count { length part.new ≡ length part.old }
     ensures bound { result ≤ length part.old }
     ensures others { result < length part.old → result + 1 < length part.old }
-    ensures nodes { (i : ℕ) → i < result → slice_index_or part.new i [] ≡ node_of (tree_of work.now.key) (first + i) }
+    ensures nodes { (i : ℕ) → i < result
+        → slice_index_or part.new i [] ≡ node_of (tree_of work.now.key) (first + i) }
 {
     let much = 2 * piece_len(work, first);
     let mut done = 0;
@@ -152,7 +170,8 @@ fn fill_until_free<R: Threads + Sync, P: Progress>(
     done
 }
 
-/// How many nodes are worked out at once from this one on: eight leaves, where none is copied, else one node.
+/// How many nodes are computed at once from this one on: eight leaves, where none is copied, else
+/// one node.
 fn piece_len<R, P>(work: &Work<R, P>, first: u32) -> usize
     ensures some { 0 < result }
     ensures leaves { 1 < result → (result ≡ 8) × (2 ^ (tree_of work.now.key).lms.h ≤ first) }
@@ -165,11 +184,12 @@ fn piece_len<R, P>(work: &Work<R, P>, first: u32) -> usize
     }
 }
 
-/// Works out the first eight nodes of a part side by side, or the first one, and tells how many.
+/// Computes the first eight nodes of a part side by side, or only the first node. The result is how
+/// many.
 fn fill_next<R: Threads + Sync, P: Progress>(
     work: &Work<R, P>,
     first: u32,
-    part: &mut [[u8; 32]],
+    part: &mut [[u8; HASH_LEN]],
 ) -> usize
     requires some { 0 < length part.old }
     requires from_root { 1 ≤ first }
@@ -177,7 +197,8 @@ fn fill_next<R: Threads + Sync, P: Progress>(
     ensures count { length part.new ≡ length part.old }
     ensures some { 0 < result }
     ensures bound { result ≤ length part.old }
-    ensures nodes { (i : ℕ) → i < result → slice_index_or part.new i [] ≡ node_of (tree_of work.now.key) (first + i) }
+    ensures nodes { (i : ℕ) → i < result
+        → slice_index_or part.new i [] ≡ node_of (tree_of work.now.key) (first + i) }
 {
     if part.len() >= 8 && piece_len(work, first) == 8 {
         let q = first - leaf_count(work.key.lms);
@@ -190,8 +211,9 @@ fn fill_next<R: Threads + Sync, P: Progress>(
     }
 }
 
-/// The value of node r: what `lower` has in its top row, else worked out from the leaves below it.
-fn node<R, P: Progress>(work: &Work<R, P>, r: u32) -> [u8; 32]
+/// The value of node r: copied from the top row of `lower` if it is there, else computed from the
+/// leaves below it.
+fn node<R, P: Progress>(work: &Work<R, P>, r: u32) -> [u8; HASH_LEN]
     requires from_root { 1 ≤ r }
     requires in_tree { r < 2 * 2 ^ (tree_of work.now.key).lms.h }
     ensures { result ≡ node_of (tree_of work.now.key) r }

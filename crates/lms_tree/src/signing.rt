@@ -13,19 +13,22 @@ use crate::nodes::leaf_count;
 use crate::tree_key::TreeKey;
 use byteorder::{BigEndian, ByteOrder};
 use lms_ots::OtsId;
-use lms_params::{LmsType, OtsType};
+use lms_params::{HASH_LEN, LmsType, OtsType};
 
-/// The public key of a tree, 56 bytes (RFC 8554, 5.3).
-pub fn public_bytes<N: NodeSource>(source: &N) -> [u8; 56]
+/// The bytes of an LMS public key (5.3).
+pub const LMS_KEY_LEN: usize = 56;
+
+/// The public key of a tree (RFC 8554, 5.3).
+pub fn public_bytes<N: NodeSource>(source: &N) -> [u8; LMS_KEY_LEN]
     ensures { result ≡ public_text (N.tree_key source.now) }
 {
     let key = source.key();
     public_key_bytes(key.lms, key.ots, &key.i, &source.node(1))
 }
 
-/// Signs a message with leaf q under the randomizer `c` (RFC 8554, 5.4.1) and writes the signature to `out`, which must have
-/// exactly `lms_sig_len` bytes. The source must serve leaf q.
-pub fn sign_into<N: NodeSource>(source: &N, q: u32, c: &[u8; 32], msg: &[u8], out: &mut [u8])
+/// Signs a message with leaf q under the randomizer `c` (RFC 8554, 5.4.1) and writes the signature
+/// to `out`, which must have exactly `lms_sig_len` bytes. The source must serve leaf q.
+pub fn sign_into<N: NodeSource>(source: &N, q: u32, c: &[u8; HASH_LEN], msg: &[u8], out: &mut [u8])
     requires first { N.first_leaf source.now ≤ q }
     requires last { q ≤ N.last_leaf source.now }
     requires room { length out.old ≡ signature_length_under (N.tree_key source.now) }
@@ -38,8 +41,9 @@ pub fn sign_into<N: NodeSource>(source: &N, q: u32, c: &[u8; 32], msg: &[u8], ou
     write_path(source, q, &mut out[path_start..]);
 }
 
-/// Writes what stands before a signature's path: the leaf's number, the one-time signature and the typecode (5.4).
-pub(crate) fn write_head(key: &TreeKey, q: u32, c: &[u8; 32], msg: &[u8], out: &mut [u8])
+/// Writes what is before a signature's path: the leaf's number, the one-time signature and the
+/// typecode (5.4).
+pub(crate) fn write_head(key: &TreeKey, q: u32, c: &[u8; HASH_LEN], msg: &[u8], out: &mut [u8])
     requires { length out.old ≡ 8 + ots_signature_length (ots_set_of key.now.ots) }
     ensures { out.new
         ≡ u32str q ++ ots_signature (ots_set_of key.now.ots) key.now.i key.now.seed q c.now msg.now
@@ -80,11 +84,11 @@ pub(crate) fn public_key_bytes(
     lms: LmsType,
     ots: OtsType,
     id: &[u8; 16],
-    root: &[u8; 32],
-) -> [u8; 56]
+    root: &[u8; HASH_LEN],
+) -> [u8; LMS_KEY_LEN]
     ensures { result ≡ lms_public_key (lms_set_of lms) (ots_set_of ots) id.now root.now }
 {
-    let mut text = [0; 56];
+    let mut text = [0; LMS_KEY_LEN];
     BigEndian::write_u32(&mut text, lms.code());
     BigEndian::write_u32(&mut text[4..], ots.code());
     text[8..24].copy_from_slice(id);

@@ -5,21 +5,21 @@ ghost use Rattle.lms_tree.specs.TreeKey.{tree_of};
 
 use crate::nodes::{inner_hash, leaf_count, leaf_hash};
 use lms_ots::{OtsId, eight_public_hashes, public_hash};
-use lms_params::{LmsType, OtsType};
+use lms_params::{HASH_LEN, LmsType, OtsType};
 
-/// A tree's private key (RFC 8554, 5.2): its two sets, its identifier I and the seed of its one-time keys. There is no
-/// `Debug`, which would print the seed.
+/// A tree's private key (RFC 8554, 5.2): its two sets, its identifier I and the seed of its
+/// one-time keys. There is no `Debug`, which would print the seed.
 #[derive(Clone, Copy, PartialEq, Eq)]
 pub struct TreeKey {
     pub lms: LmsType,
     pub ots: OtsType,
     pub i: [u8; 16],
-    pub seed: [u8; 32],
+    pub seed: [u8; HASH_LEN],
 }
 
 impl TreeKey {
     /// The value of leaf q, below 2^h, which is node 2^h + q (RFC 8554, 5.3).
-    pub fn leaf(&self, q: u32) -> [u8; 32]
+    pub fn leaf(&self, q: u32) -> [u8; HASH_LEN]
         requires { q < 2 ^ (tree_of self.now).lms.h }
         ensures { result ≡ node (tree_of self.now) (2 ^ (tree_of self.now).lms.h + q) }
     {
@@ -28,24 +28,26 @@ impl TreeKey {
     }
 
     /// The values of eight neighbouring leaves from leaf q on, which is at most 2^h - 8 (5.3).
-    pub(crate) fn eight_leaves(&self, q: u32) -> [[u8; 32]; 8]
+    pub(crate) fn eight_leaves(&self, q: u32) -> [[u8; HASH_LEN]; 8]
         requires { q + 8 ≤ 2 ^ (tree_of self.now).lms.h }
         ensures long { length result ≡ 8 }
-        ensures values { (k : ℕ) → k < 8 → slice_index_or result k [] ≡ node (tree_of self.now) (2 ^ (tree_of self.now).lms.h + q + k) }
+        ensures values { (k : ℕ) → k < 8
+            → slice_index_or result k []
+            ≡ node (tree_of self.now) (2 ^ (tree_of self.now).lms.h + q + k) }
     {
         let first = leaf_count(self.lms) + q;
         let ots_publics = eight_public_hashes(self.ots, &self.seed, OtsId { i: self.i, q });
-        let mut values = [[0; 32]; 8];
+        let mut values = [[0; HASH_LEN]; 8];
         'lanes: for k in 0..8 {
             values[k] = leaf_hash(&self.i, first + k as u32, &ots_publics[k]);
         }
         values
     }
 
-    /// The value of node r, below which there are eight leaves. It stands apart so that its nodes are not held on the stack of the
-    /// calls of `subtree_root` above it.
+    /// The value of node r, below which there are eight leaves. It is a function of its own so that
+    /// its nodes are not on the stack of the calls of `subtree_root` above it.
     #[inline(never)]
-    fn root_of_eight(&self, r: u32) -> [u8; 32]
+    fn root_of_eight(&self, r: u32) -> [u8; HASH_LEN]
         requires from { 2 ^ (tree_of self.now).lms.h ≤ 8 * r }
         requires to { 4 * r < 2 ^ (tree_of self.now).lms.h }
         ensures { result ≡ node (tree_of self.now) r }
@@ -60,9 +62,9 @@ impl TreeKey {
         inner_hash(&self.i, r, &left, &right)
     }
 
-    /// The value of node r, from 1 to 2^(h+1) - 1 (RFC 8554, 5.3). All leaves below it are worked out, and at any time the nodes of
-    /// one path and of eight leaves at most are held.
-    pub fn subtree_root(&self, r: u32) -> [u8; 32]
+    /// The value of node r, from 1 to 2^(h+1) - 1 (RFC 8554, 5.3). All leaves below it are
+    /// computed. At any time only the nodes of one path and of eight leaves are in memory.
+    pub fn subtree_root(&self, r: u32) -> [u8; HASH_LEN]
         requires some { 1 ≤ r }
         requires in_tree { r < 2 * 2 ^ (tree_of self.now).lms.h }
         ensures { result ≡ node (tree_of self.now) r }

@@ -6,7 +6,7 @@ use crate::node_source::NodeSource;
 use crate::nodes::leaf_count;
 use crate::progress::{Begun, Unwatched};
 use crate::tree_key::TreeKey;
-use lms_params::OutOfMemory;
+use lms_params::{HASH_LEN, OutOfMemory};
 use std::alloc::Global;
 use std::marker::Model;
 use std::thread::Threads;
@@ -32,9 +32,9 @@ impl Model for WholeTree {
 }
 
 impl WholeTree {
-    /// Works out all nodes of a tree: the leaves by as many threads at once as there are processors, up to 32, then the inner nodes
-    /// from the leaves up.
-    /// `OutOfMemory` where the one request for memory is refused, for 2^(h+1) - 1 nodes of 32 bytes.
+    /// Computes all nodes of a tree: the leaves by as many threads as there are processors, at most
+    /// 32, then the inner nodes from the leaves up. `OutOfMemory` where the one request for memory
+    /// is refused, for 2^(h+1) - 1 nodes of 32 bytes.
     pub fn build(
         rt: &(impl Threads + Sync),
         alloc: Global,
@@ -71,7 +71,7 @@ impl NodeSource for WholeTree {
         leaf_count(self.nodes.key().lms) - 1
     }
 
-    fn node(&self, r: u32) -> [u8; 32] {
+    fn node(&self, r: u32) -> [u8; HASH_LEN] {
         self.nodes.node(r.ilog2(), r)
     }
 }

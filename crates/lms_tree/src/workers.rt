@@ -1,7 +1,8 @@
 //! How many threads work.
 use std::sync::atomic::{AtomicUsize, Ordering};
 
-/// How many threads are at work, and how many may be. It decides who works, and never what is worked out.
+/// How many threads are at work, and how many may be. It decides which thread computes what, and
+/// never the values.
 #[derive(Drop)]
 pub(crate) struct Workers {
     at_work: AtomicUsize,
@@ -9,7 +10,7 @@ pub(crate) struct Workers {
 }
 
 impl Workers {
-    /// So many may be at work, and are.
+    /// So many may be at work, and are at first.
     pub(crate) fn new(most: usize) -> Self {
         Workers {
             at_work: AtomicUsize::new(most),
@@ -17,7 +18,7 @@ impl Workers {
         }
     }
 
-    /// One more is at work, where fewer are than may be. Tells whether it is so.
+    /// Counts one more as at work, if fewer are than may be. The result says whether it did.
     pub(crate) fn begin_where_free(&self) -> bool {
         if self.at_work.load(Ordering::SeqCst) >= self.most {
             return false;
@@ -29,7 +30,7 @@ impl Workers {
         is_free
     }
 
-    /// So many are no longer at work.
+    /// Counts so many as no longer at work.
     pub(crate) fn end(&self, count: usize) {
         self.at_work.fetch_sub(count, Ordering::SeqCst);
     }

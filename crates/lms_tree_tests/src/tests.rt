@@ -7,7 +7,7 @@ use hex::FromHex;
 use lms_params::{LmsType, OtsType, OutOfMemory, lms_sig_len};
 use lms_slow::{SlowKey, SlowTree, slow_sign};
 use lms_tree::{
-    BandTree, NodeSource, TreeKey, WholeTree, public_bytes, sign_into, signature_len, verify,
+    BandTree, NodeSource, PublicKey, TreeKey, WholeTree, public_bytes, sign_into, verify,
 };
 use sha2::{Digest, Sha256};
 use std::alloc::{AllocError, Global};
@@ -42,7 +42,8 @@ fn signature<N: NodeSource>(
     Ok(text)
 }
 
-/// The slow signer's signature of `abc`, an LMS signature after the four bytes of an HSS signature of one level.
+/// The slow signer's signature of `abc`, an LMS signature after the four bytes of an HSS signature
+/// of one level.
 fn slow_signature(alloc: Global, key: TreeKey, q: u32) -> Result<Vec<u8>, AllocError> {
     let TreeKey { lms, ots, i, seed } = key;
     let slow = SlowKey {
@@ -68,8 +69,9 @@ fn check_leaf(rt: &(impl Abort + AllocGlobal), tree: &WholeTree, q: u32) -> Resu
 fn check_served(rt: &impl Abort, tree: &WholeTree) {
     assert!(rt; tree.first() == 0 && tree.last() == 31);
     let public = public_bytes(tree);
-    assert!(rt; signature_len(&public) == Some(1292));
-    assert!(rt; signature_len(public.get(..55).unwrap_or(&[])).is_none());
+    let length = PublicKey::parse(&public).map(|key| key.signature_len());
+    assert!(rt; length == Some(1292));
+    assert!(rt; PublicKey::parse(public.get(..55).unwrap_or(&[])).is_none());
 }
 
 /// A leaf of a tree of 5/8 as above, whose path ends with this node.
@@ -118,15 +120,15 @@ fn signs_under_every_width(rt: HostRuntime) -> Result<(), Fail> {
     Ok(())
 }
 
-/// Nodes of a tree of height 5, each with a leaf and a place at which it stands in that leaf's path.
+/// Nodes of a tree of height 5, each with a leaf and its place in that leaf's path.
 const NODES: [(u32, u32, u16); 4] = [(2, 16, 4), (31, 28, 1), (32, 1, 0), (63, 30, 0)];
 
-/// Whether a public key ends with the root of a key's tree, worked out alone.
+/// Whether a public key ends with the root of a key's tree, computed alone.
 fn has_root(public: &[u8; 56], key: TreeKey) -> bool {
     public.ends_with(&key.subtree_root(1))
 }
 
-/// Node r of a tree of 5/8 stands at this place of leaf q's path.
+/// Node r of a tree of 5/8 is at this place of leaf q's path.
 fn check_node(
     rt: &(impl Abort + AllocGlobal),
     tree: &WholeTree,
@@ -233,7 +235,7 @@ fn has_digest(text: &[u8], digits: &str) -> bool {
     digest.is_ok_and(|digest| Sha256::digest(text) == digest)
 }
 
-/// The public key of the tree of 15/2 has the root that a program in Python over its hashlib works out.
+/// The public key of the tree of 15/2 has the root that a program in Python computes with hashlib.
 fn check_root(rt: &impl Abort, public: &[u8; 56]) -> Result<(), Fail> {
     let root: [u8; 32] = FromHex::from_hex(
         "28e3dc7b80074fec49ce0b1ae3ee30d584559e28f04b471ad793d8b0c5b5809c",
@@ -242,8 +244,8 @@ fn check_root(rt: &impl Abort, public: &[u8; 56]) -> Result<(), Fail> {
     Ok(())
 }
 
-/// Leaves on both sides of the edge between two bottom subtrees of 15/2, each with the node at place 10 of its path and
-/// the SHA-256 of its signature of `abc`, which that program makes, too.
+/// Leaves on both sides of the edge between two bottom subtrees of 15/2, each with the node at
+/// place 10 of its path and the SHA-256 of its signature of `abc`, which that program makes, too.
 const AT_EDGE: [(u32, u32, &str); 4] = [
     (
         1000,
@@ -336,7 +338,8 @@ fn builds_a_tall_tree(rt: HostRuntime) -> Result<(), Fail> {
     check_tall_tree(&rt, key_of(LmsType::H15, OtsType::W2))
 }
 
-/// `rt test` refuses no memory, and `tests/refused` each request of a test in turn: where a build is refused, a second one works.
+/// The merge check refuses each request for memory in turn: where a build is refused, a second one
+/// works.
 #[test]
 fn builds_after_refused_memory(rt: HostRuntime) -> Result<(), Fail> {
     let key = key_of(LmsType::H5, OtsType::W1);

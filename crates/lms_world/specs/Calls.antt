@@ -1,4 +1,4 @@
--- What contracts see of the calls that a log is told.
+-- What contracts see of the calls that a log records.
 use Rattle.lms_world.specs.Events.{Event, Read, Opened, Written, Locked, Unlocked, Asked, Taken, NodesRead, NodesWritten, Printed}
 use Rattle.std.specs.Prelude.{None, Some}
 use Rattle.lms_world.specs.declared.log.Call.{Call as Told}

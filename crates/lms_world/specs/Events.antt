@@ -2,17 +2,17 @@
 use Rattle.std.specs.Prelude.{ℕ, List, [], ◌∷◌, ◌++◌, Bool, true, false, Option, Some, None, Result, Ok, Err}
 use Rattle.std.specs.Global.{Vec}
 use Rattle.lms_book.specs.Stops.{StoreView}
-use Rattle.lms_world.specs.Known.{Text}
+use Rattle.lms_world.specs.Known.{Bytes}
 
 -- one call, with what it was handed, and whether it was done
 pub data Event : Type 0 where
   -- a file was read, and gave these bytes if it did; or it was opened
-  Read : (name : Text) (bytes : Option (List ℕ)) → Event
-  Opened : (name : Text) (done : Bool) → Event
+  Read : (name : Bytes) (bytes : Option (List ℕ)) → Event
+  Opened : (name : Bytes) (done : Bool) → Event
   -- bytes were written to a file
-  Written : (name : Text) (bytes : List ℕ) (done : Bool) → Event
-  -- a state was locked, and its lock let go
-  Locked : (name : Text) (got : Bool) → Event
+  Written : (name : Bytes) (bytes : List ℕ) (done : Bool) → Event
+  -- a state was locked, and its lock handed back
+  Locked : (name : Bytes) (got : Bool) → Event
   Unlocked : Event
   -- it was asked whether there is the state of the lock
   Asked : (there : Bool) → Event
@@ -24,7 +24,7 @@ pub data Event : Type 0 where
   NodesWritten : (text : List ℕ) (done : Bool) → Event
   -- from here on an output is printed to, to which these bytes were printed before
   Printing : (before : List ℕ) → Event
-  -- a stream took these bytes
+  -- of a printer's own log alone: its stream took these bytes
   Printed : (bytes : List ℕ) → Event
 
 -- a log, the newest event first, after these events, the first of them first
@@ -42,7 +42,7 @@ abbrev pub bytes_of : {E : Type 0} → Result (Vec ℕ) E → Option (List ℕ)
 bytes_of (Ok bytes) = Some bytes.items
 bytes_of (Err fault) = None
 
--- whether a lock was got
+-- whether a lock was acquired
 abbrev pub is_got : {T E : Type 0} → Result (Option T) E → Bool
 is_got (Ok (Some lock)) = true
 is_got (Ok None) = false

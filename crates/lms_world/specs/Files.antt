@@ -4,8 +4,8 @@ use Rattle.std.specs.Global.{Global, Vec}
 use Rattle.std.specs.Str.{bytes_eq}
 use Rattle.lms_book.specs.Memory.{MayFail, MemoryState}
 use Rattle.lms_world.specs.Known.{Known}
-use Rattle.lms_world.specs.declared.world.WorldFault.{WorldFault}
-use Rattle.lms_world.specs.declared.world.WorldFault.TheVariants.{Device, OutOfMemory}
+use Rattle.lms_world.specs.declared.fault.WorldFault.{WorldFault}
+use Rattle.lms_world.specs.declared.fault.WorldFault.TheVariants.{Device, OutOfMemory}
 use Rattle.lms_world.specs.declared.memory.MemoryWorld.{MemoryWorld}
 
 -- a name, and what a read of it answers

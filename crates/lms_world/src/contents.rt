@@ -1,11 +1,11 @@
 //! What a file holds, handed over piece by piece.
 ghost use Rattle.std.specs.Prelude.{◌≡◌, ℕ, ◌++◌, List, [], IfErr, OnOk};
 
-use crate::world::WorldFault;
+use crate::fault::WorldFault;
 
 /// Takes the bytes of a file, piece by piece.
 pub trait Taker {
-    // What it becomes by these bytes.
+    // What a taker becomes by these bytes.
     ghost after: { Self → List ℕ → Self → Type 0 };
 
     /// Takes the next piece.
@@ -22,7 +22,7 @@ pub trait Taker {
 
 /// A file that was opened to be read.
 pub trait Contents {
-    ghost use Rattle.lms_world.specs.declared.world.WorldFault.{WorldFault};
+    ghost use Rattle.lms_world.specs.declared.fault.WorldFault.{WorldFault};
 
     // What it may hold, and by which fault it may be refused.
     ghost may_give: { Self → List ℕ → Type 0 };
@@ -31,8 +31,10 @@ pub trait Contents {
 
     /// Hands all of its bytes over, one piece after another. It takes no memory.
     ///
-    /// `Device` where it can't be read to its end: the taker has got a beginning then. `OutOfMemory` where the system lacks it.
+    /// `Device` where it can't be read to its end: the taker then has a beginning of them.
+    /// `OutOfMemory` where the system lacks it.
     fn hand_over<T: Taker>(self, taker: &mut T) -> Result<(), WorldFault>
-        ensures handed { OnOk result ((bytes : List ℕ) × may_give self bytes × T.after taker.old bytes taker.new) }
+        ensures handed { OnOk result
+            ((bytes : List ℕ) × may_give self bytes × T.after taker.old bytes taker.new) }
         ensures refused { IfErr result (may_refuse self) };
 }

@@ -3,12 +3,13 @@ ghost use Rattle.std.specs.Prelude.{◌≡◌, ◌≢◌, ℕ, List, IfOk, IfSom
 ghost use Rattle.std.specs.IoError.{error_kind};
 
 use crate::contents::{Contents, Taker};
+use crate::fault::WorldFault;
 use crate::log::{Call, Log, PutIn, TakenOut};
 use crate::printer::{Beginning, Printer};
-use crate::world::{World, WorldFault};
+use crate::world::World;
 use lms_blocks::read_block;
+use lms_file_store::{FileStore, StateLock, TryLock, lock};
 use lms_params::OutOfMemory;
-use lms_store::{FileStore, StateLock, TryLock, lock};
 use std::alloc::Global;
 use std::fs::OpenFile;
 use std::io::{ErrorKind, Read};
@@ -18,7 +19,8 @@ use std::{fs, io};
 /// How many bytes of a file are asked for at once, where it is read in pieces.
 const BLOCK: usize = 4096;
 
-/// The files and the states of the disk, named by their paths. Nothing is claimed of what they hold.
+/// The files and the states of the disk, named by their paths. Nothing is claimed of what they
+/// hold.
 #[derive(Drop)]
 pub struct DiskWorld<'a, R: Files> {
     files: &'a R,
@@ -109,7 +111,7 @@ where
         }
     }
 
-    /// The file is closed here, which lets the lock go.
+    /// The file is closed here, which frees the lock.
     fn unlock(&self, log: &mut Log, _lock: StateLock<R::File>) {
         *log = log.and(&Call::Unlocked);
     }
@@ -198,7 +200,8 @@ impl<F: Read + Drop> Contents for DiskContents<F> {
 /// Hands all that is left in the file over, block by block.
 fn hand_blocks<F: Read, T: Taker>(file: &mut F, taker: &mut T) -> io::Result<()>
     ensures { OnOk result ((bytes : List ℕ)
-        × IfSome (F.remaining file.old) (λ rest. bytes ≡ rest) × T.after taker.old bytes taker.new) }
+        × IfSome (F.remaining file.old) (λ rest. bytes ≡ rest)
+        × T.after taker.old bytes taker.new) }
 {
     let mut block = [0u8; BLOCK];
     for _turn in 0..u64::MAX {
@@ -218,8 +221,8 @@ fn read_whole<R: Files>(files: &R, alloc: Global, path: &str) -> io::Result<Vec<
     read_sized(alloc, &mut file, size)
 }
 
-/// All that is left in the file, in memory of the size that it says it has and one byte for the read
-/// that finds the end, so that a large file is held once.
+/// All that is left in the file, in memory of the size that it says it has and one byte for the
+/// read that finds the end, so that a large file is held once.
 fn read_sized<F: Read>(alloc: Global, file: &mut F, size: usize) -> io::Result<Vec<u8>>
     ensures { IfOk result (λ bytes. IfSome (F.remaining file.old) (λ rest. bytes.items ≡ rest)) }
 {
@@ -230,7 +233,8 @@ fn read_sized<F: Read>(alloc: Global, file: &mut F, size: usize) -> io::Result<V
 
 /// The fault of the world that an error of the disk is.
 fn fault_of(error: &io::Error) -> WorldFault
-    ensures memory { error_kind error.now ≡ ErrorKind.OutOfMemory → result ≡ WorldFault.OutOfMemory }
+    ensures memory { error_kind error.now ≡ ErrorKind.OutOfMemory
+        → result ≡ WorldFault.OutOfMemory }
     ensures device { error_kind error.now ≢ ErrorKind.OutOfMemory → result ≡ WorldFault.Device }
 {
     if error.kind() == ErrorKind::OutOfMemory {

@@ -1,10 +1,12 @@
-//! The files and the keys' states that a program reaches by their names, and what is kept of the nodes of keys' trees beside states.
+//! The files and the keys' states that a program reaches by their names, and what is kept of the
+//! nodes of keys' trees beside states.
 //!
 //! A [`World`] has them: [`DiskWorld`] is the disk, [`MemoryWorld`] stands in for it in tests.
 #![tactic(auto)]
 
 mod contents;
 mod disk;
+mod fault;
 mod log;
 mod memory;
 mod printer;
@@ -12,8 +14,9 @@ mod world;
 
 pub use crate::contents::{Contents, Taker};
 pub use crate::disk::{DiskContents, DiskWorld};
+pub use crate::fault::WorldFault;
 pub use crate::log::Log;
 pub use crate::memory::{MemoryContents, MemoryLock, MemoryWorld};
 pub use crate::printer::Printer;
-pub use crate::world::{World, WorldFault};
+pub use crate::world::World;
 pub use lms_params::OutOfMemory;

@@ -1,7 +1,8 @@
 //! The log of a world, as contracts see it. At run time nothing is kept of it.
 //!
-//! No code sets a ghost field: `new` and `and` make a struct of no bytes. Each of the two is proved by a walk written by hand, in
-//! `proofs/log`, which sets `events` to what the contract says. Nothing else sets it.
+//! No code sets a ghost field: `new` and `and` make a struct of no bytes. Each of the two is proved
+//! by a walk written by hand, in `proofs/log`, which sets `events` to what the contract says.
+//! Nothing else sets it.
 ghost use Rattle.std.specs.Prelude.{◌≡◌, List, Some, [], ◌∷◌};
 ghost use Rattle.std.specs.Borrow.{ftrue};
 ghost use Rattle.lms_world.specs.Events as events;
@@ -10,13 +11,13 @@ ghost use Rattle.lms_world.specs.Events.{Event};
 use lms_book::StateStore;
 use std::marker::{Model, PhantomData};
 
-/// A call that a log tells of.
+/// A call that a log records.
 pub trait Logged {
     // What contracts see of it.
     ghost event: { Self → Event };
 }
 
-/// The calls but those that take a store out or put it back.
+/// All calls but those that take a store out or put it back.
 #[derive(Drop)]
 pub(crate) enum Call<'a> {
     Given {

@@ -4,22 +4,23 @@ ghost use Rattle.lms_book.specs.Memory.{MayFail};
 ghost use Rattle.lms_world.specs.Files.{answer_of, bytes_or_fault, entry_of, is_used_elsewhere, known_in_memory, MayFailToRead, MayRefuse, nodes_in, state_text, store_in, used_elsewhere, with_failing_nodes, with_nodes, with_store};
 
 use crate::contents::{Contents, Taker};
+use crate::fault::WorldFault;
 use crate::log::{Call, Log, PutIn, TakenOut};
 use crate::printer::{Beginning, Printer};
-use crate::world::{World, WorldFault};
+use crate::world::World;
 use lms_book::MemoryStore;
 use lms_params::OutOfMemory;
 use std::alloc::{AllocError, Global};
 
-/// How many writes the record of a state has room for.
+/// The capacity of a state's record, in writes.
 const ROOM: usize = 8;
 
-/// Files and one state in memory, for tests: what a read of each name answers, the state, whatever its name, and what is kept of nodes
-/// beside it.
+/// Files and one state in memory, for tests: what a read of each name answers, the state, whatever
+/// its name, and what is kept of nodes beside it.
 #[derive(Drop)]
 pub struct MemoryWorld {
     alloc: Global,
-    // The newest entry of a name stands first, and counts.
+    // The newest entry of a name is first, and counts.
     entries: Vec<(String, Result<Vec<u8>, WorldFault>)>,
     state: Option<MemoryStore>,
     in_use: bool,
@@ -113,7 +114,7 @@ impl MemoryWorld {
         self.nodes_fault = Some(fault);
     }
 
-    /// Makes each read and each write of a name fail. An error is want of memory.
+    /// Makes each read and each write of a name fail. An error means out of memory.
     pub fn fail(&mut self, name: &str, fault: WorldFault) -> Result<(), AllocError>
         ensures fails { OnOk result (answer_of self.new name.now ≡ Err fault) }
         ensures state { store_in self.new ≡ store_in self.old }
@@ -124,7 +125,8 @@ impl MemoryWorld {
 
     fn put(&mut self, name: &str, answer: Result<Vec<u8>, WorldFault>) -> Result<(), AllocError>
         ensures answer { OnOk result (answer_of self.new name.now ≡ bytes_or_fault answer) }
-        ensures others { (other : List ℕ) → other ≢ name.now → answer_of self.new other ≡ answer_of self.old other }
+        ensures others { (other : List ℕ) → other ≢ name.now
+            → answer_of self.new other ≡ answer_of self.old other }
         ensures state { store_in self.new ≡ store_in self.old }
         ensures nodes { nodes_in self.new ≡ nodes_in self.old }
     {
@@ -157,7 +159,8 @@ impl MemoryWorld {
     /// Makes these the bytes of a name.
     fn set(&mut self, name: &str, bytes: &[u8]) -> Result<(), WorldFault>
         ensures given { OnOk result (answer_of self.new name.now ≡ Ok bytes.now) }
-        ensures others { (other : List ℕ) → other ≢ name.now → answer_of self.new other ≡ answer_of self.old other }
+        ensures others { (other : List ℕ) → other ≢ name.now
+            → answer_of self.new other ≡ answer_of self.old other }
         ensures state { store_in self.new ≡ store_in self.old }
         ensures nodes { nodes_in self.new ≡ nodes_in self.old }
     {
@@ -169,10 +172,11 @@ impl MemoryWorld {
             .map_err(|_| WorldFault::OutOfMemory)
     }
 
-    /// Whether there is a text of the state.
+    /// Whether the state has bytes.
     fn has_state(&self) -> bool
         ensures missing { result ≡ false → state_text (store_in self.now) ≡ None }
-        ensures there { result ≡ true → (text : List ℕ) × (state_text (store_in self.now) ≡ Some text) }
+        ensures there { result ≡ true → (text : List ℕ)
+            × (state_text (store_in self.now) ≡ Some text) }
     {
         match &self.state {
             Some(store) => store.text().is_some(),
@@ -206,10 +210,11 @@ impl MemoryWorld {
         Vec::from_slice(alloc, nodes).ok()
     }
 
-    /// Keeps this text of nodes. After an error what was kept is kept still.
+    /// Keeps these bytes of nodes. After an error what was kept is kept still.
     fn keep(&mut self, alloc: Global, text: &[u8]) -> Result<(), WorldFault>
         ensures given { OnOk result (nodes_in self.new ≡ Some text.now) }
-        ensures kept { (nodes_in self.new ≡ Some text.now) ⊎ (nodes_in self.new ≡ nodes_in self.old) }
+        ensures kept { (nodes_in self.new ≡ Some text.now)
+            ⊎ (nodes_in self.new ≡ nodes_in self.old) }
         ensures state { store_in self.new ≡ store_in self.old }
         ensures files { self.new.entries ≡ self.old.entries }
     {

@@ -7,8 +7,8 @@ use std::io;
 use std::io::Write;
 use std::marker::Model;
 
-/// Hands all bytes on to a stream. To contracts it is the bytes that the stream took, whatever is known of the stream itself. It takes no
-/// memory.
+/// Forwards all bytes to a stream. Contracts see the bytes that the stream took, whatever is known
+/// of the stream itself. It takes no memory.
 #[derive(Drop)]
 pub struct Printer<O> {
     stream: O,

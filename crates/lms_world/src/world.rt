@@ -2,39 +2,30 @@
 ghost use Rattle.std.specs.Prelude.{◌≡◌, ◌≤◌, ◌⊎◌, ◌↔◌, ◌∷◌, ℕ, List, None, option_map, true, false, length, IfErr, IfOk, IfSome, OnOk};
 ghost use Rattle.lms_book.specs.Stops.{MayLeave};
 ghost use Rattle.lms_world.specs.Events.{Event, Read, Opened, Written, Locked, Unlocked, Asked, PutBack, NodesRead, NodesWritten, Printing, bytes_of, is_done, is_got, taking_of};
-ghost use Rattle.lms_world.specs.Known.{Known, MayBeRead, MayExist, SameFiles, SameFilesBut, SameNodes, Stays, Text};
+ghost use Rattle.lms_world.specs.Known.{Known, MayBeRead, MayExist, SameFiles, SameFilesBut, SameNodes, Stays, Bytes};
 
 use crate::contents::Contents;
+use crate::fault::WorldFault;
 use crate::printer::Printer;
 use lms_book::StateStore;
 use lms_params::OutOfMemory;
 use std::alloc::Global;
-use thiserror::Error;
 
-/// Why a file can't be read or written.
-#[derive(Clone, Copy, Debug, PartialEq, Eq, Error)]
-pub enum WorldFault {
-    /// There is no such file, or it can't be read or written.
-    #[error("the file can't be reached")]
-    Device,
-    /// Memory ran out.
-    #[error("{OutOfMemory}")]
-    OutOfMemory,
-}
-
-/// Files and keys' states, by their names, and what is kept of nodes beside the states. Contracts see the calls that were made on it, in
-/// their order, in a log beside it.
+/// Files and keys' states, by their names, and what is kept of nodes beside the states. Contracts
+/// see the calls that were made on it, in their order, in a log beside it.
 pub trait World {
-    /// Keeps other programs from a state for as long as it is held. It can't be let go: who has it has to hand it back.
+    /// Keeps other programs from a state for as long as it is held. It can't be dropped: its holder
+    /// has to hand it back.
     type Lock;
 
-    /// What keeps a state. It can't be let go: who takes it has to put it back.
+    /// What keeps a state. It can't be dropped: its holder has to put it back.
     type Store: StateStore;
 
     /// A file that was opened to be read.
     type Contents: Contents + Drop;
 
-    /// Is told of each call. It can be neither made nor let go: a command has the one that it is handed.
+    /// Records each call. It can be neither made nor dropped: a command uses the one that it is
+    /// given.
     type Log;
 
     // The calls that were made, the newest first.
@@ -57,7 +48,8 @@ pub trait World {
 
     /// Opens a file, whose bytes are then handed over piece by piece.
     ///
-    /// `Device` where there is no such file or it can't be opened, `OutOfMemory` where memory for that was refused.
+    /// `Device` where there is no such file or it can't be opened, `OutOfMemory` where memory for
+    /// that was refused.
     fn open(
         &self,
         alloc: Global,
@@ -69,23 +61,25 @@ pub trait World {
         ensures given { IfOk result (λ contents. (bytes : List ℕ)
             → Self.Contents.may_give contents bytes → (known self.now).may_give name.now bytes) }
         ensures refuses { IfOk result (λ contents. (fault : WorldFault)
-            → Self.Contents.may_refuse contents fault → (known self.now).may_refuse name.now fault) }
+            → Self.Contents.may_refuse contents fault
+            → (known self.now).may_refuse name.now fault) }
         ensures refused { IfErr result ((known self.now).may_refuse name.now) };
 
-    /// Makes these the bytes of a file, which need not be there yet. No other file is changed, no state, and nothing that is kept of
-    /// nodes.
+    /// Makes these the bytes of a file, which need not be there yet. No other file is changed, no
+    /// state, and nothing that is kept of nodes.
     ///
-    /// `Device` where it can't be written, `OutOfMemory` where memory for that was refused. After an error the file may be
-    /// missing or cut short.
+    /// `Device` where it can't be written, `OutOfMemory` where memory for that was refused. After
+    /// an error the file may be missing or cut short.
     fn write(&mut self, log: &mut Self::Log, name: &str, bytes: &[u8]) -> Result<(), WorldFault>
-        ensures logged { events log.new ≡ Written name.now bytes.now (is_done result) ∷ events log.old }
+        ensures logged { events log.new
+            ≡ Written name.now bytes.now (is_done result) ∷ events log.old }
         ensures given { OnOk result ((known self.new).may_give name.now bytes.now) }
         ensures others { SameFilesBut name.now (known self.old) (known self.new) }
         ensures states { (state : List ℕ) → Stays (known self.old) (known self.new) state }
         ensures nodes { SameNodes (known self.old) (known self.new) };
 
-    /// Locks the state of this name, without waiting. `None` where the lock is not available, `OutOfMemory` where memory for
-    /// it was refused.
+    /// Locks the state of this name, without waiting. `None` where the lock is not available,
+    /// `OutOfMemory` where memory for it was refused.
     fn lock(
         &self,
         alloc: Global,
@@ -93,7 +87,8 @@ pub trait World {
         name: &str,
     ) -> Result<Option<Self::Lock>, OutOfMemory>
         ensures logged { events log.new ≡ Locked name.now (is_got result) ∷ events log.old }
-        ensures used { IfOk result (λ found. found ≡ None → (known self.now).may_be_in_use name.now) }
+        ensures used { IfOk result (λ found.
+            found ≡ None → (known self.now).may_be_in_use name.now) }
         ensures locked { IfOk result (λ found. IfSome found (λ lock. is_lock_of lock name.now)) };
 
     /// Hands a lock back.
@@ -103,11 +98,13 @@ pub trait World {
     /// True where there is the state of the lock, and where that can't be found out.
     fn exists(&self, log: &mut Self::Log, lock: &Self::Lock) -> bool
         ensures logged { events log.new ≡ Asked result ∷ events log.old }
-        ensures missing { result ≡ false → (state : List ℕ) → is_lock_of lock.now state → (known self.now).may_lack state }
-        ensures there { result ≡ true → (state : List ℕ) → is_lock_of lock.now state → MayExist (known self.now) state };
+        ensures missing { result ≡ false → (state : List ℕ) → is_lock_of lock.now state
+            → (known self.now).may_lack state }
+        ensures there { result ≡ true → (state : List ℕ) → is_lock_of lock.now state
+            → MayExist (known self.now) state };
 
-    /// Takes out what keeps the state of the lock. Where there is no such state, its reads fail. No file is changed, and
-    /// nothing that is kept of nodes.
+    /// Takes out what keeps the state of the lock. Where there is no such state, its reads fail. No
+    /// file is changed, and nothing that is kept of nodes.
     ///
     /// `OutOfMemory` where memory for it was refused.
     fn take_store(
@@ -117,7 +114,8 @@ pub trait World {
         lock: &Self::Lock,
     ) -> Result<Self::Store, OutOfMemory>
         ensures logged { events log.new ≡ taking_of Self.Store.seen result ∷ events log.old }
-        ensures taken { IfOk result (λ store. (state : List ℕ) → is_lock_of lock.now state → (text : List ℕ)
+        ensures taken { IfOk result (λ store.
+            (state : List ℕ) → is_lock_of lock.now state → (text : List ℕ)
             → MayLeave (Self.Store.seen store) text ↔ (known self.old).may_hold state text) }
         ensures fails { IfOk result (λ store. (state : List ℕ) → is_lock_of lock.now state
             → Self.Store.may_fail store → (known self.old).may_fail state) }
@@ -126,7 +124,8 @@ pub trait World {
         ensures files { SameFiles (known self.old) (known self.new) }
         ensures nodes { SameNodes (known self.old) (known self.new) };
 
-    /// Puts it back: the state of the lock is what it keeps. No file is changed, and nothing that is kept of nodes.
+    /// Puts it back: the state of the lock is what it keeps. No file is changed, and nothing that
+    /// is kept of nodes.
     fn put_back(&mut self, log: &mut Self::Log, lock: &Self::Lock, store: Self::Store)
         ensures logged { events log.new ≡ PutBack (Self.Store.seen store) ∷ events log.old }
         ensures kept { (state : List ℕ) → is_lock_of lock.now state → (text : List ℕ)
@@ -138,8 +137,8 @@ pub trait World {
 
     /// What is kept of the nodes of a key's trees beside the state of the lock.
     ///
-    /// `None` where nothing is kept, where it is longer than `most` bytes, where it can't be read, and where memory for it is
-    /// refused: whoever reads it goes on without it in each case.
+    /// `None` where nothing is kept, where it is longer than `most` bytes, where it can't be read,
+    /// and where memory for it is refused: whoever reads it goes on without it in each case.
     fn read_nodes(
         &self,
         alloc: Global,
@@ -147,15 +146,18 @@ pub trait World {
         lock: &Self::Lock,
         most: usize,
     ) -> Option<Vec<u8>>
-        ensures logged { events log.new ≡ NodesRead (option_map (λ text. text.items) result) ∷ events log.old }
-        ensures given { IfSome result (λ text. (state : Text) → is_lock_of lock.now state → (known self.now).may_keep state text.items) }
+        ensures logged { events log.new
+            ≡ NodesRead (option_map (λ text. text.items) result) ∷ events log.old }
+        ensures given { IfSome result (λ text.
+            (state : Bytes) → is_lock_of lock.now state
+            → (known self.now).may_keep state text.items) }
         ensures at_most { IfSome result (λ text. length text.items ≤ most) };
 
-    /// Keeps this text of nodes beside the state of the lock, in place of what was kept there. No file of a name is changed, and no
-    /// state.
+    /// Keeps these bytes of nodes beside the state of the lock, in place of what was kept there. No
+    /// file of a name is changed, and no state.
     ///
-    /// `Device` where it can't be written, `OutOfMemory` where memory for that was refused. After an error this may be kept, or what
-    /// was before.
+    /// `Device` where it can't be written, `OutOfMemory` where memory for that was refused. After
+    /// an error this may be kept, or what was before.
     fn write_nodes(
         &mut self,
         alloc: Global,
@@ -164,13 +166,16 @@ pub trait World {
         text: &[u8],
     ) -> Result<(), WorldFault>
         ensures logged { events log.new ≡ NodesWritten text.now (is_done result) ∷ events log.old }
-        ensures given { OnOk result ((state : Text) → is_lock_of lock.now state → (known self.new).may_keep state text.now) }
-        ensures kept { (state kept : Text) → (known self.new).may_keep state kept
-            → (is_lock_of lock.now state × (kept ≡ text.now)) ⊎ (known self.old).may_keep state kept }
-        ensures states { (state : Text) → Stays (known self.old) (known self.new) state }
+        ensures given { OnOk result
+            ((state : Bytes) → is_lock_of lock.now state
+            → (known self.new).may_keep state text.now) }
+        ensures kept { (state kept : Bytes) → (known self.new).may_keep state kept
+            → (is_lock_of lock.now state × (kept ≡ text.now))
+            ⊎ (known self.old).may_keep state kept }
+        ensures states { (state : Bytes) → Stays (known self.old) (known self.new) state }
         ensures files { SameFiles (known self.old) (known self.new) };
 
-    /// Tells the log what was printed to an output by now, before something more is.
+    /// Records what was printed to an output so far, before more is printed.
     fn begin_printing<O>(&self, log: &mut Self::Log, output: &Printer<O>)
         ensures logged { events log.new ≡ Printing output.now ∷ events log.old };
 }

@@ -1,6 +1,6 @@
 mod nodes;
 
-use lms_store::TryLock;
+use lms_file_store::TryLock;
 use lms_world::{Contents, DiskWorld, Log, Taker, World, WorldFault};
 use std::alloc::{Allocator, Global};
 use std::fs::{Metadata, OpenFile, OpenOptions};
@@ -13,7 +13,8 @@ use std::{fs, io};
 /// The most bytes that a poor file gives or takes at once.
 const MOST: usize = 1000;
 
-/// Files that give and take few bytes at once, whose reads are interrupted every second time, and that tell nothing of a name.
+/// Files that give and take few bytes at once, whose reads are interrupted every second time, and
+/// that say nothing of a name.
 #[derive(Drop)]
 struct PoorFiles<'a, R: Files> {
     files: &'a R,
@@ -243,7 +244,7 @@ fn a_large_file_is_whole(rt: HostRuntime) -> Result<(), Fail> {
     Ok(())
 }
 
-/// A file that tells a size of 0 and holds more is read whole.
+/// A file that reports a size of 0 and holds more is read whole.
 #[test]
 fn a_file_that_tells_no_size_is_whole(rt: HostRuntime) -> Result<(), Fail> {
     let name = "/proc/self/stat";

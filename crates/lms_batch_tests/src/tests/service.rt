@@ -5,12 +5,13 @@ mod gates;
 mod memory;
 mod outcome;
 
-use crate::tests::fixtures::{LEVELS, book_of, job, public_key, store_at};
+use crate::tests::fixtures::{LEVELS, job, public_key};
 use gates::Meeting;
 use lms_batch::{BatchFault, Gate, Job, MOST_WORKERS, OpenGate, SigningService};
 use lms_book::{Book, BookFault, Entry, Left, MemoryStore};
+use lms_fixtures::{book_of, key_of, store_at};
 use lms_params::OutOfMemory;
-use lms_shared_book::{Blanks, Desk, SharedBook, Tally};
+use lms_shared_book::{Blanks, BookLedger, Desk, SharedBook};
 use outcome::{Answer, Outcome, starts_of};
 use std::alloc::{AllocGlobal, Global};
 use std::marker::Brand;
@@ -20,7 +21,8 @@ use std::test::Fail;
 use std::thread;
 use std::thread::Threads;
 
-/// What is asked of a service that has four desks: batches one after another at the first desk, of the first so many jobs each.
+/// What is asked of a service that has four desks: batches one after another at the first desk, of
+/// the first so many jobs each.
 #[derive(Drop)]
 struct Asked<'a, W> {
     jobs: &'a [Job],
@@ -32,12 +34,12 @@ struct Asked<'a, W> {
 }
 
 /// What a desk counted: entries, received, burnt.
-fn counts<E: Tally, G: Tally, B: Tally>(desk: &Desk<E, G, B>) -> (u64, u64, u64) {
+fn counts<E: BookLedger, G: BookLedger, B: BookLedger>(desk: &Desk<E, G, B>) -> (u64, u64, u64) {
     (desk.entries(), desk.received(), desk.burnt())
 }
 
 /// Asks for a batch of so many of the jobs, by 1 to `MOST_WORKERS` workers.
-fn answer_at<E: Tally, G: Tally, B: Tally, W: Gate>(
+fn answer_at<E: BookLedger, G: BookLedger, B: BookLedger, W: Gate>(
     rt: &(impl AllocGlobal + Threads + Wait + Sync),
     service: &SigningService<MemoryStore, E, G, B>,
     desk: &mut Desk<E, G, B>,
@@ -54,22 +56,23 @@ fn answer_at<E: Tally, G: Tally, B: Tally, W: Gate>(
     }
 }
 
-/// Room for so many answers. Memory that is refused once is asked for again.
-fn room(alloc: Global, count: usize) -> Result<Vec<Answer>, OutOfMemory> {
+/// An empty list with the capacity for so many answers. Memory that is refused once is asked for
+/// again.
+fn no_answers(alloc: Global, count: usize) -> Result<Vec<Answer>, OutOfMemory> {
     match Vec::with_capacity(alloc, count) {
-        Ok(room) => Ok(room),
+        Ok(answers) => Ok(answers),
         Err(_) => Ok(Vec::with_capacity(alloc, count)?),
     }
 }
 
 /// Asks for the batches at a desk.
-fn answers_at<E: Tally, G: Tally, B: Tally, W: Gate>(
+fn answers_at<E: BookLedger, G: BookLedger, B: BookLedger, W: Gate>(
     rt: &(impl AllocGlobal + Threads + Wait + Sync),
     service: &SigningService<MemoryStore, E, G, B>,
     desk: &mut Desk<E, G, B>,
     asked: &Asked<W>,
 ) -> Result<Vec<Answer>, OutOfMemory> {
-    let mut answers = room(rt.alloc(), asked.lengths.len())?;
+    let mut answers = no_answers(rt.alloc(), asked.lengths.len())?;
     for length in asked.lengths {
         answers.push(answer_at(rt, service, desk, asked, *length))?;
     }
@@ -77,7 +80,7 @@ fn answers_at<E: Tally, G: Tally, B: Tally, W: Gate>(
 }
 
 /// The same, by a thread that hands the desk back.
-fn visited<E: Tally, G: Tally, B: Tally, W: Gate>(
+fn visited<E: BookLedger, G: BookLedger, B: BookLedger, W: Gate>(
     rt: &(impl AllocGlobal + Threads + Wait + Sync),
     service: &SigningService<MemoryStore, E, G, B>,
     desk: Desk<E, G, B>,
@@ -88,7 +91,7 @@ fn visited<E: Tally, G: Tally, B: Tally, W: Gate>(
     (desk, answers)
 }
 
-/// Puts what a thread got behind the answers.
+/// Puts what a thread got after the answers.
 fn keep(
     answers: &mut Vec<Answer>,
     found: Result<Vec<Answer>, OutOfMemory>,
@@ -99,7 +102,7 @@ fn keep(
 }
 
 /// The desks that the threads hand back, and the answers that they got.
-fn gathered<E: Tally, G: Tally, B: Tally>(
+fn gathered<E: BookLedger, G: BookLedger, B: BookLedger>(
     alloc: Global,
     visits: Vec<(Desk<E, G, B>, Result<Vec<Answer>, OutOfMemory>)>,
 ) -> Result<(Vec<Desk<E, G, B>>, Vec<Answer>), OutOfMemory> {
@@ -113,7 +116,12 @@ fn gathered<E: Tally, G: Tally, B: Tally>(
 }
 
 /// Asks for the batches at the first desk, or at all desks at once.
-fn asked_for<E: Tally + Send + Sync, G: Tally + Send + Sync, B: Tally + Send + Sync, W: Gate>(
+fn asked_for<
+    E: BookLedger + Send + Sync,
+    G: BookLedger + Send + Sync,
+    B: BookLedger + Send + Sync,
+    W: Gate,
+>(
     rt: &(impl AllocGlobal + Threads + Wait + Sync),
     service: &SigningService<MemoryStore, E, G, B>,
     desks: Vec<Desk<E, G, B>>,
@@ -130,7 +138,12 @@ fn asked_for<E: Tally + Send + Sync, G: Tally + Send + Sync, B: Tally + Send + S
 }
 
 /// Asks a service for the batches, and settles then with all desks.
-fn settled<E: Tally + Send + Sync, G: Tally + Send + Sync, B: Tally + Send + Sync, W: Gate>(
+fn settled<
+    E: BookLedger + Send + Sync,
+    G: BookLedger + Send + Sync,
+    B: BookLedger + Send + Sync,
+    W: Gate,
+>(
     rt: &(impl AllocGlobal + Threads + Wait + Sync),
     service: SigningService<MemoryStore, E, G, B>,
     desks: Vec<Desk<E, G, B>>,
@@ -145,7 +158,12 @@ fn settled<E: Tally + Send + Sync, G: Tally + Send + Sync, B: Tally + Send + Syn
 }
 
 /// Shares a book, and asks a service over it for the batches.
-fn carried_out<E: Tally + Send + Sync, G: Tally + Send + Sync, B: Tally + Send + Sync, W: Gate>(
+fn carried_out<
+    E: BookLedger + Send + Sync,
+    G: BookLedger + Send + Sync,
+    B: BookLedger + Send + Sync,
+    W: Gate,
+>(
     rt: &(impl AllocGlobal + Threads + Wait + Sync),
     book: Book<MemoryStore>,
     blanks: Blanks,
@@ -153,7 +171,7 @@ fn carried_out<E: Tally + Send + Sync, G: Tally + Send + Sync, B: Tally + Send +
 ) -> Result<Outcome, Fail>
     requires same { book ≡ E.book }
     requires entries { BlankFits blanks.entries E.name E.parts 5 }
-    requires given { BlankFits blanks.given G.name G.parts 5 }
+    requires received { BlankFits blanks.received G.name G.parts 5 }
     requires burnt { BlankFits blanks.burnt B.name B.parts 5 }
 {
     let shared = match SharedBook::<MemoryStore, E, G, B>::share(rt.alloc(), book, blanks, 4) {
@@ -175,7 +193,7 @@ fn carry_out<W: Gate>(
     let book = book_of(rt.alloc(), store)?;
     let blanks = Blanks {
         entries: Blank::new(5),
-        given: Blank::new(5),
+        received: Blank::new(5),
         burnt: Blank::new(5),
     };
     carried_out::<Brand, Brand, Brand, W>(rt, book, blanks, asked)
@@ -204,7 +222,7 @@ fn signed_from(
     lengths: &[usize],
     workers: usize,
 ) -> Result<Outcome, Fail> {
-    let store = store_at(rt.alloc(), &LEVELS, 0x11, start)?;
+    let store = store_at(rt.alloc(), key_of(&LEVELS, 0x11)?, start)?;
     let asked = Asked {
         jobs,
         lengths,
@@ -236,7 +254,8 @@ fn four_jobs_are_signed_by_each_number_of_workers(rt: HostRuntime) -> Result<(),
     Ok(())
 }
 
-/// No job makes a batch of none; 1025 jobs are refused, and 1024 where 994 indices are left. Nothing is reserved.
+/// No job makes a batch of none; 1025 jobs are refused, and 1024 where 994 indices are left.
+/// Nothing is reserved.
 #[test]
 fn too_few_and_too_many_jobs_reserve_nothing(rt: HostRuntime) -> Result<(), Fail> {
     let jobs = jobs_of(rt.alloc(), 1025)?;
@@ -254,7 +273,7 @@ fn signed_past_a_failed_write(
     rt: &(impl AllocGlobal + Threads + Wait + Sync),
     jobs: &[Job],
 ) -> Result<Outcome, Fail> {
-    let mut store = store_at(rt.alloc(), &LEVELS, 0x11, 0)?;
+    let mut store = store_at(rt.alloc(), key_of(&LEVELS, 0x11)?, 0)?;
     store.fail_replace(1, Left::Old);
     let asked = Asked {
         jobs,
@@ -284,7 +303,7 @@ fn signed_at_once(
     rt: &(impl AllocGlobal + Threads + Wait + Sync),
     jobs: &[Job],
 ) -> Result<Outcome, Fail> {
-    let store = store_at(rt.alloc(), &LEVELS, 0x11, 0)?;
+    let store = store_at(rt.alloc(), key_of(&LEVELS, 0x11)?, 0)?;
     let asked = Asked {
         jobs,
         lengths: &[8, 8],
@@ -365,7 +384,7 @@ fn signed_at<W: Gate>(
     workers: usize,
     gate: &W,
 ) -> Result<Outcome, Fail> {
-    let store = store_at(rt.alloc(), &LEVELS, 0x11, 30)?;
+    let store = store_at(rt.alloc(), key_of(&LEVELS, 0x11)?, 30)?;
     let asked = Asked {
         jobs,
         lengths: &[2],
@@ -389,7 +408,8 @@ fn two_are_signed(
     Ok(is_met && has_ended && outcome.is_complete(rt, 0, 30, jobs)?)
 }
 
-/// Each signature waits a while until the other one has begun. Where three workers are asked for, two sign, since there are two jobs.
+/// Each signature waits a while until the other one has begun. Where three workers are asked for,
+/// two sign, since there are two jobs.
 #[test]
 fn two_workers_sign_at_once(rt: HostRuntime) -> Result<(), Fail> {
     let jobs = jobs_of(rt.alloc(), 2)?;

@@ -1,8 +1,9 @@
 ghost use Rattle.std.specs.Prelude.{◌≡◌, ◌≤◌, [], IfOk};
 
-use super::{burns, counts, gives, leaves, opened, refuses, reopened, reserved, tells};
-use crate::tests::fixtures::{FIRST_SMALL, LEVELS, first_store, key_of, small_store};
+use super::{burns, counts, gives, leaves, refuses, reopened, tells};
+use crate::tests::fixtures::{FIRST_SMALL, LEVELS, first_store, small_store};
 use lms_book::{Book, BookFault, Left, MemoryStore};
+use lms_fixtures::{book_of, key_of, reserved};
 use std::alloc::Global;
 use std::test::Fail;
 
@@ -11,7 +12,7 @@ fn a_life_of_failed_writes(rt: HostRuntime) -> Result<(), Fail> {
     let mut store = small_store(rt.alloc(), 0)?;
     store.fail_replace(3, Left::Old);
     store.fail_replace(2, Left::New);
-    let mut book = opened(rt.alloc(), store)?;
+    let mut book = book_of(rt.alloc(), store)?;
     assert!(rt; gives(&mut book, 4, 0));
     assert!(rt; burns(&mut book, 4, 4));
     assert!(rt; burns(&mut book, 4, 8));
@@ -30,7 +31,7 @@ fn first_book_burns(alloc: Global, left: Left) -> Result<Book<MemoryStore>, Fail
 {
     let mut store = first_store(alloc, FIRST_SMALL)?;
     store.fail_replace(1, left);
-    opened(alloc, store)
+    Ok(book_of(alloc, store)?)
 }
 
 #[test]
@@ -80,7 +81,7 @@ fn a_write_after_a_failed_first_one(rt: HostRuntime) -> Result<(), Fail> {
 /// Opening alone writes nothing, and is not counted.
 #[test]
 fn an_opening_that_stores_nothing_is_not_counted(rt: HostRuntime) -> Result<(), Fail> {
-    let book = opened(rt.alloc(), first_store(rt.alloc(), FIRST_SMALL)?)?;
+    let book = book_of(rt.alloc(), first_store(rt.alloc(), FIRST_SMALL)?)?;
     let book = reopened(rt.alloc(), book)?;
     assert!(rt; counts(&book, 10, 10, 10) && tells(&book, 0, 0));
     assert!(rt; book.close().text() == first_store(rt.alloc(), FIRST_SMALL)?.text());
@@ -92,7 +93,7 @@ fn lives_with_a_stop_in_a_write(rt: HostRuntime) -> Result<(), Fail> {
     for (left, base) in [(Left::Old, 10), (Left::New, 15)] {
         let mut store = small_store(rt.alloc(), 0)?;
         store.stop_replace(2, left);
-        let mut book = opened(rt.alloc(), store)?;
+        let mut book = book_of(rt.alloc(), store)?;
         assert!(rt; gives(&mut book, 10, 0));
         assert!(rt; burns(&mut book, 5, 10));
         assert!(rt; burns(&mut book, 2, 15));
@@ -103,7 +104,8 @@ fn lives_with_a_stop_in_a_write(rt: HostRuntime) -> Result<(), Fail> {
     Ok(())
 }
 
-/// Marks the indices of a range as given. It fails where one was given before, or is past the capacity.
+/// Marks the indices of a range as given. It fails where one was given before, or is past the
+/// capacity.
 fn mark(given: &mut [bool; 32], range: (u64, u64)) -> Result<(), Fail> {
     for (index, place) in (0..).zip(given.iter_mut()) {
         if range.0 <= index && index - range.0 < range.1 {
@@ -120,7 +122,12 @@ fn mark(given: &mut [bool; 32], range: (u64, u64)) -> Result<(), Fail> {
 }
 
 /// A book whose k-th write fails, or stops.
-fn failing_book(alloc: Global, k: usize, left: Left, stops: bool) -> Result<Book<MemoryStore>, Fail>
+fn failing_book(
+    alloc: Global,
+    k: usize,
+    left: Left,
+    stops: bool,
+) -> Result<Book<MemoryStore>, &'static str>
     requires first { 1 ≤ k }
     requires at_most { k ≤ 8 }
     ensures { IfOk result (λ book. book.history ≡ []) }
@@ -131,7 +138,7 @@ fn failing_book(alloc: Global, k: usize, left: Left, stops: bool) -> Result<Book
     } else {
         store.fail_replace(k, left);
     }
-    opened(alloc, store)
+    book_of(alloc, store)
 }
 
 /// Reserves 1 to 6, and marks what is given.
@@ -156,8 +163,8 @@ fn mark_rest(book: &mut Book<MemoryStore>, given: &mut [bool; 32]) -> Result<(),
     Err(Fail::from("the key is exhausted"))
 }
 
-/// Reserves 1 to 6 with a failure at the k-th write, starts again, and reserves 1 until the key is exhausted. Answers
-/// how many indices were given, each of them once.
+/// Reserves 1 to 6 with a failure at the k-th write, starts again, and reserves 1 until the key is
+/// exhausted. Answers how many indices were given, each of them once.
 fn given_with_failure(alloc: Global, k: usize, left: Left, stops: bool) -> Result<usize, Fail>
     requires first { 1 ≤ k }
     requires at_most { k ≤ 8 }

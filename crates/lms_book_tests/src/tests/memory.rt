@@ -2,7 +2,8 @@ use lms_book::{Left, MemoryStore, ReadFault, StateStore};
 use std::alloc::Global;
 use std::test::Fail;
 
-/// A store that holds `a`, with room for 8 writes. Memory that is refused once is asked for again, here and below.
+/// A store that holds `a`, with the capacity for 8 writes. Memory that is refused once is asked for
+/// again, here and below.
 fn store_of_a(alloc: Global) -> Result<MemoryStore, Fail> {
     match MemoryStore::new(alloc, Some(b"a".as_slice()), 8) {
         Ok(store) => Ok(store),
@@ -77,7 +78,7 @@ fn a_store_reads_unless_told_to_fail(rt: HostRuntime) -> Result<(), Fail> {
 }
 
 #[test]
-fn a_store_refuses_what_it_has_no_room_for(rt: HostRuntime) -> Result<(), Fail> {
+fn a_store_refuses_what_it_has_no_capacity_for(rt: HostRuntime) -> Result<(), Fail> {
     let mut store = match MemoryStore::new(rt.alloc(), None, 1) {
         Ok(store) => store,
         Err(_) => MemoryStore::new(rt.alloc(), None, 1)?,
@@ -87,7 +88,7 @@ fn a_store_refuses_what_it_has_no_room_for(rt: HostRuntime) -> Result<(), Fail> 
     assert!(rt; !takes(&mut store, &[7; 257]), "257 bytes");
     assert!(rt; store.text().is_none());
     assert!(rt; takes(&mut store, &[7; 256]));
-    assert!(rt; !takes(&mut store, b"a"), "past the room");
+    assert!(rt; !takes(&mut store, b"a"), "past the capacity");
     assert!(rt; holds(&store, &[7; 256]));
     let mut store = store.restart();
     assert!(rt; takes(&mut store, b"a"));

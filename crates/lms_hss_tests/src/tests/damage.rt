@@ -1,4 +1,5 @@
-//! A signature of two levels and its public key, each cut to every shorter length, and changed in every byte.
+//! A signature of two levels and its public key, each cut to every shorter length, and changed in
+//! every byte.
 use crate::tests::verification::check_number;
 use crate::tests::{LEVEL, signed};
 use lms_hss::verify;
@@ -96,11 +97,11 @@ fn refuses_each_damaged_key(rt: HostRuntime) -> Result<(), Fail> {
     Ok(())
 }
 
-/// Where the LMS typecode of the lower level's signature stands.
+/// Where the LMS typecode of the lower level's signature is.
 const TYPECODE: usize = 2480;
 
-/// The lower level's signature says that its tree is one of height 10, as its key does not, and is as short as before, or as long
-/// as such a signature.
+/// The lower level's signature says that its tree is one of height 10, as its key does not, and is
+/// as short as before, or as long as such a signature.
 #[test]
 fn refuses_other_counts_and_another_typecode(rt: HostRuntime) -> Result<(), Fail> {
     let made = two_levels(&rt)?;

@@ -1,14 +1,13 @@
 use crate::tests::{
-    LEVEL, QUICK, RANDOMIZER, THREE_LEVELS, check_sums, cover, key_of, no_sums, sign, slow_key,
-    vectors,
+    LEVEL, QUICK, RANDOMIZER, THREE_LEVELS, cover, key_of, sign, slow_key, vectors,
 };
 use hex::FromHex;
+use lms_fixtures::Sums;
 use lms_hss::{Forest, HssKey, Levels, verify};
 use lms_params::{LmsType, OtsType, OutOfMemory};
 use lms_slow::slow_sign;
 use lms_slow::vectors::Vector;
 use std::process::Abort;
-use std::sync::atomic::Ordering;
 use std::test::Fail;
 use std::thread::Threads;
 
@@ -32,13 +31,15 @@ fn check_accepted(rt: &impl Abort, public: &[u8; 60], signature: &[u8]) {
     assert!(rt; !verify(public, b"abd", signature));
 }
 
-/// Two signatures have the same signature of the upper level in them, and a third has another key of the bottom level.
+/// Two signatures have the same signature of the upper level in them, and a third has another key
+/// of the bottom level.
 fn check_upper(rt: &impl Abort, signature: &[u8], same: &[u8], next: &[u8]) {
     assert!(rt; signature.get(4..1352) == same.get(4..1352));
     assert!(rt; same.get(1296..1352) != next.get(1296..1352));
 }
 
-/// An index of two levels that a forest covers signs as the slow signer does, and the signature is accepted.
+/// An index of two levels that a forest covers signs as the slow signer does, and the signature is
+/// accepted.
 fn check_accepted_index(
     rt: &(impl Abort + AllocGlobal),
     public: &[u8; 60],
@@ -107,8 +108,8 @@ fn check_length(
     Ok(())
 }
 
-/// Some indices are covered, and the first and the last of them sign, with signatures of this length, under the public key that
-/// the forest has, too.
+/// Some indices are covered, and the first and the last of them sign, with signatures of this
+/// length, under the public key that the forest has, too.
 fn check_ends(
     rt: &(impl Abort + AllocGlobal + Threads + Sync),
     key: HssKey,
@@ -132,7 +133,8 @@ fn signs_through_eight_levels(rt: HostRuntime) -> Result<(), Fail> {
     Ok(())
 }
 
-/// The last indices of a key, so many of them, are covered, and the first and the last of these sign.
+/// The last indices of a key, so many of them, are covered, and the first and the last of these
+/// sign.
 fn check_last(
     rt: &(impl Abort + AllocGlobal + Threads + Sync),
     levels: &[(LmsType, OtsType)],
@@ -207,7 +209,8 @@ fn signs_as_another_implementation(rt: HostRuntime) -> Result<(), Fail> {
     Ok(())
 }
 
-/// `rt test` refuses no memory, and `tests/refused` each request of a test in turn: where a call is refused, a second one works.
+/// The merge check refuses each request for memory in turn: where a call is refused, a second one
+/// works.
 #[test]
 fn covers_and_signs_after_refused_memory(rt: HostRuntime) -> Result<(), Fail> {
     let key = key_of(&[(LmsType::H5, OtsType::W1); 2])?;
@@ -229,30 +232,32 @@ fn covers_and_signs_after_refused_memory(rt: HostRuntime) -> Result<(), Fail> {
     Ok(())
 }
 
-/// All memory for a key of one level is asked for before the first leaf. `tests/refused` refuses each request of this test in turn.
+/// All memory for a key of one level is asked for before the first leaf. The merge check refuses
+/// each request in turn.
 #[test]
 fn no_leaf_is_worked_out_where_memory_is_refused(rt: HostRuntime) -> Result<(), Fail> {
     let key = key_of(&[QUICK])?;
     assert!(rt; key.capacity() == 32);
-    let sums = no_sums();
+    let sums = Sums::new();
     let done = match Forest::cover_watched(&rt, rt.alloc(), key, 3, 7, &sums) {
         Ok(_) => 32,
         Err(OutOfMemory) => 0,
     };
-    assert_eq!(rt; sums.done.load(Ordering::SeqCst), done);
+    assert_eq!(rt; sums.computed(), done);
     Ok(())
 }
 
-/// The top tree alone; then three levels, of which the lower two have two trees that the indices go through.
+/// The top tree alone; then three levels, of which the lower two have two trees that the indices go
+/// through.
 #[test]
 fn tells_of_all_leaves(rt: HostRuntime) -> Result<(), Fail> {
     let key = key_of(&[QUICK; 3])?;
-    let sums = no_sums();
+    let sums = Sums::new();
     let _public = key.public_key_watched(&rt, rt.alloc(), &sums)?;
-    check_sums(&rt, &sums, 1, 32);
+    assert!(rt; sums.are(1, 32));
     assert!(rt; key.capacity() >= 1025);
     let forest = Forest::cover_watched(&rt, rt.alloc(), key, 1023, 2, &sums)?;
     drop(forest);
-    check_sums(&rt, &sums, 2, 32 + 5 * 32);
+    assert!(rt; sums.are(2, 32 + 5 * 32));
     Ok(())
 }

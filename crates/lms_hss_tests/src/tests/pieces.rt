@@ -13,43 +13,44 @@ fn by_pieces<C: ChainEnds>(
     message: &[u8],
     signature: &[u8],
     length: usize,
-    way: C,
+    ends: C,
 ) -> bool {
-    let Some(mut verifier) = Verifier::begin(public, signature, way) else {
+    let Some(mut verifier) = Verifier::begin(public, signature, ends) else {
         return false;
     };
     verifier.update(&[]);
     for piece in message.chunks(length.max(1)) {
         verifier.update(piece);
     }
-    verifier.finish(way)
+    verifier.finish(ends)
 }
 
 /// The verdict on a message that another hasher takes.
-fn by_hash<C: ChainEnds>(public: &[u8], message: &[u8], signature: &[u8], way: C) -> bool {
-    let Some(verifier) = Verifier::begin(public, signature, way) else {
+fn by_hash<C: ChainEnds>(public: &[u8], message: &[u8], signature: &[u8], ends: C) -> bool {
+    let Some(verifier) = Verifier::begin(public, signature, ends) else {
         return false;
     };
     let mut hasher = Sha256::new();
     hasher.update(verifier.head());
     hasher.update(message);
-    verifier.finish_by_hash(&hasher.finalize(), way)
+    verifier.finish_by_hash(&hasher.finalize(), ends)
 }
 
-/// Whether this is the verdict on a message, however it is handed over, with chains taken to their ends in this way.
+/// Whether this is the verdict on a message, however it is handed over, with chains taken to their
+/// ends in this way.
 fn is_verdict_with<C: ChainEnds>(
     public: &[u8],
     message: &[u8],
     signature: &[u8],
     valid: bool,
-    way: C,
+    ends: C,
 ) -> bool {
-    verify_with(public, message, signature, way) == valid
-        && by_pieces(public, message, signature, 1, way) == valid
-        && by_pieces(public, message, signature, 55, way) == valid
-        && by_pieces(public, message, signature, 64, way) == valid
-        && by_pieces(public, message, signature, message.len(), way) == valid
-        && by_hash(public, message, signature, way) == valid
+    verify_with(public, message, signature, ends) == valid
+        && by_pieces(public, message, signature, 1, ends) == valid
+        && by_pieces(public, message, signature, 55, ends) == valid
+        && by_pieces(public, message, signature, 64, ends) == valid
+        && by_pieces(public, message, signature, message.len(), ends) == valid
+        && by_hash(public, message, signature, ends) == valid
 }
 
 /// Whether this is the verdict on a message in all ways.
@@ -59,7 +60,8 @@ fn is_verdict(public: &[u8], message: &[u8], signature: &[u8], valid: bool) -> b
         && is_verdict_with(public, message, signature, valid, ByEights)
 }
 
-/// A signature by another implementation is valid in all ways, and of its message without the first byte in none.
+/// A signature by another implementation is valid in all ways, and of its message without the first
+/// byte in none.
 fn check_vector(rt: &(impl Abort + AllocGlobal), vector: Vector) -> Result<(), Fail> {
     let public = hex::decode(rt.alloc(), vector.public)?;
     let signature = hex::decode(rt.alloc(), vector.signature)?;

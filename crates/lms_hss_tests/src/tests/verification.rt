@@ -52,7 +52,7 @@ fn places(text: &[u8]) -> [usize; 3] {
     [0, text.len() / 2, text.len().saturating_sub(1)]
 }
 
-/// The parts of a public key of 5/8 and of its signature by leaf 5 stand in their places.
+/// The parts of a public key of 5/8 and of its signature by leaf 5 are in their places.
 fn check_parts(rt: &impl Abort, public: &[u8], signature: &[u8]) {
     let head = [0, 0, 0, 1, 0, 0, 0, 5, 0, 0, 0, 4];
     assert!(rt; public.starts_with(&head) && public.len() == 60);
@@ -100,7 +100,8 @@ fn decides_on_a_signature(rt: HostRuntime) -> Result<(), Fail> {
     Ok(())
 }
 
-/// A signature of `abc` is refused at each shorter length, and under a public key that lacks its last byte.
+/// A signature of `abc` is refused at each shorter length, and under a public key that lacks its
+/// last byte.
 fn check_cuts(rt: &impl Abort, public: &[u8], signature: &[u8]) {
     for length in 0..1296 {
         let cut = signature.get(..length).unwrap_or(&[]);
@@ -128,7 +129,8 @@ const TREES: [(LmsType, u32); 5] = [
     (LmsType::H25, 33554432),
 ];
 
-/// Whether a planted signature by the last leaf is valid, and one past it is not, nor the last one's with the number past it.
+/// Whether a planted signature by the last leaf is valid, and one past it is not, nor the last
+/// one's with the number past it.
 fn takes_leaves(alloc: Global, tree: &SlowTree, leaves: u32) -> Result<bool, AllocError> {
     let last = planted(alloc, tree, leaves.saturating_sub(1), &RANDOMIZER, b"abc")?;
     let past = planted(alloc, tree, leaves, &RANDOMIZER, b"abc")?;
@@ -175,7 +177,8 @@ const LAYOUTS: [(LmsType, OtsType, usize, u16, u8); 4] = [
     (LmsType::H25, OtsType::W1, 9328, 8524, 9),
 ];
 
-/// A planted signature has this length and this typecode at its place, and is refused with another there.
+/// A planted signature has this length and this typecode at its place, and is refused with another
+/// there.
 fn check_typecode(
     rt: &(impl Abort + AllocGlobal),
     tree: &SlowTree,
@@ -251,7 +254,8 @@ fn check_signatures(
     Ok(())
 }
 
-/// A signature of another implementation's is accepted, and refused with a changed byte in any of the three texts.
+/// A signature of another implementation's is accepted, and refused with a changed byte in any of
+/// the three texts.
 fn check_vector(rt: &(impl Abort + AllocGlobal), vector: Vector) -> Result<(), Fail> {
     let public = hex::decode(rt.alloc(), vector.public)?;
     let signature = hex::decode(rt.alloc(), vector.signature)?;
@@ -270,8 +274,8 @@ fn agrees_with_another_implementation(rt: HostRuntime) -> Result<(), Fail> {
     Ok(())
 }
 
-/// Places of numbers in a signature under `THREE_LEVELS`: the count; and for each level the leaf, the two typecodes, and
-/// the typecodes of the key that it signs.
+/// Places of numbers in a signature under `THREE_LEVELS`: the count; and for each level the leaf,
+/// the two typecodes, and the typecodes of the key that it signs.
 const NUMBERS: [u16; 14] = [
     0, 4, 8, 1132, 1296, 1300, 1352, 1356, 3536, 3700, 3704, 3756, 3760, 8052,
 ];
@@ -320,8 +324,8 @@ fn verifies_levels_of_different_heights(rt: HostRuntime) -> Result<(), Fail> {
     Ok(())
 }
 
-/// No signature of the other implementation's is accepted with the lowest bit changed in one of every four bytes: each
-/// number's last byte and eight bytes of each hash are among them.
+/// No signature of the other implementation's is accepted with the lowest bit changed in one of
+/// every four bytes: each number's last byte and eight bytes of each hash are among them.
 fn check_changes(rt: &(impl Abort + AllocGlobal), vector: Vector) -> Result<(), Fail> {
     let public = hex::decode(rt.alloc(), vector.public)?;
     let signature = hex::decode(rt.alloc(), vector.signature)?;
@@ -340,12 +344,12 @@ fn refuses_each_changed_field(rt: HostRuntime) -> Result<(), Fail> {
     check_changes(&rt, THREE)
 }
 
-/// What stands behind the number of levels or of signed keys.
-fn behind_number(text: &[u8]) -> &[u8] {
+/// The bytes after the number of levels or of signed keys.
+fn after_number(text: &[u8]) -> &[u8] {
     text.get(4..).unwrap_or(&[])
 }
 
-/// A number and texts behind it.
+/// A number and the bytes after it.
 fn numbered(alloc: Global, number: u32, texts: &[&[u8]]) -> Result<Vec<u8>, AllocError> {
     let mut whole = Vec::from_slice(alloc, &number.to_be_bytes())?;
     for text in texts {
@@ -354,18 +358,19 @@ fn numbered(alloc: Global, number: u32, texts: &[&[u8]]) -> Result<Vec<u8>, Allo
     Ok(whole)
 }
 
-/// A public key of two levels and a signature under it: leaf 7 of a top tree of 5/8 signs this child's key, and the child
-/// signs the message. The public key and the signature of the child are those of one level.
+/// A public key of two levels and a signature under it: leaf 7 of a top tree of 5/8 signs this
+/// child's key, and the child signs the message. The public key and the signature of the child are
+/// those of one level.
 fn below_a_top(alloc: Global, child: &PlantedTexts) -> Result<PlantedTexts, AllocError> {
     let top = slow_key(&[LEVEL]);
-    let child_key = behind_number(&child.public);
+    let child_key = after_number(&child.public);
     let top_public = slow_public(alloc, &top)?;
     let top_signature = slow_sign(alloc, &top, 7, &RANDOMIZER, child_key)?;
-    let public = numbered(alloc, 2, &[behind_number(&top_public)])?;
+    let public = numbered(alloc, 2, &[after_number(&top_public)])?;
     let texts = [
-        behind_number(&top_signature),
+        after_number(&top_signature),
         child_key,
-        behind_number(&child.signature),
+        after_number(&child.signature),
     ];
     let signature = numbered(alloc, 1, &texts)?;
     Ok(PlantedTexts { public, signature })

@@ -11,7 +11,7 @@ pub(super) struct Fields {
     pub(super) count: u32,
     pub(super) codes: &'static [(u32, u32)],
     pub(super) counter: u64,
-    /// The numbers behind the counter, where the version has them.
+    /// The numbers after the counter, where the version has them.
     pub(super) later: Option<(u64, u64)>,
 }
 
@@ -49,7 +49,8 @@ impl Fields {
         Ok(text)
     }
 
-    /// The same in version 2, with no openings and no burnt indices; where the version is another one, with that.
+    /// The same in version 2, with no openings and no burnt indices; where the version is another
+    /// one, with that.
     pub(super) fn in_version_2(&self) -> Fields {
         let version = if self.version == 1 { 2 } else { self.version };
         Fields {

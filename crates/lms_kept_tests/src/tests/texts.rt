@@ -1,5 +1,6 @@
 //! Which texts are read.
-use crate::tests::{LEVEL, key_of, no_sums, work_out};
+use crate::tests::{LEVEL, key_of, work_out};
+use lms_fixtures::Sums;
 use lms_hss::{HssKey, KeyFault, Levels};
 use lms_kept::KeptTrees;
 use lms_params::{LmsType, OtsType, OutOfMemory};
@@ -45,11 +46,12 @@ fn taken_change(
     Ok(None)
 }
 
-/// The text of index 40 of 5/8,5/8: 16 bytes; 64 nodes of the top tree; a signed key of 1348 bytes and 64 nodes of the bottom tree; 32 bytes.
+/// The text of index 40 of 5/8,5/8: 16 bytes; 64 nodes of the top tree; a signed key of 1348 bytes
+/// and 64 nodes of the bottom tree; 32 bytes.
 #[test]
 fn takes_its_own_text_alone(rt: HostRuntime) -> Result<(), Fail> {
     let key = key_of(&[LEVEL; 2])?;
-    let mut text = work_out(&rt, key, 40, &no_sums())?.text(rt.alloc())?;
+    let mut text = work_out(&rt, key, 40, &Sums::new())?.text(rt.alloc())?;
     assert!(rt; text.len() == 16 + 64 * 32 + (1348 + 64 * 32) + 32);
     assert!(rt; text.starts_with(b"HSSN\0\0\0\x01\0\0\0\0\0\0\0\x28"));
     assert!(rt; is_taken(rt.alloc(), &key, &text)?);
@@ -64,8 +66,8 @@ fn takes_its_own_text_alone(rt: HostRuntime) -> Result<(), Fail> {
 #[test]
 fn takes_no_text_of_another_key(rt: HostRuntime) -> Result<(), Fail> {
     let key = key_of(&[LEVEL; 2])?;
-    let text = work_out(&rt, key, 0, &no_sums())?.text(rt.alloc())?;
-    let top = KeptTrees::top(&rt, rt.alloc(), key, &no_sums())?.text(rt.alloc())?;
+    let text = work_out(&rt, key, 0, &Sums::new())?.text(rt.alloc())?;
+    let top = KeptTrees::top(&rt, rt.alloc(), key, &Sums::new())?.text(rt.alloc())?;
     assert!(rt; is_taken(rt.alloc(), &key, &text)? && is_taken(rt.alloc(), &key, &top)?);
     for other in others()? {
         assert!(rt; !is_taken(rt.alloc(), &other, &text)?);

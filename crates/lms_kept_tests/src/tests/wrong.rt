@@ -1,7 +1,8 @@
 //! Texts with the right check value and wrong nodes, as only a holder of the seed can make them.
 ghost use Rattle.std.specs.Prelude.{◌≡◌, IfOk};
 
-use crate::tests::{QUICK, TALL_ABOVE, expected, key_of, moved, no_sums, signed, work_out};
+use crate::tests::{QUICK, TALL_ABOVE, expected, key_of, moved, signed, work_out};
+use lms_fixtures::Sums;
 use lms_hss::{HssKey, verify};
 use lms_kept::KeptTrees;
 use lms_params::{LmsType, OtsType};
@@ -12,7 +13,8 @@ use std::test::Fail;
 /// Where the nodes of the top tree begin.
 const TOP: usize = 16;
 
-/// What the check value of these keys goes by: the value derived at leaf 0 under the number 0xfffc.
+/// What the check value of these keys is made with: the value derived at leaf 0 under the number
+/// 0xfffc.
 fn secret() -> [u8; 32] {
     let mut hasher = Sha256::new();
     hasher.update([0x22; 16]);
@@ -21,7 +23,7 @@ fn secret() -> [u8; 32] {
     hasher.finalize()
 }
 
-/// The hash of the typecodes of a key's levels, before what stands in a text before the check value.
+/// The hash of the typecodes of a key's levels, and of the bytes before the check value.
 fn digest(key: &HssKey, body: &[u8]) -> [u8; 32] {
     let levels = key.levels.as_slice();
     let mut hasher = Sha256::new();
@@ -34,7 +36,7 @@ fn digest(key: &HssKey, body: &[u8]) -> [u8; 32] {
     hasher.finalize()
 }
 
-/// Gives a text the check value that is right for what stands before it.
+/// Gives a text the check value that is right for the bytes before it.
 fn check_again(key: &HssKey, text: &mut [u8]) {
     let length = text.len().saturating_sub(32);
     let (body, check) = text.split_at_mut(length);
@@ -73,7 +75,7 @@ fn node(r: u32, left: &[u8; 32], right: &[u8; 32]) -> [u8; 32] {
     hasher.finalize()
 }
 
-/// Where node r of a top tree of height 5 stands in a text: after the root, which stands there once more.
+/// Where node r of a top tree of height 5 is in a text: after the root, which is there once more.
 fn place(r: u32) -> usize {
     TOP.saturating_add(32)
         .saturating_add(32 * (r as usize).saturating_sub(1))
@@ -99,11 +101,12 @@ fn taken(rt: &impl AllocGlobal, key: HssKey, text: &[u8]) -> Result<KeptTrees, F
     Ok(KeptTrees::read(rt.alloc(), key, text)?.ok_or("the right check value")?)
 }
 
-/// A changed node in a leaf's path makes its signature one that is not accepted, and so none; by other leaves it plays no part.
+/// A changed node in a leaf's path makes its signature one that is not accepted, and so none; by
+/// other leaves it plays no part.
 #[test]
 fn gives_no_signature_by_a_changed_node(rt: HostRuntime) -> Result<(), Fail> {
     let key = key_of(&[QUICK])?;
-    let mut text = work_out(&rt, key, 0, &no_sums())?.text(rt.alloc())?;
+    let mut text = work_out(&rt, key, 0, &Sums::new())?.text(rt.alloc())?;
     let changed = at(&text, place(33)).map(|byte| byte ^ 1);
     set(&mut text, place(33), &changed);
     check_again(&key, &mut text);
@@ -113,12 +116,13 @@ fn gives_no_signature_by_a_changed_node(rt: HostRuntime) -> Result<(), Fail> {
     Ok(())
 }
 
-/// Where all nodes above are changed with it, the worst is a signature that the key's public key refuses.
+/// Where all nodes above are changed with it, the worst is a signature that the key's public key
+/// refuses.
 #[test]
 fn signs_what_is_refused_at_worst(rt: HostRuntime) -> Result<(), Fail> {
     let key = key_of(&[QUICK])?;
     let public = key.public_key(&rt, rt.alloc())?;
-    let mut text = work_out(&rt, key, 0, &no_sums())?.text(rt.alloc())?;
+    let mut text = work_out(&rt, key, 0, &Sums::new())?.text(rt.alloc())?;
     change_consistently(&key, &mut text);
     let trees = taken(&rt, key, &text)?;
     assert!(rt; trees.public() != public);
@@ -131,15 +135,16 @@ fn signs_what_is_refused_at_worst(rt: HostRuntime) -> Result<(), Fail> {
     Ok(())
 }
 
-/// A tree that is worked out below a leaf of a changed tree has its own public key signed, by the same one-time signature as ever: only the
-/// path above it is another one.
+/// A tree that is computed below a leaf of a changed tree has its own public key signed, by the
+/// same one-time signature as ever: only the path above it is another one.
 #[test]
 fn signs_the_same_public_keys_at_worst(rt: HostRuntime) -> Result<(), Fail> {
     let key = key_of(&[QUICK; 2])?;
-    let mut text = work_out(&rt, key, 0, &no_sums())?.text(rt.alloc())?;
+    let mut text = work_out(&rt, key, 0, &Sums::new())?.text(rt.alloc())?;
     change_consistently(&key, &mut text);
-    // Index 64 goes through leaf 2 of the top tree, which has node 16, over the changed leaf, in its path.
-    let trees = moved(&rt, key, taken(&rt, key, &text)?, 64, &no_sums())?.ok_or(
+    // Index 64 goes through leaf 2 of the top tree, which has node 16, over the changed leaf, in
+    // its path.
+    let trees = moved(&rt, key, taken(&rt, key, &text)?, 64, &Sums::new())?.ok_or(
         "no subtree above",
     )?;
     let wrong = signed(&rt, &trees, 64)?.ok_or("a signature under the changed root")?;
@@ -154,14 +159,14 @@ fn signs_the_same_public_keys_at_worst(rt: HostRuntime) -> Result<(), Fail> {
 #[test]
 fn goes_on_to_no_other_subtree(rt: HostRuntime) -> Result<(), Fail> {
     let key = key_of(&TALL_ABOVE)?;
-    let mut text = work_out(&rt, key, 0, &no_sums())?.text(rt.alloc())?;
+    let mut text = work_out(&rt, key, 0, &Sums::new())?.text(rt.alloc())?;
     // Node 33 is the root of the second bottom subtree, whose first leaf index 32768 goes through.
     let start = TOP + 32 * 32;
     let changed = at(&text, start).map(|byte| byte ^ 1);
     set(&mut text, start, &changed);
     check_again(&key, &mut text);
-    assert!(rt; moved(&rt, key, taken(&rt, key, &text)?, 32768, &no_sums())?.is_none());
-    let beside = moved(&rt, key, taken(&rt, key, &text)?, 131072, &no_sums())?;
+    assert!(rt; moved(&rt, key, taken(&rt, key, &text)?, 32768, &Sums::new())?.is_none());
+    let beside = moved(&rt, key, taken(&rt, key, &text)?, 131072, &Sums::new())?;
     assert!(rt; beside.is_some());
     Ok(())
 }
@@ -173,11 +178,12 @@ fn is_taken(rt: &impl AllocGlobal, key: &HssKey, text: &[u8]) -> Result<bool, Fa
     Ok(KeptTrees::read(rt.alloc(), *key, &text)?.is_some())
 }
 
-/// Another word, another version, an index past the last one, no level, half of one, and more bytes than its levels have, each with the right check value.
+/// Other first bytes, another version, an index past the last one, no level, half of one, and more
+/// bytes than its levels have, each with the right check value.
 #[test]
 fn takes_no_other_form(rt: HostRuntime) -> Result<(), Fail> {
     let key = key_of(&[QUICK; 2])?;
-    let text = work_out(&rt, key, 0, &no_sums())?.text(rt.alloc())?;
+    let text = work_out(&rt, key, 0, &Sums::new())?.text(rt.alloc())?;
     assert!(rt; is_taken(&rt, &key, &text)?);
     for place in [0, 3, 4, 7, 8, 13] {
         let mut other = Vec::from_slice(rt.alloc(), &text)?;
@@ -186,7 +192,7 @@ fn takes_no_other_form(rt: HostRuntime) -> Result<(), Fail> {
         }
         assert!(rt; !is_taken(&rt, &key, &other)?, "{place}");
     }
-    // 16 bytes and those of the top tree, each with room for the check value.
+    // 16 bytes and those of the top tree, each with 32 bytes for the check value.
     for (length, is_form) in [
         (16, false),
         (16 + 1024, false),

@@ -70,7 +70,8 @@ fn signatures_are_counted(rt: HostRuntime) -> Result<(), Fail> {
     Ok(())
 }
 
-/// Whether a writer that takes so many bytes, one a write, gets as many of the 17 of a text, and a fault tells that they are not all.
+/// Whether a writer that takes so many bytes, one a write, gets as many of the 17 of a text, and a
+/// fault says that they are not all.
 fn writes_a_beginning(alloc: Global, writes: usize, fails: bool) -> Result<bool, Fail> {
     let batch = batch(alloc)?;
     let mut writer = sink_of(alloc, writes, fails);

@@ -1,4 +1,4 @@
-ghost use Rattle.std.specs.Prelude.{◌≡◌, ◌≤◌, [], IfOk};
+ghost use Rattle.std.specs.Prelude.{◌≡◌, ◌≤◌};
 ghost use Rattle.lms_shared_book.specs.Desks.{BlankFits};
 
 mod memory;
@@ -7,11 +7,10 @@ mod reading;
 use crate::tests::{Sink, Source, lines, sink_of};
 use lms_batch::{BatchFault, SigningService};
 use lms_book::{Book, BookFault, MemoryStore};
-use lms_hss::{HssKey, Levels};
-use lms_image::{Image, encode_image};
+use lms_fixtures::{book_at, key_of};
 use lms_lines::{Done, JobsFault, LinesFault, sign_lines};
 use lms_params::{LmsType, OtsType};
-use lms_shared_book::{Blanks, Desk, SharedBook, Tally};
+use lms_shared_book::{Blanks, BookLedger, Desk, SharedBook};
 use std::alloc::{AllocGlobal, Global};
 use std::marker::Brand;
 use std::process::Abort;
@@ -41,41 +40,12 @@ const CHEAP: [(LmsType, OtsType); 2] = [(LmsType::H5, OtsType::W2); 2];
 
 const CHEAP_LINE: usize = 17_964;
 
-/// How many writes four answer lines of 5/2,5/2 are: for each its index, a space, nine parts of its digits, and its end.
+/// How many writes four answer lines of 5/2,5/2 are: for each its index, a space, nine parts of its
+/// digits, and its end.
 const CHEAP_WRITES: usize = 48;
 
-/// A book of a key of these levels whose next index is 30. Memory that is refused once is asked for again.
-fn book(alloc: Global, levels: &[(LmsType, OtsType)]) -> Result<Book<MemoryStore>, Fail>
-    ensures { IfOk result (λ book. book.history ≡ []) }
-{
-    let Ok(levels) = Levels::new(levels) else {
-        return Err(Fail::from("the signer takes the levels"));
-    };
-    let key = HssKey::new(levels, [0x11; 32], [0x22; 16]);
-    if key.capacity() < 30 {
-        return Err(Fail::from("a capacity of 1024"));
-    }
-    let image = encode_image(&Image {
-        key,
-        counter: 30,
-        openings: 0,
-        burnt: 0,
-    });
-    let store = match MemoryStore::new(alloc, Some(image.as_slice()), 8) {
-        Ok(store) => store,
-        Err(_) => MemoryStore::new(alloc, Some(image.as_slice()), 8)?,
-    };
-    match Book::open(alloc, store) {
-        Ok(book) => Ok(book),
-        Err((_, store)) => match Book::open(alloc, store) {
-            Ok(book) => Ok(book),
-            Err(_) => Err(Fail::from("the store opens")),
-        },
-    }
-}
-
 /// Signs job lines by two workers, to a writer.
-fn signed<E: Tally, G: Tally, B: Tally>(
+fn signed<E: BookLedger, G: BookLedger, B: BookLedger>(
     rt: &(impl AllocGlobal + Threads + Wait + Sync),
     service: &SigningService<MemoryStore, E, G, B>,
     desk: &mut Desk<E, G, B>,
@@ -113,12 +83,12 @@ fn has_four_answers(text: &[u8], length: usize, first: u64) -> bool
 }
 
 /// What a desk counted: entries, received, burnt.
-fn counts<E: Tally, G: Tally, B: Tally>(desk: &Desk<E, G, B>) -> (u64, u64, u64) {
+fn counts<E: BookLedger, G: BookLedger, B: BookLedger>(desk: &Desk<E, G, B>) -> (u64, u64, u64) {
     (desk.entries(), desk.received(), desk.burnt())
 }
 
 /// Whether this text is refused, with nothing written and nothing counted.
-fn refuses<E: Tally, G: Tally, B: Tally>(
+fn refuses<E: BookLedger, G: BookLedger, B: BookLedger>(
     rt: &(impl AllocGlobal + Threads + Wait + Sync),
     service: &SigningService<MemoryStore, E, G, B>,
     desk: &mut Desk<E, G, B>,
@@ -132,7 +102,7 @@ fn refuses<E: Tally, G: Tally, B: Tally>(
 }
 
 /// Whether four lines are answered from this index on, by lines of this length.
-fn answers_four<E: Tally, G: Tally, B: Tally>(
+fn answers_four<E: BookLedger, G: BookLedger, B: BookLedger>(
     rt: &(impl AllocGlobal + Threads + Wait + Sync),
     service: &SigningService<MemoryStore, E, G, B>,
     desk: &mut Desk<E, G, B>,
@@ -153,7 +123,7 @@ fn answers_four<E: Tally, G: Tally, B: Tally>(
 }
 
 /// Whether a writer that takes 5300 bytes gets the first answer and the beginning of the second.
-fn writes_a_beginning<E: Tally, G: Tally, B: Tally>(
+fn writes_a_beginning<E: BookLedger, G: BookLedger, B: BookLedger>(
     rt: &(impl AllocGlobal + Threads + Wait + Sync),
     service: &SigningService<MemoryStore, E, G, B>,
     desk: &mut Desk<E, G, B>,
@@ -171,8 +141,9 @@ fn writes_a_beginning<E: Tally, G: Tally, B: Tally>(
     Ok(answer == Err(LinesFault::Write) && is_beginning)
 }
 
-/// Whether no line is signed where the text can't be read past so many blocks, and nothing is counted.
-fn is_unread<E: Tally, G: Tally, B: Tally>(
+/// Whether no line is signed where the text can't be read past so many blocks, and nothing is
+/// counted.
+fn is_unread<E: BookLedger, G: BookLedger, B: BookLedger>(
     rt: &(impl AllocGlobal + Threads + Wait + Sync),
     service: &SigningService<MemoryStore, E, G, B>,
     desk: &mut Desk<E, G, B>,
@@ -192,8 +163,9 @@ fn is_unread<E: Tally, G: Tally, B: Tally>(
     answer == Err(fault) && writer.taken.is_empty() && counts(desk) == before
 }
 
-/// Whether no line of four is signed where the text can't be read, from the first block or a later one on.
-fn is_never_signed_unread<E: Tally, G: Tally, B: Tally>(
+/// Whether no line of four is signed where the text can't be read, from the first block or a later
+/// one on.
+fn is_never_signed_unread<E: BookLedger, G: BookLedger, B: BookLedger>(
     rt: &(impl AllocGlobal + Threads + Wait + Sync),
     service: &SigningService<MemoryStore, E, G, B>,
     desk: &mut Desk<E, G, B>,
@@ -207,7 +179,7 @@ fn is_never_signed_unread<E: Tally, G: Tally, B: Tally>(
 }
 
 /// Whether more lines than the key has indices are refused, from index 46 on.
-fn refuses_too_many<E: Tally, G: Tally, B: Tally>(
+fn refuses_too_many<E: BookLedger, G: BookLedger, B: BookLedger>(
     rt: &(impl AllocGlobal + Threads + Wait + Sync),
     service: &SigningService<MemoryStore, E, G, B>,
     desk: &mut Desk<E, G, B>,
@@ -218,7 +190,7 @@ fn refuses_too_many<E: Tally, G: Tally, B: Tally>(
 }
 
 /// Signs lines from index 30 on.
-fn sign_batches<E: Tally, G: Tally, B: Tally>(
+fn sign_batches<E: BookLedger, G: BookLedger, B: BookLedger>(
     rt: &(impl Abort + AllocGlobal + Threads + Wait + Sync),
     service: &SigningService<MemoryStore, E, G, B>,
     desk: &mut Desk<E, G, B>,
@@ -236,9 +208,10 @@ fn sign_batches<E: Tally, G: Tally, B: Tally>(
     Ok(())
 }
 
-/// Whether a writer that fails after so many writes, or takes nothing, has a beginning of the answers to four lines from index 30
-/// on, and all of them where it takes as many writes as they are.
-fn leaves_a_beginning<E: Tally, G: Tally, B: Tally>(
+/// Whether a writer that fails after so many writes, or takes nothing, has a beginning of the
+/// answers to four lines from index 30 on, and all of them where it takes as many writes as they
+/// are.
+fn leaves_a_beginning<E: BookLedger, G: BookLedger, B: BookLedger>(
     rt: &(impl AllocGlobal + Threads + Wait + Sync),
     service: &SigningService<MemoryStore, E, G, B>,
     desk: &mut Desk<E, G, B>,
@@ -258,9 +231,9 @@ fn leaves_a_beginning<E: Tally, G: Tally, B: Tally>(
     Ok(is_as_wanted && answers.starts_with(&writer.taken))
 }
 
-/// Signs four lines from index 30 on to a writer that fails after so many writes, or takes nothing: it has a beginning of the
-/// answers, and the next four lines are answered from index 34 on.
-fn fail_to_write<E: Tally, G: Tally, B: Tally>(
+/// Signs four lines from index 30 on to a writer that fails after so many writes, or takes nothing:
+/// it has a beginning of the answers, and the next four lines are answered from index 34 on.
+fn fail_to_write<E: BookLedger, G: BookLedger, B: BookLedger>(
     rt: &(impl Abort + AllocGlobal + Threads + Wait + Sync),
     service: &SigningService<MemoryStore, E, G, B>,
     desk: &mut Desk<E, G, B>,
@@ -279,7 +252,7 @@ fn fail_to_write<E: Tally, G: Tally, B: Tally>(
 }
 
 /// Carries a scenario out with the first of these desks.
-fn carry_on<E: Tally, G: Tally, B: Tally>(
+fn carry_on<E: BookLedger, G: BookLedger, B: BookLedger>(
     rt: &(impl Abort + AllocGlobal + Threads + Wait + Sync),
     service: SigningService<MemoryStore, E, G, B>,
     desks: Vec<Desk<E, G, B>>,
@@ -299,7 +272,7 @@ fn carry_on<E: Tally, G: Tally, B: Tally>(
 }
 
 /// Shares a book, and carries the scenario out.
-fn carried_out<E: Tally, G: Tally, B: Tally>(
+fn carried_out<E: BookLedger, G: BookLedger, B: BookLedger>(
     rt: &(impl Abort + AllocGlobal + Threads + Wait + Sync),
     book: Book<MemoryStore>,
     blanks: Blanks,
@@ -307,7 +280,7 @@ fn carried_out<E: Tally, G: Tally, B: Tally>(
 ) -> Result<(), Fail>
     requires same { book ≡ E.book }
     requires entries { BlankFits blanks.entries E.name E.parts 2 }
-    requires given { BlankFits blanks.given G.name G.parts 2 }
+    requires received { BlankFits blanks.received G.name G.parts 2 }
     requires burnt { BlankFits blanks.burnt B.name B.parts 2 }
 {
     let shared = match SharedBook::<MemoryStore, E, G, B>::share(rt.alloc(), book, blanks, 1) {
@@ -320,16 +293,16 @@ fn carried_out<E: Tally, G: Tally, B: Tally>(
     }
 }
 
-/// Carries a scenario out with a key of these levels.
+/// Carries a scenario out with a key of these levels whose next index is 30.
 fn carry_out(
     rt: &(impl Abort + AllocGlobal + Threads + Wait + Sync),
     levels: &[(LmsType, OtsType)],
     scenario: Scenario,
 ) -> Result<(), Fail> {
-    let book = book(rt.alloc(), levels)?;
+    let book = book_at(rt.alloc(), key_of(levels, 0x11)?, 30)?;
     let blanks = Blanks {
         entries: Blank::new(2),
-        given: Blank::new(2),
+        received: Blank::new(2),
         burnt: Blank::new(2),
     };
     carried_out::<Brand, Brand, Brand>(rt, book, blanks, scenario)

@@ -1,8 +1,8 @@
 //! `batch`: job lines signed by the whole program.
+use super::arguments::{CHEAP, ONE, TWO, keygen};
 use super::states::{is_with, keyed};
-use super::words::{CHEAP, ONE, TWO, keygen};
 use super::{Ended, VERIFY, says, text_of};
-use lms_program::run::run;
+use lms_cli::run::run;
 use lms_world::{Log, MemoryWorld, Printer, World};
 use std::sync::Wait;
 use std::test::Fail;
@@ -33,7 +33,7 @@ pub(super) fn batch(workers: &str) -> [&str; 6] {
     ]
 }
 
-/// What a batch leaves behind.
+/// What a batch leaves.
 pub(super) fn end_of_batch(
     rt: &(impl Threads + Wait + AllocGlobal + Sync),
     world: &mut MemoryWorld,
@@ -55,11 +55,11 @@ pub(super) fn end_of_batch_to(
     let mut rest = input.as_bytes();
     let mut output = output;
     let mut errors = Vec::new(rt.alloc());
-    let words = batch(workers);
+    let arguments = batch(workers);
     let status = run(
         rt,
         rt.alloc(),
-        &words,
+        &arguments,
         world,
         &mut Log::new(),
         &mut rest,
@@ -73,7 +73,8 @@ pub(super) fn end_of_batch_to(
     }
 }
 
-/// The answers to four jobs by the key of 5/8,5/8 from index 30 on, by so many workers, where they are done.
+/// The answers to four jobs by the key of 5/8,5/8 from index 30 on, by so many workers, where they
+/// are done.
 fn four_answers(
     rt: &(impl Threads + Wait + AllocGlobal + Sync),
     workers: &str,
@@ -88,7 +89,8 @@ fn four_answers(
     }
 }
 
-/// Whether an answer line has this index, and a signature of this message that the program finds valid.
+/// Whether an answer line has this index, and a signature of this message that the program finds
+/// valid.
 fn is_answer(
     rt: &(impl Threads + Wait + AllocGlobal + Sync),
     world: &mut MemoryWorld,
@@ -111,8 +113,8 @@ fn are_answers(
     answers: &str,
 ) -> Result<bool, Fail> {
     let mut world = MemoryWorld::new(rt.alloc());
-    let words = keygen("5/8,5/8");
-    let mut are_all = says(rt, &words, &mut world, 0, "capacity 1024\n");
+    let arguments = keygen("5/8,5/8");
+    let mut are_all = says(rt, &arguments, &mut world, 0, "capacity 1024\n");
     let rows = [
         ("30", b"\x00bc"),
         ("31", b"\x01bc"),
@@ -143,7 +145,8 @@ const EMPTY: &str = "00000000000000000000000000000000000000000000000000000000000
 const BAD: &str = "0000000000000000000000000000000000000000000000000000000000000000 \n\
     000000000000000000000000000000000000000000000000000000000000000 ";
 
-/// Whether a batch of a line with an empty message by the key of 5/8 has this one answer, of index 5.
+/// Whether a batch of a line with an empty message by the key of 5/8 has this one answer, of index
+/// 5.
 fn signs_no_bytes(rt: &(impl Threads + Wait + AllocGlobal + Sync)) -> Result<bool, Fail> {
     let mut world = keyed(rt.alloc(), &ONE, 5)?;
     let end = end_of_batch(rt, &mut world, "1", EMPTY);
@@ -164,8 +167,8 @@ fn signs_the_empty_message(rt: HostRuntime) -> Result<(), Fail> {
     Ok(())
 }
 
-/// Whether a batch of these lines, from a state with nothing used, ends with this status and these errors, answers so many lines
-/// and uses as many indices.
+/// Whether a batch of these lines, from a state with nothing used, ends with this status and these
+/// errors, answers so many lines and uses as many indices.
 fn ends_with(
     rt: &(impl Threads + Wait + AllocGlobal + Sync),
     workers: &str,

@@ -1,11 +1,12 @@
 //! `batch` over streams, states and memory that fail.
+use super::arguments::{CHEAP, ONE, TWO};
 use super::batch::{FOUR_LINES, TWO_LINES, batch, end_of_batch, end_of_batch_to};
-use super::states::{image_of, is_with, keyed, store_at, store_of};
-use super::words::{CHEAP, ONE, TWO};
+use super::states::{is_with, keyed, store_at};
 use super::{Closed, Ended, Stuck, text_of};
-use lms_book::{Left, MemoryStore};
+use lms_book::Left;
+use lms_cli::run::run;
 use lms_commands::Status;
-use lms_program::run::run;
+use lms_fixtures::store_of;
 use lms_world::{Log, MemoryWorld, Printer, World};
 use std::alloc::Global;
 use std::io;
@@ -31,22 +32,22 @@ impl Read for Cut {
     }
 }
 
-/// A writer that has room for so many bytes, and then fails, or takes nothing.
+/// A writer that takes so many bytes, and then fails, or takes nothing.
 #[derive(Drop)]
 struct Full {
     taken: Vec<u8>,
-    room: usize,
+    capacity: usize,
     fails: bool,
 }
 
 impl Write for Full {
     fn write(&mut self, buf: &[u8]) -> io::Result<usize> {
-        let count = buf.len().min(self.room);
+        let count = buf.len().min(self.capacity);
         if count == 0 && self.fails {
             return Err(io::Error::from(ErrorKind::BrokenPipe));
         }
         self.taken.extend_from_slice(&buf[..count])?;
-        self.room -= count;
+        self.capacity -= count;
         Ok(count)
     }
 
@@ -64,11 +65,11 @@ fn fails_by<I: Read, O: Write>(
     line: &str,
 ) -> bool {
     let mut said = Vec::new(rt.alloc());
-    let words = batch("2");
+    let arguments = batch("2");
     let status = run(
         rt,
         rt.alloc(),
-        &words,
+        &arguments,
         world,
         &mut Log::new(),
         input,
@@ -91,18 +92,19 @@ fn cannot_read_job_lines(rt: HostRuntime) -> Result<(), Fail> {
     Ok(())
 }
 
-/// Whether a batch says that its answers could not be written, where a writer gets a beginning of them and no more.
+/// Whether a batch says that its answers could not be written, where a writer gets a beginning of
+/// them and no more.
 fn leaves_a_beginning(
     rt: &(impl Threads + Wait + AllocGlobal + Sync),
     world: &mut MemoryWorld,
     full: &mut Full,
     answers: &[u8],
 ) -> bool {
-    let room = full.room;
+    let capacity = full.capacity;
     let mut rest = TWO_LINES.as_bytes();
     let line = "error: cannot write output\n";
     fails_by(rt, world, &mut rest, full, line)
-        && full.taken.len() == room
+        && full.taken.len() == capacity
         && answers.starts_with(&full.taken)
 }
 
@@ -114,17 +116,18 @@ fn goes_on(rt: &(impl Threads + Wait + AllocGlobal + Sync), world: &mut MemoryWo
             .starts_with(b"7 ")
 }
 
-/// Whether a writer with room for so many bytes gets a beginning of these answers, and the batch after it the next indices.
+/// Whether a writer that takes so many bytes gets a beginning of these answers, and the batch after
+/// it the next indices.
 fn gets_a_beginning(
     rt: &(impl Threads + Wait + AllocGlobal + Sync),
     answers: &[u8],
-    room: usize,
+    capacity: usize,
     fails: bool,
 ) -> Result<bool, Fail> {
     let mut world = keyed(rt.alloc(), &ONE, 5)?;
     let mut full = Full {
         taken: Vec::new(rt.alloc()),
-        room,
+        capacity,
         fails,
     };
     Ok(leaves_a_beginning(rt, &mut world, &mut full, answers) && goes_on(rt, &mut world))
@@ -135,9 +138,15 @@ fn gets_a_beginning(
 fn cannot_write_answers(rt: HostRuntime) -> Result<(), Fail> {
     let mut world = keyed(rt.alloc(), &ONE, 5)?;
     let end = end_of_batch(&rt, &mut world, "2", TWO_LINES);
-    for room in [0, 1, 2, 2594, 2595, 2596, 5189] {
-        assert!(rt; gets_a_beginning(&rt, &end.output, room, true)?, "{room}");
-        assert!(rt; gets_a_beginning(&rt, &end.output, room, false)?, "{room}");
+    for capacity in [0, 1, 2, 2594, 2595, 2596, 5189] {
+        assert!(rt;
+            gets_a_beginning(&rt, &end.output, capacity, true)?,
+            "{capacity}"
+        );
+        assert!(rt;
+            gets_a_beginning(&rt, &end.output, capacity, false)?,
+            "{capacity}"
+        );
     }
     let mut rest = TWO_LINES.as_bytes();
     let line = "error: cannot write output\n";
@@ -146,7 +155,8 @@ fn cannot_write_answers(rt: HostRuntime) -> Result<(), Fail> {
     Ok(())
 }
 
-/// The state of an unused key of 5/8,5/8, whose next write fails, and leaves the old text or the new one.
+/// The state of an unused key of 5/8,5/8, whose next write fails, and leaves the old text or the
+/// new one.
 fn unwritable(alloc: Global, left: Left) -> Result<MemoryWorld, Fail> {
     let mut store = store_at(alloc, &TWO, 0)?;
     store.fail_replace(1, left);
@@ -155,7 +165,8 @@ fn unwritable(alloc: Global, left: Left) -> Result<MemoryWorld, Fail> {
     Ok(world)
 }
 
-/// Whether a batch of four jobs whose write of the state fails burns their indices, and leaves a state with these numbers.
+/// Whether a batch of four jobs whose write of the state fails burns their indices, and leaves a
+/// state with these numbers.
 fn burns_indices(
     rt: &(impl Threads + Wait + AllocGlobal + Sync),
     left: Left,
@@ -200,7 +211,7 @@ fn fails_in_order(rt: HostRuntime) -> Result<(), Fail> {
     let line = "error: cannot read state\n";
     world = MemoryWorld::new(rt.alloc());
     assert!(rt; fails_before_the_line(&rt, &mut world, "1", 3, line));
-    world.set_state(store_of(rt.alloc(), Some(b"HSSK"))?);
+    world.set_state(store_of(rt.alloc(), b"HSSK")?);
     let line = "error: bad state: Truncated\n";
     assert!(rt; fails_before_the_line(&rt, &mut world, "1", 3, line));
     Ok(())
@@ -245,8 +256,8 @@ fn used(world: &MemoryWorld) -> Result<u64, Fail> {
     Err(Fail::from("the state is the key's"))
 }
 
-/// Whether a batch that ended so used as many indices as it says, from so many used to so many, and printed its lines, which are some of
-/// the answers from its first index on.
+/// Whether a batch that ended so used as many indices as it says, from so many used to so many, and
+/// printed its lines, which are some of the answers from its first index on.
 fn is_true(end: &Ended, answers: &[Vec<u8>; 2], before: u64, after: u64) -> bool {
     let [first, second] = answers;
     let expected = if before == 0 { first } else { second };
@@ -264,7 +275,7 @@ fn four_answers(
     rt: &(impl Threads + Wait + AllocGlobal + Sync),
     world: &mut MemoryWorld,
 ) -> Result<Option<Vec<u8>>, Fail> {
-    let end = end_of_batch_to(rt, world, "1", FOUR_LINES, roomy(rt.alloc())?);
+    let end = end_of_batch_to(rt, world, "1", FOUR_LINES, no_output(rt.alloc())?);
     Ok(if end.status == 0 {
         Some(end.output)
     } else {
@@ -272,7 +283,8 @@ fn four_answers(
     })
 }
 
-/// The answers to the four jobs by indices 5 to 8, and by 9 to 12, or `None` where memory was refused.
+/// The answers to the four jobs by indices 5 to 8, and by 9 to 12, or `None` where memory was
+/// refused.
 fn eight_answers(
     rt: &(impl Threads + Wait + AllocGlobal + Sync),
 ) -> Result<Option<[Vec<u8>; 2]>, Fail> {
@@ -286,33 +298,24 @@ fn eight_answers(
     Ok(Some([first, second]))
 }
 
-/// An empty list with room for four answer lines, made at the first or at the second try. So writing them takes no memory.
-fn roomy(alloc: Global) -> Result<Vec<u8>, Fail> {
+/// An empty list with the capacity for four answer lines, made at the first or at the second try.
+/// So writing them takes no memory.
+fn no_output(alloc: Global) -> Result<Vec<u8>, Fail> {
     match Vec::with_capacity(alloc, 36_000) {
-        Ok(room) => Ok(room),
+        Ok(output) => Ok(output),
         Err(_) => Ok(Vec::with_capacity(alloc, 36_000)?),
     }
 }
 
 /// The state of index 5 of 5/2, made at the first or at the second try.
 fn world_at_last(alloc: Global) -> Result<MemoryWorld, Fail> {
-    let image = image_of(&CHEAP, 5)?;
-    let text = image.as_slice();
-    if text.len() > 256 {
-        return Err(Fail::from("a text of over 256 bytes"));
-    }
-    let store = match MemoryStore::new(alloc, Some(text), 8) {
-        Ok(store) => store,
-        Err(_) => MemoryStore::new(alloc, Some(text), 8)?,
-    };
     let mut world = MemoryWorld::new(alloc);
-    world.set_state(store);
+    world.set_state(store_at(alloc, &CHEAP, 5)?);
     Ok(world)
 }
 
-/// `rt test` refuses no memory. At the top of the workspace,
-/// `tests/refused lms_tool_tests tests::batch_faults::a_batch_says_what_it_used` refuses each request in turn. A refusal while the answers are
-/// made shows nothing.
+/// The merge check refuses each request for memory in turn. A refusal while the answers are made
+/// shows nothing.
 #[test]
 fn a_batch_says_what_it_used(rt: HostRuntime) -> Result<(), Fail> {
     let answers = match eight_answers(&rt)? {
@@ -320,10 +323,10 @@ fn a_batch_says_what_it_used(rt: HostRuntime) -> Result<(), Fail> {
         None => eight_answers(&rt)?.ok_or("a second try")?,
     };
     let mut world = world_at_last(rt.alloc())?;
-    let output = roomy(rt.alloc())?;
+    let output = no_output(rt.alloc())?;
     let first = end_of_batch_to(&rt, &mut world, "4", FOUR_LINES, output);
     let between = used(&world)?;
-    let output = roomy(rt.alloc())?;
+    let output = no_output(rt.alloc())?;
     let second = end_of_batch_to(&rt, &mut world, "4", FOUR_LINES, output);
     let after = used(&world)?;
     assert!(rt; is_true(&first, &answers, 0, between));

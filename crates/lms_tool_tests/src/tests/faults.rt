@@ -1,8 +1,8 @@
 //! States, files and streams that fail, in memory.
-use super::states::{is_with, keyed, store_at, store_of};
-use super::words::{INFO, ONE, SIGN, keygen};
+use super::arguments::{INFO, ONE, SIGN, keygen};
+use super::states::{is_with, keyed, store_at};
 use super::{Closed, VERIFY, fails_with, is_unprinted, says};
-use lms_book::Left;
+use lms_book::{Left, MemoryStore};
 use lms_world::{Log, MemoryWorld, World, WorldFault};
 use std::alloc::Global;
 use std::sync::Wait;
@@ -21,10 +21,10 @@ fn unreadable(alloc: Global) -> Result<MemoryWorld, Fail> {
 /// Whether a command ends where the state can't be read, and leaves it.
 fn is_unread(
     rt: &(impl Threads + Wait + AllocGlobal + Sync),
-    words: &[&str],
+    arguments: &[&str],
 ) -> Result<bool, Fail> {
     let mut world = unreadable(rt.alloc())?;
-    let failed = fails_with(rt, words, &mut world, 3, "error: cannot read state\n");
+    let failed = fails_with(rt, arguments, &mut world, 3, "error: cannot read state\n");
     Ok(failed && is_with(&world, &ONE, 5, 0, 0))
 }
 
@@ -43,7 +43,7 @@ fn is_missing(alloc: Global, world: &MemoryWorld, name: &str) -> bool {
 /// No state, and a store whose next write fails, and leaves the old text or the new one.
 fn no_state(alloc: Global, left: Left) -> Result<MemoryWorld, Fail> {
     let mut world = MemoryWorld::new(alloc);
-    let mut store = store_of(alloc, None)?;
+    let mut store = MemoryStore::new(alloc, None, 8)?;
     store.fail_replace(1, left);
     world.set_state(store);
     Ok(world)
@@ -67,7 +67,8 @@ fn cannot_store_a_new_key(rt: HostRuntime) -> Result<(), Fail> {
     Ok(())
 }
 
-/// A message, and a state of index 5 whose next write fails, and leaves the old text or the new one.
+/// A message, and a state of index 5 whose next write fails, and leaves the old text or the new
+/// one.
 fn unwritable(alloc: Global, left: Left) -> Result<MemoryWorld, Fail> {
     let mut world = keyed(alloc, &ONE, 5)?;
     let mut store = store_at(alloc, &ONE, 5)?;
@@ -82,7 +83,8 @@ fn burns(rt: &(impl Threads + Wait + AllocGlobal + Sync), world: &mut MemoryWorl
     fails_with(rt, &SIGN, world, 3, line) && is_missing(rt.alloc(), world, "text.sig")
 }
 
-/// Whether a write that fails, and leaves the old text or the new one, burns index 5, and the next signature says this.
+/// Whether a write that fails, and leaves the old text or the new one, burns index 5, and the next
+/// signature says this.
 fn burns_and_signs(
     rt: &(impl Threads + Wait + AllocGlobal + Sync),
     left: Left,
@@ -108,8 +110,8 @@ fn is_exhausted(rt: HostRuntime) -> Result<(), Fail> {
     Ok(())
 }
 
-/// Whether a `sign` from index 5 on, for which the file of a name fails, ends with this status and this line, and uses so many
-/// indices.
+/// Whether a `sign` from index 5 on, for which the file of a name fails, ends with this status and
+/// this line, and uses so many indices.
 fn fails_to_sign(
     rt: &(impl Threads + Wait + AllocGlobal + Sync),
     name: &str,
@@ -139,7 +141,7 @@ fn cannot_read_the_message(rt: HostRuntime) -> Result<(), Fail> {
     Ok(())
 }
 
-/// A signature that can't be written has used its index, and want of memory is not said.
+/// A signature that can't be written has used its index, and the fault is never `OutOfMemory`.
 #[test]
 fn cannot_write_a_signature(rt: HostRuntime) -> Result<(), Fail> {
     assert!(rt; fails_to_sign(&rt, "text.sig", WorldFault::Device, 6, UNWRITTEN, 1)?);
@@ -147,7 +149,8 @@ fn cannot_write_a_signature(rt: HostRuntime) -> Result<(), Fail> {
     Ok(())
 }
 
-/// Whether a `keygen` that can't write the public key ends with this status and this line, and leaves the state.
+/// Whether a `keygen` that can't write the public key ends with this status and this line, and
+/// leaves the state.
 fn leaves_a_state(
     rt: &(impl Threads + Wait + AllocGlobal + Sync),
     fault: WorldFault,

@@ -1,7 +1,7 @@
 //! What `keygen` and `sign` keep of a key's trees beside its state.
+use super::arguments::{CHEAP, CHEAP_TWICE, ONE, SIGN, TWO, keygen};
 use super::meter::tells_of;
 use super::states::{is_with, keyed, store_at};
-use super::words::{CHEAP, CHEAP_TWICE, ONE, SIGN, TWO, keygen};
 use super::{Closed, VERIFY, fails_with, is_unprinted, says};
 use lms_book::Left;
 use lms_world::{Log, MemoryWorld, World, WorldFault};
@@ -39,7 +39,7 @@ fn signs(
     says(rt, &SIGN, world, 0, index) && says(rt, &VERIFY, world, 0, "valid\n")
 }
 
-/// `keygen` keeps the top tree, `sign` those below it, and what is kept is worked out no more.
+/// `keygen` keeps the top tree, `sign` those below it, and what is kept is not computed again.
 #[test]
 fn what_is_kept_is_not_worked_out_again(rt: HostRuntime) -> Result<(), Fail> {
     let mut world = MemoryWorld::new(rt.alloc());
@@ -59,7 +59,8 @@ fn what_is_kept_is_not_worked_out_again(rt: HostRuntime) -> Result<(), Fail> {
     Ok(())
 }
 
-/// Whether a key with this kept beside it signs by index 5 as one with nothing does, and then keeps the same.
+/// Whether a key with this kept beside it signs by index 5 as one with nothing does, and then keeps
+/// the same.
 fn signs_with(
     rt: &(impl Threads + Wait + AllocGlobal + Sync),
     nodes: &[u8],
@@ -117,7 +118,8 @@ fn goes_on_where_nothing_can_be_kept(rt: HostRuntime) -> Result<(), Fail> {
     Ok(())
 }
 
-/// Nothing is kept before the state is stored, and it is before the output, whatever becomes of that.
+/// Nothing is kept before the state is stored, and it is before the output, whatever becomes of
+/// that.
 #[test]
 fn is_kept_after_the_state_and_before_the_output(rt: HostRuntime) -> Result<(), Fail> {
     let mut unstored = keyed(rt.alloc(), &CHEAP, 5)?;
@@ -177,7 +179,8 @@ fn signed_by(
     ))
 }
 
-/// Over the end of a bottom tree: by nothing, by what was kept for the index before, and by what was kept for the first one.
+/// Over the end of a bottom tree: by nothing, by what was kept for the index before, and by what
+/// was kept for the first one.
 #[test]
 fn signs_alike_by_whatever_was_kept(rt: HostRuntime) -> Result<(), Fail> {
     let (_, oldest) = signed_by(&rt, 30, "index 30\n", None)?;

@@ -1,6 +1,6 @@
 //! Each line is printed by one write, and passed on.
+use super::arguments::{INFO, SIGN, keygen};
 use super::states::keyed_with;
-use super::words::{INFO, SIGN, keygen};
 use super::{VERIFY, status_of};
 use lms_commands::{Fault, print_fault};
 use lms_params::{LmsType, OtsType};
@@ -43,14 +43,14 @@ impl Write for Marked {
 /// Whether a run prints this output and these errors, with their marks.
 fn prints(
     rt: &(impl Threads + Wait + AllocGlobal + Sync),
-    words: &[&str],
+    arguments: &[&str],
     world: &mut MemoryWorld,
     output: &str,
     errors: &str,
 ) -> bool {
     let mut printed = Marked(Vec::new(rt.alloc()));
     let mut complained = Marked(Vec::new(rt.alloc()));
-    status_of(rt, words, world, &mut printed, &mut complained);
+    status_of(rt, arguments, world, &mut printed, &mut complained);
     printed.0.as_slice() == output.as_bytes() && complained.0.as_slice() == errors.as_bytes()
 }
 
@@ -78,15 +78,15 @@ fn each_line_is_one_write(rt: HostRuntime) -> Result<(), Fail> {
 }
 
 /// Whether a run prints its output or its errors as a whole, and passes them on.
-fn passes_on(rt: &(impl Threads + Wait + AllocGlobal + Sync), words: &[&str]) -> bool {
+fn passes_on(rt: &(impl Threads + Wait + AllocGlobal + Sync), arguments: &[&str]) -> bool {
     let mut output = Marked(Vec::new(rt.alloc()));
     let mut errors = Marked(Vec::new(rt.alloc()));
     let mut world = MemoryWorld::new(rt.alloc());
-    status_of(rt, words, &mut world, &mut output, &mut errors);
+    status_of(rt, arguments, &mut world, &mut output, &mut errors);
     output.0.ends_with(b"\n|!") != errors.0.ends_with(b"\n|!")
 }
 
-/// Help and a mistake in the words have many lines, and are passed on as a whole.
+/// Help and the message on a mistake in the arguments have many lines, and are printed as a whole.
 #[test]
 fn texts_of_clap_are_passed_on(rt: HostRuntime) {
     assert!(rt; passes_on(&rt, &["lms_tool", "--help"]));

@@ -1,6 +1,6 @@
 //! Commands to which memory is refused once, where it is.
+use super::arguments::{CHEAP_TWICE, INFO, SIGN, keygen};
 use super::states::is_with;
-use super::words::{CHEAP_TWICE, INFO, SIGN, keygen};
 use super::{Ended, VERIFY, end_of};
 use lms_world::{Log, MemoryWorld, World};
 use std::alloc::Global;
@@ -46,21 +46,23 @@ fn signs(
     )
 }
 
-/// Makes a key, at the second try where memory was refused at the first, unless the first try made its state.
+/// Makes a key, at the second try where memory was refused at the first, unless the first try made
+/// its state.
 fn makes_a_key(rt: &(impl Threads + Wait + AllocGlobal + Sync), world: &mut MemoryWorld) -> bool {
-    let words = keygen("5/2,5/2");
-    let first = end_of(rt, &words, world);
+    let arguments = keygen("5/2,5/2");
+    let first = end_of(rt, &arguments, world);
     match (first.status, first.errors()) {
         (0, "") | (6, "error: cannot write output\n") => true,
         (5, "error: out of memory\n") => {
             let made = is_with(world, &CHEAP_TWICE, 0, 0, 0);
-            end_of(rt, &words, world).status == if made { 3 } else { 0 }
+            end_of(rt, &arguments, world).status == if made { 3 } else { 0 }
         }
         _ => false,
     }
 }
 
-/// Whether a command that changes nothing ended with this status, or as one that was refused memory.
+/// Whether a command that changes nothing ended with this status, or as one that was refused
+/// memory.
 fn ends_or_is_refused(end: &Ended, status: u8) -> bool {
     match (end.status, end.errors()) {
         (5, "error: out of memory\n") | (6, "error: cannot write output\n") => true,
@@ -68,15 +70,16 @@ fn ends_or_is_refused(end: &Ended, status: u8) -> bool {
     }
 }
 
-/// Asks twice for what changes nothing, and says whether it ended so at least once, and else as one that was refused memory.
+/// Asks twice for what changes nothing, and says whether it ended so at least once, and else as one
+/// that was refused memory.
 fn ends_once(
     rt: &(impl Threads + Wait + AllocGlobal + Sync),
-    words: &[&str],
+    arguments: &[&str],
     world: &mut MemoryWorld,
     status: u8,
 ) -> bool {
-    let first = end_of(rt, words, world);
-    let second = end_of(rt, words, world);
+    let first = end_of(rt, arguments, world);
+    let second = end_of(rt, arguments, world);
     ends_or_is_refused(&first, status)
         && ends_or_is_refused(&second, status)
         && (first.status == status || second.status == status)
@@ -102,8 +105,7 @@ fn verified(alloc: Global, world: &MemoryWorld) -> u8 {
     if is_published(alloc, world) { 0 } else { 6 }
 }
 
-/// `rt test` refuses no memory. At the top of the workspace,
-/// `tests/refused lms_tool_tests tests::memory::refused_memory_is_said` refuses each request in turn.
+/// The merge check refuses each request for memory in turn.
 #[test]
 fn refused_memory_is_said(rt: HostRuntime) -> Result<(), Fail> {
     let mut world = with_text(rt.alloc())?;

@@ -1,10 +1,10 @@
-//! What a run that works out trees tells on standard error.
+//! What a run that computes trees prints to standard error.
+use super::arguments::{INFO, SIGN, keygen};
 use super::batch::{TWO_LINES, batch};
 use super::lines::Marked;
-use super::words::{INFO, SIGN, keygen};
+use lms_cli::run::run_watched;
 use lms_hss::Progress;
 use lms_meter::{Meter, Wiping};
-use lms_program::run::run_watched;
 use lms_world::{Log, MemoryWorld, Printer, World};
 use std::fmt::Display;
 use std::io;
@@ -15,7 +15,7 @@ use std::test::Fail;
 use std::thread::Threads;
 use std::time::{Clock, Duration};
 
-/// A clock that stands until it is set, in milliseconds.
+/// A clock that moves only where it is set, in milliseconds.
 #[derive(Drop)]
 struct SetClock {
     milliseconds: AtomicU64,
@@ -128,7 +128,8 @@ fn on_a_terminal_a_line_goes_before_others_come(rt: HostRuntime) -> Result<(), F
     Ok(())
 }
 
-/// Adds up what it is told, and keeps whether it was told of more leaves than were to be worked out by then.
+/// Adds up what is reported, and keeps whether more leaves were reported than were announced by
+/// then.
 #[derive(Drop)]
 struct Sums {
     to_do: AtomicU64,
@@ -152,10 +153,10 @@ impl Progress for Sums {
     }
 }
 
-/// Whether a run is done, and tells that it is to work out so many leaves, and then of each.
+/// Whether a run is done, announces so many leaves, and reports each.
 pub(super) fn tells_of(
     rt: &(impl Threads + Wait + AllocGlobal + Sync),
-    words: &[&str],
+    arguments: &[&str],
     world: &mut MemoryWorld,
     input: &[u8],
     leaves: u64,
@@ -171,7 +172,7 @@ pub(super) fn tells_of(
     let status = run_watched(
         rt,
         rt.alloc(),
-        words,
+        arguments,
         world,
         &mut Log::new(),
         &mut rest,

@@ -1,64 +1,25 @@
 //! States of keys, and worlds that have them.
 use lms_book::MemoryStore;
-use lms_hss::{HssKey, Levels};
-use lms_image::{Image, ImageBytes, encode_image};
+use lms_fixtures::{image_of, image_with, key_of, store_of};
 use lms_params::{LmsType, OtsType};
 use lms_world::{Log, MemoryWorld, World};
 use std::alloc::Global;
 use std::test::Fail;
-
-/// The text of the state with these levels and these numbers. `None` where there is no such state.
-fn image_with(
-    levels: &[(LmsType, OtsType)],
-    counter: u64,
-    openings: u64,
-    burnt: u64,
-) -> Option<ImageBytes> {
-    let key = HssKey::new(Levels::new(levels).ok()?, [0x11; 32], [0x22; 16]);
-    if counter > key.capacity() || openings > counter || burnt > counter {
-        return None;
-    }
-    Some(encode_image(&Image {
-        key,
-        counter,
-        openings,
-        burnt,
-    }))
-}
-
-/// The text of the state with these levels and this counter, with no opening counted and no index lost.
-pub(super) fn image_of(levels: &[(LmsType, OtsType)], counter: u64) -> Result<ImageBytes, Fail> {
-    Ok(image_with(levels, counter, 0, 0).ok_or("a state with this counter")?)
-}
-
-pub(super) fn store_of(alloc: Global, text: Option<&[u8]>) -> Result<MemoryStore, Fail> {
-    if let Some(text) = text {
-        if text.len() > 256 {
-            return Err(Fail::from("a text of over 256 bytes"));
-        }
-    }
-    Ok(
-        MemoryStore::new(alloc, text, 8)
-            .ok()
-            .ok_or("memory for a store")?,
-    )
-}
 
 /// A store with the state of these levels and this counter.
 pub(super) fn store_at(
     alloc: Global,
     levels: &[(LmsType, OtsType)],
     counter: u64,
-) -> Result<MemoryStore, Fail> {
-    let image = image_of(levels, counter)?;
-    store_of(alloc, Some(image.as_slice()))
+) -> Result<MemoryStore, &'static str> {
+    lms_fixtures::store_at(alloc, key_of(levels, 0x11)?, counter)
 }
 
-/// A message, and a state of this text.
-pub(super) fn stated(alloc: Global, text: &[u8]) -> Result<MemoryWorld, Fail> {
+/// A message, and a state of these bytes.
+fn stated(alloc: Global, bytes: &[u8]) -> Result<MemoryWorld, Fail> {
     let mut world = MemoryWorld::new(alloc);
     world.write(&mut Log::new(), "text", b"abc")?;
-    world.set_state(store_of(alloc, Some(text))?);
+    world.set_state(store_of(alloc, bytes)?);
     Ok(world)
 }
 
@@ -68,7 +29,7 @@ pub(super) fn keyed(
     levels: &[(LmsType, OtsType)],
     counter: u64,
 ) -> Result<MemoryWorld, Fail> {
-    stated(alloc, image_of(levels, counter)?.as_slice())
+    stated(alloc, image_of(key_of(levels, 0x11)?, counter)?.as_slice())
 }
 
 /// A message, and the state with these levels and these numbers.
@@ -79,14 +40,14 @@ pub(super) fn keyed_with(
     openings: u64,
     burnt: u64,
 ) -> Result<MemoryWorld, Fail> {
-    let image = image_with(levels, counter, openings, burnt).ok_or("a state with these numbers")?;
+    let image = image_with(key_of(levels, 0x11)?, counter, openings, burnt)?;
     stated(alloc, image.as_slice())
 }
 
-/// Whether the state has this text.
-pub(super) fn has_text(world: &MemoryWorld, text: &[u8]) -> bool {
+/// Whether the state has these bytes.
+fn has_bytes(world: &MemoryWorld, bytes: &[u8]) -> bool {
     match world.state() {
-        Some(store) => store.text() == Some(text),
+        Some(store) => store.text() == Some(bytes),
         None => false,
     }
 }
@@ -99,8 +60,11 @@ pub(super) fn is_with(
     openings: u64,
     burnt: u64,
 ) -> bool {
-    match image_with(levels, counter, openings, burnt) {
-        Some(image) => has_text(world, image.as_slice()),
-        None => false,
+    let Ok(key) = key_of(levels, 0x11) else {
+        return false;
+    };
+    match image_with(key, counter, openings, burnt) {
+        Ok(image) => has_bytes(world, image.as_slice()),
+        Err(_) => false,
     }
 }

@@ -14,7 +14,7 @@ use std::process::Abort;
 use std::test::Fail;
 use std::thread::Threads;
 
-/// What serves the bottom subtree of a leaf, worked out.
+/// What serves the bottom subtree of a leaf, computed.
 fn kept(
     rt: &(impl Abort + AllocGlobal + Threads + Sync),
     key: TreeKey,
@@ -68,8 +68,8 @@ fn moved(
     Ok(tree.moved_to(rt, rt.alloc(), subtree, begun)?)
 }
 
-/// The same nodes, given, with the lowest bit of one byte of node `upper` and of node `lower` of the two lists changed, where there is such a
-/// node.
+/// The same nodes, given, with the lowest bit of one byte of node `upper` and of node `lower` of
+/// the two lists changed, where there is such a node.
 fn given(
     rt: &(impl Abort + AllocGlobal),
     tree: &KeptTree,
@@ -92,7 +92,8 @@ fn given(
 /// No node.
 const NONE: usize = usize::MAX;
 
-/// The last leaf of the first bottom subtree of 15/2 and the first of the next, and the last of all.
+/// The last leaf of the first bottom subtree of 15/2 and the first of the next, and the last of
+/// all.
 #[test]
 fn signs_in_each_subtree(rt: HostRuntime) -> Result<(), Fail> {
     let key = key_of(LmsType::H15, OtsType::W2);
@@ -112,7 +113,8 @@ fn signs_in_each_subtree(rt: HostRuntime) -> Result<(), Fail> {
     Ok(())
 }
 
-/// The same nodes sign alike; one more or one fewer are refused; a changed one changes the path or the public key alone.
+/// The same nodes sign alike; one more or one fewer are refused; a changed one changes the path or
+/// the public key alone.
 #[test]
 fn takes_the_nodes_as_given(rt: HostRuntime) -> Result<(), Fail> {
     let tree = kept(&rt, key_of(LmsType::H5, OtsType::W8), 0)?;
@@ -152,13 +154,14 @@ fn refuses_another_number_of_nodes(rt: HostRuntime) -> Result<(), Fail> {
     Ok(())
 }
 
-/// Only the root of the bottom subtree to which it moves is looked at; each leaf of that subtree is told of once.
+/// Only the root of the bottom subtree to which it moves is looked at; each leaf of that subtree is
+/// reported once.
 #[test]
 fn moves_on_where_the_root_is_right(rt: HostRuntime) -> Result<(), Fail> {
     let sums = Sums::new();
     let begun = Begun::new(&sums, 2048);
     let tree = kept(&rt, key_of(LmsType::H15, OtsType::W1), 0)?;
-    // Nodes 32 to 63 are the roots of the 32 bottom subtrees, and node r stands at place r - 1.
+    // Nodes 32 to 63 are the roots of the 32 bottom subtrees, and node r is at place r - 1.
     let other_root = given(&rt, &tree, 31 + 2, NONE)?.ok_or("as many nodes")?;
     assert!(rt; moved(&rt, other_root, 2, &begun)?.is_none());
     assert!(rt; sums.are(2048, 1024));
@@ -172,7 +175,8 @@ fn moves_on_where_the_root_is_right(rt: HostRuntime) -> Result<(), Fail> {
     Ok(())
 }
 
-/// `rt test` refuses no memory, and `tests/refused` each request of a test in turn: where a move is refused, a second tree moves.
+/// The merge check refuses each request for memory in turn: where a move is refused, a second tree
+/// moves.
 #[test]
 fn moves_after_refused_memory(rt: HostRuntime) -> Result<(), Fail> {
     let key = key_of(LmsType::H15, OtsType::W1);

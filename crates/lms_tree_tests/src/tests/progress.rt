@@ -1,4 +1,4 @@
-//! What a build tells of the leaves that it works out.
+//! What a build reports of the leaves that it computes.
 use super::key_of;
 use lms_params::{LmsType, OtsType};
 use lms_tree::{BandTree, Begun, OutOfMemory, Progress};
@@ -7,7 +7,7 @@ use std::sync::atomic::{AtomicU64, Ordering};
 use std::test::Fail;
 use std::thread::Threads;
 
-/// Adds up the leaves that are to be worked out, and those that are.
+/// Adds up the leaves that are announced, and those that are computed.
 #[derive(Drop)]
 pub(super) struct Sums {
     to_do: AtomicU64,
@@ -22,7 +22,7 @@ impl Sums {
         }
     }
 
-    /// Whether so many leaves were to be worked out, and so many were.
+    /// Whether so many leaves were announced, and so many computed.
     pub(super) fn are(&self, to_do: u64, done: u64) -> bool {
         self.to_do.load(Ordering::SeqCst) == to_do && self.done.load(Ordering::SeqCst) == done
     }
@@ -64,7 +64,7 @@ fn each_leaf_is_told_once(rt: HostRuntime) -> Result<(), Fail> {
     Ok(())
 }
 
-/// All memory is asked for before the first leaf. `rt test` refuses none, and `tests/refused` each request of a test in turn.
+/// All memory is asked for before the first leaf. The merge check refuses each request in turn.
 #[test]
 fn no_leaf_is_worked_out_where_memory_is_refused(rt: HostRuntime) {
     let sums = Sums::new();

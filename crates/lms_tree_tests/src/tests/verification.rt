@@ -1,8 +1,8 @@
 //! Messages that come in pieces, and messages that another hasher takes.
 use lms_params::{LmsType, OtsType, lms_sig_len};
 use lms_tree::{
-    ByEights, ChainEnds, NodeSource, OneByOne, TreeKey, Verifier, WholeTree, public_bytes,
-    sign_into, verify_with,
+    ByEights, ChainEnds, NodeSource, OneByOne, PublicKey, TreeKey, WholeTree, public_bytes,
+    sign_into,
 };
 use sha2::{Digest, Sha256};
 use std::alloc::AllocError;
@@ -11,48 +11,49 @@ use std::test::Fail;
 
 /// The verdict on a message that comes in two pieces.
 fn by_pieces<C: ChainEnds>(
-    public: &[u8],
+    key: &PublicKey,
     first: &[u8],
     second: &[u8],
     signature: &[u8],
-    way: C,
+    ends: C,
 ) -> bool {
-    let Some(mut verifier) = Verifier::begin(public, signature) else {
+    let Some(mut verifier) = key.verifier(signature) else {
         return false;
     };
     verifier.update(first);
     verifier.update(second);
-    verifier.finish(way)
+    verifier.finish(ends)
 }
 
 /// The verdict on a message that another hasher takes.
-fn by_hash<C: ChainEnds>(public: &[u8], message: &[u8], signature: &[u8], way: C) -> bool {
-    let Some(verifier) = Verifier::begin(public, signature) else {
+fn by_hash<C: ChainEnds>(key: &PublicKey, message: &[u8], signature: &[u8], ends: C) -> bool {
+    let Some(verifier) = key.verifier(signature) else {
         return false;
     };
     let mut hasher = Sha256::new();
     hasher.update(verifier.head());
     hasher.update(message);
-    verifier.finish_by_hash(&hasher.finalize(), way)
+    verifier.finish_by_hash(&hasher.finalize(), ends)
 }
 
 /// Whether a signature of `abc` is valid in all ways, and with another message in none.
-fn judges<C: ChainEnds>(public: &[u8], signature: &[u8], way: C) -> bool {
-    verify_with(public, b"abc", signature, way)
-        && by_pieces(public, b"", b"abc", signature, way)
-        && by_pieces(public, b"ab", b"c", signature, way)
-        && by_hash(public, b"abc", signature, way)
-        && !verify_with(public, b"abd", signature, way)
-        && !by_pieces(public, b"c", b"ab", signature, way)
-        && !by_hash(public, b"abd", signature, way)
+fn judges<C: ChainEnds>(key: &PublicKey, signature: &[u8], ends: C) -> bool {
+    key.accepts(b"abc", signature, ends)
+        && by_pieces(key, b"", b"abc", signature, ends)
+        && by_pieces(key, b"ab", b"c", signature, ends)
+        && by_hash(key, b"abc", signature, ends)
+        && !key.accepts(b"abd", signature, ends)
+        && !by_pieces(key, b"c", b"ab", signature, ends)
+        && !by_hash(key, b"abd", signature, ends)
 }
 
-/// A signature of `abc` is judged alike with its chains taken to their ends in both ways, and at another length in none.
-fn check_ways(rt: &impl Abort, public: &[u8], signature: &[u8]) {
-    assert!(rt; judges(public, signature, OneByOne));
-    assert!(rt; judges(public, signature, ByEights));
+/// A signature of `abc` is judged alike with its chains taken to their ends in both ways, and at
+/// another length in none.
+fn check_ways(rt: &impl Abort, key: &PublicKey, signature: &[u8]) {
+    assert!(rt; judges(key, signature, OneByOne));
+    assert!(rt; judges(key, signature, ByEights));
     let shorter = signature.get(1..).unwrap_or(&[]);
-    assert!(rt; Verifier::begin(public, shorter).is_none());
+    assert!(rt; key.verifier(shorter).is_none());
 }
 
 /// The signature of `abc` by a leaf that the tree serves.
@@ -78,6 +79,7 @@ fn takes_a_message_in_pieces(rt: HostRuntime) -> Result<(), Fail> {
     };
     let tree = WholeTree::build(&rt, rt.alloc(), key)?;
     let text = signature(&rt, &tree, 9)?;
-    check_ways(&rt, &public_bytes(&tree), &text);
+    let public = PublicKey::parse(&public_bytes(&tree)).ok_or("a public key")?;
+    check_ways(&rt, &public, &text);
     Ok(())
 }

@@ -26,7 +26,8 @@ fn gives_none<W: World<Log = Log>>(alloc: Global, world: &W, lock: &W::Lock, mos
         .is_none()
 }
 
-/// Whether these bytes are written, and read where no more are asked for, and nothing where one less is.
+/// Whether these bytes are written, and read where no more are asked for, and nothing where one
+/// less is.
 fn keeps<W: World<Log = Log>>(alloc: Global, world: &mut W, lock: &W::Lock, text: &[u8]) -> bool {
     let written = world
         .write_nodes(alloc, &mut Log::new(), lock, text)
@@ -35,7 +36,8 @@ fn keeps<W: World<Log = Log>>(alloc: Global, world: &mut W, lock: &W::Lock, text
     written && read && (text.is_empty() || gives_none(alloc, world, lock, text.len() - 1))
 }
 
-/// Whether the nodes of the state of a name are kept, one text after another, and nothing is read before; the last one is `left`.
+/// Whether the nodes of the state of a name are kept, one text after another, and nothing is read
+/// before; the last one is `left`.
 fn keeps_each<W: World<Log = Log>>(
     alloc: Global,
     world: &mut W,
@@ -91,7 +93,7 @@ fn nodes_are_kept_on_a_disk(rt: HostRuntime) -> Result<(), Fail> {
     Ok(())
 }
 
-/// A folder stands in the way of the draft, so that what was kept is kept on.
+/// A folder is in the way of the draft, so what was kept stays.
 #[test]
 fn a_write_of_nodes_fails_on_a_disk(rt: HostRuntime) -> Result<(), Fail> {
     empty_folder(&rt, "disk_world_draft")?;
@@ -128,7 +130,7 @@ fn reads_none_of_what_is_written<W: World<Log = Log>>(
     Ok(written && none)
 }
 
-/// Where it can't be told what stands in their place, none are read.
+/// Where it can't be known what is in their place, none are read.
 #[test]
 fn what_can_not_be_told_is_not_read(rt: HostRuntime) -> Result<(), Fail> {
     empty_folder(&rt, "disk_world_told")?;
@@ -149,7 +151,8 @@ fn has(world: &MemoryWorld, text: &[u8]) -> bool {
     }
 }
 
-/// Whether a world in memory gives what was set, also once a file was written and a store taken and put back.
+/// Whether a world in memory gives what was set, also once a file was written and a store taken and
+/// put back.
 fn gives_what_was_set(alloc: Global) -> Result<bool, Fail> {
     let mut world = MemoryWorld::new(alloc);
     let none = world.nodes().is_none();

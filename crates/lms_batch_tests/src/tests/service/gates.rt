@@ -6,8 +6,8 @@ use std::thread;
 /// How often a worker looks for the other one.
 const TURNS: u32 = 10_000_000;
 
-/// A gate at which the signature of each of two places waits until that of the other has begun. It counts its calls, those after
-/// a signature only where that one had begun.
+/// A gate at which the signature of each of two places waits until that of the other has begun. It
+/// counts its calls, those after a signature only where that one had begun.
 #[derive(Drop)]
 pub(super) struct Meeting {
     has_begun: [AtomicBool; 2],
@@ -31,7 +31,7 @@ impl Meeting {
         self.is_missed.load(Ordering::SeqCst)
     }
 
-    /// Whether both signatures were told once before and once after.
+    /// Whether both signatures were reported once before and once after.
     pub(super) fn is_called_in_turn(&self) -> bool {
         self.begun.load(Ordering::SeqCst) == 2 && self.ended.load(Ordering::SeqCst) == 2
     }
@@ -69,11 +69,12 @@ impl Gate for Meeting {
     }
 }
 
-/// What a gate is told of four places where memory is refused once: 2 of each that was signed, 1 of the one that was burnt, and 0
-/// of those that were stopped.
+/// What is reported to a gate of four places where memory is refused once: 2 of each that was
+/// signed, 1 of the one that was burnt, and 0 of those that were stopped.
 const REFUSED_ONCE: [[usize; 4]; 4] = [[2, 2, 2, 1], [2, 2, 1, 0], [2, 1, 0, 0], [1, 0, 0, 0]];
 
-/// A gate that keeps how often it was called for each of four places, and whether a call came out of turn.
+/// A gate that keeps how often it was called for each of four places, and whether a call came out
+/// of turn.
 #[derive(Drop)]
 pub(super) struct Notes {
     calls: [AtomicUsize; 4],
@@ -116,11 +117,12 @@ impl Notes {
         self.counts() == [0; 4] && !self.is_out_of_turn.load(Ordering::SeqCst)
     }
 
-    /// Whether it was called in turn for each signature of a batch of four, and, where memory was refused, before the one that
-    /// was not made then. One worker goes on in the order of the places, until then.
+    /// Whether it was called in turn for each signature of a batch of four, and, where memory was
+    /// refused, before the one that was not made then. One worker goes on in the order of the
+    /// places, until then.
     pub(super) fn is_of(&self, batch: &Batch, workers: usize) -> bool {
         let mut counts = self.counts();
-        let is_as_told = match batch {
+        let is_as_reported = match batch {
             Batch::Complete { .. } => counts == [2; 4],
             Batch::Partial { start: _, slots } => {
                 let is_of_slots = are_of(&counts, slots);
@@ -131,7 +133,7 @@ impl Notes {
                 is_of_slots && REFUSED_ONCE.contains(&counts)
             }
         };
-        is_as_told && !self.is_out_of_turn.load(Ordering::SeqCst)
+        is_as_reported && !self.is_out_of_turn.load(Ordering::SeqCst)
     }
 }
 

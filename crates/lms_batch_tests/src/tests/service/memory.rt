@@ -2,38 +2,17 @@
 use super::gates::Notes;
 use super::outcome::Outcome;
 use super::{Asked, carry_out, jobs_of};
-use crate::tests::fixtures::{CHEAP, key_of, store_at};
+use crate::tests::fixtures::CHEAP;
 use crate::tests::slow;
 use lms_batch::{Batch, BatchFault, Job};
 use lms_book::{BookFault, Entry};
-use lms_hss::{Forest, HssKey};
+use lms_fixtures::{forest_of, key_of, signature_of, store_at};
+use lms_hss::HssKey;
 use std::alloc::Global;
 use std::process::Abort;
 use std::sync::Wait;
 use std::test::Fail;
 use std::thread::Threads;
-
-/// What signs indices 30 to 33 of a key, made at the first or at the second try.
-fn forest_of(rt: &(impl AllocGlobal + Threads + Sync), key: HssKey) -> Result<Forest, Fail> {
-    if key.capacity() < 34 {
-        return Err(Fail::from("a capacity of 1024"));
-    }
-    match Forest::cover(rt, rt.alloc(), key, 30, 4) {
-        Ok(forest) => Ok(forest),
-        Err(_) => Ok(Forest::cover(rt, rt.alloc(), key, 30, 4)?),
-    }
-}
-
-/// The signature of a job by an index, made at the first or at the second try.
-fn signature_of(forest: &Forest, g: u64, job: &Job) -> Result<Vec<u8>, Fail> {
-    if !forest.covers(g) {
-        return Err(Fail::from("an index that is covered"));
-    }
-    match forest.sign(g, &job.c, &job.message) {
-        Ok(signature) => Ok(signature),
-        Err(_) => Ok(forest.sign(g, &job.c, &job.message)?),
-    }
-}
 
 /// The signatures of four jobs by indices 30 to 33.
 fn signatures_of(
@@ -41,13 +20,13 @@ fn signatures_of(
     key: HssKey,
     jobs: &[Job],
 ) -> Result<Vec<Vec<u8>>, Fail> {
-    let forest = forest_of(rt, key)?;
+    let forest = forest_of(rt, key, 30, 4)?;
     let mut signatures = match Vec::with_capacity(rt.alloc(), 4) {
-        Ok(room) => room,
+        Ok(signatures) => signatures,
         Err(_) => Vec::with_capacity(rt.alloc(), 4)?,
     };
     for (job, g) in jobs.iter().zip(30..34) {
-        signatures.push(signature_of(&forest, g, job)?)?;
+        signatures.push(signature_of(&forest, g, &job.c, &job.message)?)?;
     }
     Ok(signatures)
 }
@@ -63,7 +42,7 @@ fn slow_ones(alloc: Global, jobs: &[Job], signatures: &[Vec<u8>]) -> Result<u64,
     Ok(count)
 }
 
-/// What batches are held against below is what the slow signer makes.
+/// The signatures that batches are compared with below are the slow signer's.
 #[test]
 fn four_signatures_are_the_slow_ones(rt: HostRuntime) -> Result<(), Fail> {
     let jobs = jobs_of(rt.alloc(), 4)?;
@@ -85,7 +64,8 @@ fn are_some_of(slots: &[Option<Vec<u8>>], expected: &[Vec<u8>]) -> bool {
     is_right && has_gap
 }
 
-/// Whether a batch begins with index 30 and has these signatures, or some of them, each in its slot.
+/// Whether a batch begins with index 30 and has these signatures, or some of them, each in its
+/// slot.
 fn is_of(batch: &Batch, expected: &[Vec<u8>]) -> bool {
     match batch {
         Batch::Complete { start, signatures } => {
@@ -102,7 +82,7 @@ fn signed_four(
     workers: usize,
     notes: &Notes,
 ) -> Result<Outcome, Fail> {
-    let store = store_at(rt.alloc(), &CHEAP, 0x11, 30)?;
+    let store = store_at(rt.alloc(), key_of(&CHEAP, 0x11)?, 30)?;
     let asked = Asked {
         jobs,
         lengths: &[4],
@@ -113,8 +93,9 @@ fn signed_four(
     carry_out(rt, store, &asked)
 }
 
-/// Whether the batch has these signatures, or some of them, or none, and the gate was told accordingly.
-fn is_as_told(outcome: &Outcome, expected: &[Vec<u8>], notes: &Notes, workers: usize) -> bool {
+/// Whether the batch has these signatures, or some of them, or none, and the same was reported to
+/// the gate.
+fn is_as_reported(outcome: &Outcome, expected: &[Vec<u8>], notes: &Notes, workers: usize) -> bool {
     if let Some(batch) = outcome.batch(0) {
         return is_of(batch, expected) && notes.is_of(batch, workers);
     }
@@ -131,7 +112,8 @@ fn is_counted(outcome: &Outcome) -> bool {
     outcome.has_counted(0, (1, 4, 0)) && outcome.has_ended(&[Entry::Given { len: 4 }], 34)
 }
 
-/// Whether all jobs are signed, or some, or none, with their indices used; or nothing is reserved. The gate is told accordingly.
+/// Whether all jobs are signed, or some, or none, with their indices used; or nothing is reserved.
+/// The same is reported to the gate.
 fn sign_four(
     rt: &(impl Abort + AllocGlobal + Threads + Wait + Sync),
     workers: usize,
@@ -140,12 +122,12 @@ fn sign_four(
     let notes = Notes::new();
     let outcome = signed_four(rt, &jobs, workers, &notes)?;
     let expected = signatures_of(rt, outcome.key, &jobs)?;
-    assert!(rt; is_as_told(&outcome, &expected, &notes, workers));
+    assert!(rt; is_as_reported(&outcome, &expected, &notes, workers));
     assert!(rt; is_counted(&outcome));
     Ok(())
 }
 
-/// `tests/refused` refuses each request for memory in turn.
+/// The merge check refuses each request for memory in turn.
 #[test]
 fn four_workers_after_refused_memory(rt: HostRuntime) -> Result<(), Fail> {
     sign_four(&rt, 4)

@@ -1,4 +1,4 @@
-//! What came of batches, and what tests ask of it.
+//! The results of batches, and what tests ask of them.
 ghost use Rattle.std.specs.Prelude.{◌≤◌};
 
 use crate::tests::is_complete;
@@ -9,14 +9,15 @@ use std::alloc::Global;
 use std::test::Fail;
 use std::thread::Threads;
 
-/// What came of a batch, and what its desk had counted then: entries, received, burnt.
+/// The result of a batch, and what its desk had counted then: entries, received, burnt.
 #[derive(Drop)]
 pub(super) struct Answer {
     pub(super) batch: Result<Batch, BatchFault>,
     pub(super) counts: (u64, u64, u64),
 }
 
-/// The key of a service, what came of the batches that were asked for, and the book that was settled then.
+/// The key of a service, the results of the batches that were asked for, and the book that was
+/// settled then.
 #[derive(Drop)]
 pub(super) struct Outcome {
     pub(super) key: HssKey,
@@ -25,7 +26,7 @@ pub(super) struct Outcome {
 }
 
 impl Outcome {
-    /// What came of the batch of this place.
+    /// The result of the batch of this place.
     pub(super) fn batch(&self, place: usize) -> Option<&Batch> {
         match self.answers.get(place) {
             Some(
@@ -64,7 +65,8 @@ impl Outcome {
         self.book.history() == history && self.book.counter() == counter
     }
 
-    /// Whether the batch of this place is complete, with the slow signer's signatures of these jobs from this index on.
+    /// Whether the batch of this place is complete, with the slow signer's signatures of these jobs
+    /// from this index on.
     pub(super) fn is_complete(
         &self,
         rt: &(impl AllocGlobal + Threads + Sync),

@@ -2,7 +2,7 @@ use Rattle.std.proofs.Common.{◌≡◌, ◌∙◌, [], length, ap, refl, subst}
 use Rattle.std.proofs.lemmas.Result.{IfErr-weaker, IfOk-weaker}
 use Rattle.lms_shared_book.specs.Desks.{SharedState, sums}
 use Rattle.lms_lines.specs.declared.fault.JobsFault.TheVariants as jobs
-use Rattle.lms_lines.specs.declared.signing.LinesFault.TheVariants as lines
+use Rattle.lms_lines.specs.declared.fault.LinesFault.TheVariants as lines
 use Rattle.lms_commands.specs.SharedBooks.{IsRefusedAt, IsSignedAt}
 use Rattle.lms_commands.proofs.Batches.{lent_one, settled_one, says_nothing}
 use Rattle.lms_commands.proofs.batch.sign_shared.Goals as goal

@@ -1,14 +1,16 @@
-use Rattle.std.proofs.Common.{subst, ap, codes, inr, refl, List, ℕ, Some, None, true, ◌≡◌, ◌∷◌, ◌++◌, ◌∙◌}
+use Rattle.std.proofs.Common.{subst, ap, codes, inr, refl, Bool, List, ℕ, Some, None, true, false, ◌≡◌, ◌∷◌, ◌++◌, ◌∙◌}
 use Rattle.std.specs.Prelude.{IfErr, OnOk}
 use Rattle.std.specs.Io.KnownBytes.{Appends}
 use Rattle.std.proofs.lemmas.Result.{IfErr-weaker}
 use Rattle.lms_spec.specs.Profile.{hss_public_key}
 use Rattle.lms_hss.specs.Keys.{hss_key_of}
 use Rattle.lms_hss.specs.declared.key.HssKey.{HssKey}
-use Rattle.lms_world.specs.Events.{Printing, Written}
+use Rattle.lms_kept.specs.Ways.{Way}
+use Rattle.lms_world.specs.Events.{Asked, Printing, Written}
+use Rattle.lms_world.specs.Known.{Bytes}
 use Rattle.lms_texts.specs.Descriptions.{number_line}
-use Rattle.lms_commands.specs.KeygenLogs.{IsUnpublished, StoresKey}
-use Rattle.lms_commands.specs.Logs.{WorldCalls}
+use Rattle.lms_commands.specs.KeygenLogs.{AreGenuineTrees, IsUnpublished, StoresKey, WritesKey}
+use Rattle.lms_commands.specs.Logs.{LogsKeeping, WorldCalls}
 use Rattle.lms_commands.proofs.Logged.{unmade}
 use Rattle.lms_commands.proofs.Failing.{both_ok, not_published}
 use Rattle.lms_commands.proofs.StayingRight.{only_from, right_still, stays_right}
@@ -54,6 +56,20 @@ returns-clause-nodes g c state locked =
     (λ _. ensures.genuine) refl (only_from trees old stored kept c.in_ok-store_key.ensures.nodes c.keep_trees.ensures.kept) in
     inr ((lacks, holds), right_still old kept new state c.args.key right c.publish.ensures.nodes)
 
+-- the public key was written or not, once the key's state was stored and trees of it were kept
+module _ (key : HssKey) (public : Bytes) (trees : Way) (old asked stored kept : WorldCalls) (genuine : AreGenuineTrees key (Some trees))
+    (asked_is : asked ≡ Asked false ∷ old) (stores : StoresKey key asked stored) (keeps : LogsKeeping (Some trees) stored kept) where
+  abbrev writes_so : (written : Bool) → WritesKey key public written old (Written public (hss_public_key (hss_key_of key)) written ∷ kept)
+  writes_so written = record {
+    trees = Some trees;
+    genuine = genuine;
+    until_stored = stored;
+    until_kept = kept;
+    stores = subst (λ (log : WorldCalls). StoresKey key log stored) asked_is stores;
+    keeps = keeps;
+    writes = refl;
+  }
+
 pub returns-clause-logged : goal.returns-clause-logged
 returns-clause-logged g c =
     let before = c.args.output.now in
@@ -61,20 +77,13 @@ returns-clause-logged g c =
     let kept = g.W.World.events c.keep_trees.new.log in
     let new = g.W.World.events c.publish.new.log in
     let public = hss_public_key (hss_key_of c.args.key) in
+    let genuine : AreGenuineTrees c.args.key (Some c.in_ok-trees.trees) = (c.in_ok-trees.ensures.key, c.in_ok-trees.ensures.genuine) in
     let is = c.public.ensures.right c.in_ok-trees.ensures.genuine ∙ ap (λ (key : HssKey). hss_public_key (hss_key_of key)) c.in_ok-trees.ensures.key in
     both_ok c.publish.result _ _ _
     (λ (logged : new ≡ Printing before ∷ Written c.args.public.now public true ∷ kept) printed. (
       record {
         until_written = Written c.args.public.now public true ∷ kept;
-        writes = record {
-          trees = Some c.in_ok-trees.trees;
-          genuine = (c.in_ok-trees.ensures.key, c.in_ok-trees.ensures.genuine);
-          until_stored = stored;
-          until_kept = kept;
-          stores = subst (λ (log : WorldCalls). StoresKey c.args.key log stored) c.if-exists.ensures.logged c.in_ok-store_key.ensures.logged;
-          keeps = c.keep_trees.ensures.logged;
-          writes = refl;
-        };
+        writes = writes_so c.args.key c.args.public.now c.in_ok-trees.trees _ _ stored kept genuine c.if-exists.ensures.logged c.in_ok-store_key.ensures.logged c.keep_trees.ensures.logged true;
         prints = logged;
       },
       printed ∙ ap (λ (n : ℕ). before ++ number_line (codes "capacity") n) c.capacity.ensures.capacity,
@@ -90,17 +99,10 @@ returns-clause-log_failed g c =
     let stored = g.W.World.events c.store_key.new.log in
     let kept = g.W.World.events c.keep_trees.new.log in
     let new = g.W.World.events c.publish.new.log in
+    let genuine : AreGenuineTrees c.args.key (Some c.in_ok-trees.trees) = (c.in_ok-trees.ensures.key, c.in_ok-trees.ensures.genuine) in
     let is = c.public.ensures.right c.in_ok-trees.ensures.genuine ∙ ap (λ (key : HssKey). hss_public_key (hss_key_of key)) c.in_ok-trees.ensures.key in
     IfErr-weaker c.publish.result _ _
-    (unmade c.args.key c.args.public.now before printed old kept new (λ written. record {
-      trees = Some c.in_ok-trees.trees;
-      genuine = (c.in_ok-trees.ensures.key, c.in_ok-trees.ensures.genuine);
-      until_stored = stored;
-      until_kept = kept;
-      stores = subst (λ (log : WorldCalls). StoresKey c.args.key log stored) c.if-exists.ensures.logged c.in_ok-store_key.ensures.logged;
-      keeps = c.keep_trees.ensures.logged;
-      writes = refl;
-    }))
+    (unmade c.args.key c.args.public.now before printed old kept new (writes_so c.args.key c.args.public.now c.in_ok-trees.trees old _ stored kept genuine c.if-exists.ensures.logged c.in_ok-store_key.ensures.logged c.keep_trees.ensures.logged))
     (subst (λ (n : ℕ). IfErr c.publish.result (λ fault. IsUnpublished c.args.public.now (hss_public_key (hss_key_of c.args.key)) (number_line (codes "capacity") n) before printed fault kept new))
     c.capacity.ensures.capacity
     (subst (λ (bytes : List ℕ). IfErr c.publish.result (λ fault. IsUnpublished c.args.public.now bytes (number_line (codes "capacity") c.capacity.result) before printed fault kept new)) is c.publish.ensures.failed))

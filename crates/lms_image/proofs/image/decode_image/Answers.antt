@@ -3,7 +3,7 @@ use Rattle.std.specs.Str.{bytes_eq}
 use Rattle.std.specs.Prelude.{Result, IsErrAnd}
 use Rattle.std.specs.Prelude.Result.{Ok, Err}
 use Rattle.sha2.specs.Sha256.{sha256}
-use Rattle.lms_image.specs.declared.image.ImageFault.{ImageFault}
+use Rattle.lms_image.specs.declared.fault.ImageFault.{ImageFault}
 use Rattle.lms_image.specs.Image.{fault_of}
 use Rattle.lms_image.proofs.Parts.{wrong-length, laid-out, damaged, whole, fault-read}
 use Rattle.lms_image.proofs.Images.{is-read, read-image, read-counted, read-counter-too-high, read-opening-too-high, read-burnt-too-high, read-no-fault}

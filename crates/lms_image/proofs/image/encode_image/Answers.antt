@@ -1,7 +1,8 @@
 use Rattle.std.proofs.Common.{◌≡◌, ◌++◌, map, ◌∙◌, ap, ap₂, append_assoc}
 use Rattle.sha2.specs.Sha256.{sha256}
 use Rattle.lms_image.specs.declared.version.Version.TheVariants.{Second}
-use Rattle.lms_image.specs.Image.{u64str, head_text, level_text, body_text, sealed, fields_of, image_of}
+use Rattle.lms_spec.specs.Bytes.{u64str}
+use Rattle.lms_image.specs.Image.{head_text, level_text, body_text, sealed, fields_of, image_of}
 use Rattle.lms_image.proofs.image.encode_image.Goals as goal
 
 pub returns : goal.returns

@@ -3,9 +3,10 @@ use super::{CHEAP, CHEAP_LINE, Scenario, carry_out, counts, has_four_answers};
 use crate::tests::push_line;
 use lms_batch::{Batch, BatchFault, SigningService};
 use lms_book::{BookFault, MemoryStore};
-use lms_hss::{Forest, HssKey};
+use lms_fixtures::{forest_of, signature_of};
+use lms_hss::HssKey;
 use lms_lines::{Done, JobsFault, LinesFault, sign_lines, write_batch};
-use lms_shared_book::{Desk, Tally};
+use lms_shared_book::{BookLedger, Desk};
 use std::alloc::Global;
 use std::process::Abort;
 use std::sync::Wait;
@@ -20,18 +21,18 @@ const C: [u8; 32] = [
 
 const MESSAGE: [u8; 2] = [0xab, 0xff];
 
-/// An empty text with room for four answer lines, made at the first or at the second try.
-fn roomy(alloc: Global) -> Result<Vec<u8>, Fail> {
+/// An empty text with the capacity for four answer lines, made at the first or at the second try.
+fn no_answers(alloc: Global) -> Result<Vec<u8>, Fail> {
     match Vec::with_capacity(alloc, 4 * CHEAP_LINE) {
-        Ok(room) => Ok(room),
+        Ok(text) => Ok(text),
         Err(_) => Ok(Vec::with_capacity(alloc, 4 * CHEAP_LINE)?),
     }
 }
 
-/// Four lines, with room made at the first or at the second try.
+/// Four lines, whose memory is taken at the first or at the second try.
 fn four_lines(alloc: Global) -> Result<Vec<u8>, Fail> {
     let mut text = match Vec::with_capacity(alloc, 512) {
-        Ok(room) => room,
+        Ok(text) => text,
         Err(_) => Vec::with_capacity(alloc, 512)?,
     };
     for _ in 0..4 {
@@ -40,39 +41,17 @@ fn four_lines(alloc: Global) -> Result<Vec<u8>, Fail> {
     Ok(text)
 }
 
-/// What signs indices 30 to 33 of a key, made at the first or at the second try.
-fn forest_of(rt: &(impl AllocGlobal + Threads + Sync), key: HssKey) -> Result<Forest, Fail> {
-    if key.capacity() < 34 {
-        return Err(Fail::from("a capacity of 1024"));
-    }
-    match Forest::cover(rt, rt.alloc(), key, 30, 4) {
-        Ok(forest) => Ok(forest),
-        Err(_) => Ok(Forest::cover(rt, rt.alloc(), key, 30, 4)?),
-    }
-}
-
-/// The signature of a line's job by an index, made at the first or at the second try.
-fn signature_of(forest: &Forest, g: u64) -> Result<Vec<u8>, Fail> {
-    if !forest.covers(g) {
-        return Err(Fail::from("an index that is covered"));
-    }
-    match forest.sign(g, &C, &MESSAGE) {
-        Ok(signature) => Ok(signature),
-        Err(_) => Ok(forest.sign(g, &C, &MESSAGE)?),
-    }
-}
-
 /// The four answers to lines signed from index 30 on.
 pub(super) fn four_answers(
     rt: &(impl AllocGlobal + Threads + Sync),
     key: HssKey,
 ) -> Result<Vec<u8>, Fail> {
-    let forest = forest_of(rt, key)?;
-    let mut text = roomy(rt.alloc())?;
+    let forest = forest_of(rt, key, 30, 4)?;
+    let mut text = no_answers(rt.alloc())?;
     for start in 30..34 {
-        let signature = signature_of(&forest, start)?;
+        let signature = signature_of(&forest, start, &C, &MESSAGE)?;
         let mut signatures = match Vec::with_capacity(rt.alloc(), 1) {
-            Ok(room) => room,
+            Ok(signatures) => signatures,
             Err(_) => Vec::with_capacity(rt.alloc(), 1)?,
         };
         signatures.push(signature)?;
@@ -81,7 +60,8 @@ pub(super) fn four_answers(
     Ok(text)
 }
 
-/// How many of the four answers make up a text, each at most once and in their order, or `None` where it is no such text.
+/// How many of the four answers make up a text, each at most once and in their order, or `None`
+/// where it is no such text.
 fn answers_in(text: &[u8], whole: &[u8]) -> Option<usize> {
     let mut rest = text;
     let mut count = 0_usize;
@@ -105,8 +85,9 @@ fn wanted(answer: Result<Done, LinesFault>) -> Option<(usize, u64)> {
     }
 }
 
-/// Signs four lines by four workers, and says how many answers were written, and how many indices it used.
-fn signed_by_four<E: Tally, G: Tally, B: Tally>(
+/// Signs four lines by four workers, and says how many answers were written, and how many indices
+/// it used.
+fn signed_by_four<E: BookLedger, G: BookLedger, B: BookLedger>(
     rt: &(impl AllocGlobal + Threads + Wait + Sync),
     service: &SigningService<MemoryStore, E, G, B>,
     desk: &mut Desk<E, G, B>,
@@ -118,15 +99,16 @@ fn signed_by_four<E: Tally, G: Tally, B: Tally>(
     Ok(wanted(answer))
 }
 
-/// Signs four lines from index 30 on: all are answered, or some, or none. Says how many indices it used.
-fn sign_from_30<E: Tally, G: Tally, B: Tally>(
+/// Signs four lines from index 30 on: all are answered, or some, or none. Says how many indices it
+/// used.
+fn sign_from_30<E: BookLedger, G: BookLedger, B: BookLedger>(
     rt: &(impl Abort + AllocGlobal + Threads + Wait + Sync),
     service: &SigningService<MemoryStore, E, G, B>,
     desk: &mut Desk<E, G, B>,
 ) -> Result<u64, Fail> {
     let whole = four_answers(rt, service.key())?;
     assert!(rt; has_four_answers(&whole, CHEAP_LINE, 30));
-    let mut text = roomy(rt.alloc())?;
+    let mut text = no_answers(rt.alloc())?;
     match signed_by_four(rt, service, desk, &mut text)? {
         Some((signed, used)) => {
             assert!(rt; answers_in(&text, &whole) == Some(signed));
@@ -138,7 +120,7 @@ fn sign_from_30<E: Tally, G: Tally, B: Tally>(
 }
 
 /// Whether all desks are there, and the book has used so many indices from index 30 on.
-fn has_used<E: Tally, G: Tally, B: Tally>(
+fn has_used<E: BookLedger, G: BookLedger, B: BookLedger>(
     service: SigningService<MemoryStore, E, G, B>,
     desks: Vec<Desk<E, G, B>>,
     used: u64,
@@ -149,9 +131,9 @@ fn has_used<E: Tally, G: Tally, B: Tally>(
     }
 }
 
-/// Signs four lines from index 30 on by four workers: all are answered, or some, or none, with their indices used; or nothing is
-/// reserved.
-pub(super) fn sign_four<E: Tally, G: Tally, B: Tally>(
+/// Signs four lines from index 30 on by four workers: all are answered, or some, or none, with
+/// their indices used; or nothing is reserved.
+pub(super) fn sign_four<E: BookLedger, G: BookLedger, B: BookLedger>(
     rt: &(impl Abort + AllocGlobal + Threads + Wait + Sync),
     service: SigningService<MemoryStore, E, G, B>,
     desks: Vec<Desk<E, G, B>>,
@@ -165,7 +147,7 @@ pub(super) fn sign_four<E: Tally, G: Tally, B: Tally>(
     Ok(())
 }
 
-/// `tests/refused` refuses each request for memory in turn.
+/// The merge check refuses each request for memory in turn.
 #[test]
 fn lines_after_refused_memory(rt: HostRuntime) -> Result<(), Fail> {
     carry_out(&rt, &CHEAP, Scenario::RefusedMemory)

@@ -5,7 +5,7 @@ use lms_batch::SigningService;
 use lms_book::MemoryStore;
 use lms_hss::Unwatched;
 use lms_lines::{SignedJobs, count_signatures, read_and_sign, write_batch};
-use lms_shared_book::{Desk, Tally};
+use lms_shared_book::{BookLedger, Desk};
 use std::alloc::Global;
 use std::sync::Wait;
 use std::test::Fail;
@@ -22,7 +22,7 @@ fn has_four(alloc: Global, jobs: &SignedJobs, first: u64) -> bool {
 }
 
 /// Whether four lines are read to their end and signed from this index on.
-pub(super) fn reads_and_signs<E: Tally, G: Tally, B: Tally>(
+pub(super) fn reads_and_signs<E: BookLedger, G: BookLedger, B: BookLedger>(
     rt: &(impl AllocGlobal + Threads + Wait + Sync),
     service: &SigningService<MemoryStore, E, G, B>,
     desk: &mut Desk<E, G, B>,

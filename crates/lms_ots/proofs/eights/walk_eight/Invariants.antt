@@ -1,10 +1,10 @@
 use Rattle.std.proofs.Common.{◌≡◌, ◌++◌, ◌<◌, ℕ, [], length, get_or, slice_index}
 use Rattle.lms_spec.specs.Bytes.{u16str}
-use Rattle.lms_spec.specs.Hashing.{place}
+use Rattle.lms_spec.specs.Hashing.{hash_prefix}
 use Rattle.lms_ots.proofs.eights.walk_eight.Given as goal
 
 abbrev pub invariant-lanes : goal.invariant-lanes
 invariant-lanes l = record {
   long : length l.heads ≡ 8;
-  heads : (j : ℕ) → j < l.k → get_or l.heads j [] ≡ place l.id.i l.id.q ++ u16str (slice_index l.fn.chains j);
+  heads : (j : ℕ) → j < l.k → get_or l.heads j [] ≡ hash_prefix l.id.i l.id.q ++ u16str (slice_index l.fn.chains j);
 }

@@ -3,7 +3,7 @@ use Rattle.std.specs.List.{concat}
 use Rattle.sha2.specs.Sha256.{sha256}
 use Rattle.lms_lanes.specs.Ends.{ends_text}
 use Rattle.lms_spec.specs.Bytes.{below, u16str}
-use Rattle.lms_spec.specs.Hashing.{chain_secret, d_pblc, place}
+use Rattle.lms_spec.specs.Hashing.{chain_secret, d_pblc, hash_prefix}
 use Rattle.lms_spec.specs.Ots.{chain, ends_hash, last_digit, public_hash}
 use Rattle.lms_spec.proofs.Below.{map-below-same}
 use Rattle.lms_params.specs.OtsType.{ots_set_of}
@@ -24,5 +24,5 @@ returns-clause-hashes c = λ k lt.
     map-below-same [] _ f t.p (λ i low. lane-from_seed id seed q i last i 255 _ seed refl refl steps refl (last_digit-byte c.args.t)) in
     c.hash_ends.ensures.hashes k lt
     ∙ ap (λ (front : List ℕ). sha256 (ends_text front d_pblc c.p.result 255 (c.last_digit.result + 1) seed)) (c.lanes.invariant.fronts k (omega (arith, lt)))
-    ∙ ap (λ (n : ℕ). sha256 (ends_text (place id q) d_pblc n 255 (c.last_digit.result + 1) seed)) c.p.ensures
-    ∙ ap (λ (values : List (List ℕ)). sha256 ((place id q ++ u16str d_pblc) ++ concat values)) ends
+    ∙ ap (λ (n : ℕ). sha256 (ends_text (hash_prefix id q) d_pblc n 255 (c.last_digit.result + 1) seed)) c.p.ensures
+    ∙ ap (λ (values : List (List ℕ)). sha256 ((hash_prefix id q ++ u16str d_pblc) ++ concat values)) ends

@@ -4,16 +4,16 @@ abbrev pub ghosts-three_desks-E-Ledger : goal.ghosts-three_desks-E-Ledger
 ghosts-three_desks-E-Ledger g a = record { name = a.blanks.entries.name; parts = a.blanks.entries.parts }
 
 abbrev pub ghosts-three_desks-G-Ledger : goal.ghosts-three_desks-G-Ledger
-ghosts-three_desks-G-Ledger g a = record { name = a.blanks.given.name; parts = a.blanks.given.parts }
+ghosts-three_desks-G-Ledger g a = record { name = a.blanks.received.name; parts = a.blanks.received.parts }
 
 abbrev pub ghosts-three_desks-B-Ledger : goal.ghosts-three_desks-B-Ledger
 ghosts-three_desks-B-Ledger g a = record { name = a.blanks.burnt.name; parts = a.blanks.burnt.parts }
 
-abbrev pub ghosts-three_desks-E-Tally : goal.ghosts-three_desks-E-Tally
-ghosts-three_desks-E-Tally g a = record { book = a.book }
+abbrev pub ghosts-three_desks-E-BookLedger : goal.ghosts-three_desks-E-BookLedger
+ghosts-three_desks-E-BookLedger g a = record { book = a.book }
 
-abbrev pub ghosts-three_desks-G-Tally : goal.ghosts-three_desks-G-Tally
-ghosts-three_desks-G-Tally g a = record { book = a.book }
+abbrev pub ghosts-three_desks-G-BookLedger : goal.ghosts-three_desks-G-BookLedger
+ghosts-three_desks-G-BookLedger g a = record { book = a.book }
 
-abbrev pub ghosts-three_desks-B-Tally : goal.ghosts-three_desks-B-Tally
-ghosts-three_desks-B-Tally g a = record { book = a.book }
+abbrev pub ghosts-three_desks-B-BookLedger : goal.ghosts-three_desks-B-BookLedger
+ghosts-three_desks-B-BookLedger g a = record { book = a.book }

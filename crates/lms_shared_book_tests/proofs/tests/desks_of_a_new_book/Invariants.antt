@@ -4,16 +4,16 @@ abbrev pub ghosts-many_desks-E-Ledger : goal.ghosts-many_desks-E-Ledger
 ghosts-many_desks-E-Ledger g a = record { name = a.blanks.entries.name; parts = a.blanks.entries.parts }
 
 abbrev pub ghosts-many_desks-G-Ledger : goal.ghosts-many_desks-G-Ledger
-ghosts-many_desks-G-Ledger g a = record { name = a.blanks.given.name; parts = a.blanks.given.parts }
+ghosts-many_desks-G-Ledger g a = record { name = a.blanks.received.name; parts = a.blanks.received.parts }
 
 abbrev pub ghosts-many_desks-B-Ledger : goal.ghosts-many_desks-B-Ledger
 ghosts-many_desks-B-Ledger g a = record { name = a.blanks.burnt.name; parts = a.blanks.burnt.parts }
 
-abbrev pub ghosts-many_desks-E-Tally : goal.ghosts-many_desks-E-Tally
-ghosts-many_desks-E-Tally g a = record { book = a.book }
+abbrev pub ghosts-many_desks-E-BookLedger : goal.ghosts-many_desks-E-BookLedger
+ghosts-many_desks-E-BookLedger g a = record { book = a.book }
 
-abbrev pub ghosts-many_desks-G-Tally : goal.ghosts-many_desks-G-Tally
-ghosts-many_desks-G-Tally g a = record { book = a.book }
+abbrev pub ghosts-many_desks-G-BookLedger : goal.ghosts-many_desks-G-BookLedger
+ghosts-many_desks-G-BookLedger g a = record { book = a.book }
 
-abbrev pub ghosts-many_desks-B-Tally : goal.ghosts-many_desks-B-Tally
-ghosts-many_desks-B-Tally g a = record { book = a.book }
+abbrev pub ghosts-many_desks-B-BookLedger : goal.ghosts-many_desks-B-BookLedger
+ghosts-many_desks-B-BookLedger g a = record { book = a.book }

@@ -1,15 +1,15 @@
-use Rattle.std.proofs.Common.{◌≡◌, ◌∙◌, ℕ, ◌+◌, List, ap, subst, sym}
+use Rattle.std.proofs.Common.{◌≡◌, ◌∙◌, ℕ, ◌+◌, List, ap, subst}
 use Rattle.std.specs.Prelude.{Ok}
 use Rattle.lms_hss.specs.declared.key.HssKey.{HssKey as KeyOfCode}
 use Rattle.lms_image.specs.Image.{image_of, HasImage}
 use Rattle.lms_image.specs.declared.image.Image.{Image}
 use Rattle.lms_book.specs.declared.history.Entry.TheVariants.{Burnt}
 use Rattle.lms_book.specs.History.{counter_of, burnt_after, confirmed}
-use Rattle.lms_book.specs.States.{BookState, LeaseState, ReservationsState, IsNextOf, IsOpenedFrom}
+use Rattle.lms_book.specs.States.{BookState, LeaseState, ReservationsState, IsNextOf, IsSameOpening}
 use Rattle.lms_book.specs.Stops.{after_write}
 use Rattle.lms_book.specs.Books.{Reserves}
 use Rattle.lms_book.proofs.Histories.{confirmed-push, text_after}
-use Rattle.lms_book.proofs.Storing.{with_given, with_burnt, backed_with_given, backed_with_burnt, opened_with_given, opened_with_burnt}
+use Rattle.lms_book.proofs.Storing.{book_of, with_given, with_burnt, backed_with_given, backed_with_burnt, same_with_given, same_with_burnt}
 use Rattle.lms_book.proofs.book.Book.reserve.Goals as goal
 
 -- the text of the next image
@@ -45,22 +45,24 @@ invariant_of-self-in-Err g c =
     let text = written c.as_slice.result.now c.encode_image-text.result r c.args.n c.next_image-image.result next c.as_slice.ensures.bytes c.encode_image-text.ensures in
     backed_with_burnt c.args.n r c.as_slice.result.now (g.S.StateStore.seen c.self.inside.store) _ text (next_counted r c.args.n c.next_image-image.result next) c.burn.new.self c.in-Ok.ensures.ok c.in-Err.ensures.writes c.self.invariant
 
-pub returns-in-Ok-replace-clause-opened : goal.returns-in-Ok-replace-clause-opened
-returns-in-Ok-replace-clause-opened g c held opened =
+pub returns-in-Ok-replace-clause-opening : goal.returns-in-Ok-replace-clause-opening
+returns-in-Ok-replace-clause-opening g c =
     let r = c.self.inside.reservations in
     let next = c.next_image-image.ensures in
     let text = written c.as_slice.result.now c.encode_image-text.result r c.args.n c.next_image-image.result next c.as_slice.ensures.bytes c.encode_image-text.ensures in
     let given = given_last r c.burn.new.self c.confirm.new.self c.args.n c.confirm.ensures c.in-Ok.ensures.ok in
-    let here = subst (λ (book : BookState). IsOpenedFrom held book) (sym c.self.view_is) opened in
-    opened_with_given c.args.n r c.as_slice.result.now (g.S.StateStore.seen c.self.inside.store) _ text (next_counted r c.args.n c.next_image-image.result next) c.confirm.new.self given c.in-Ok-replace.ensures.writes held here
+    let new = book_of c.confirm.new.self (g.S.StateStore.seen c.replace.new.self) in
+    subst (λ (old : BookState). IsSameOpening old new) c.self.view_is
+    (same_with_given c.args.n r c.as_slice.result.now (g.S.StateStore.seen c.self.inside.store) _ text (next_counted r c.args.n c.next_image-image.result next) c.confirm.new.self given c.in-Ok-replace.ensures.writes)
 
-pub returns-in-Err-clause-opened : goal.returns-in-Err-clause-opened
-returns-in-Err-clause-opened g c held opened =
+pub returns-in-Err-clause-opening : goal.returns-in-Err-clause-opening
+returns-in-Err-clause-opening g c =
     let r = c.self.inside.reservations in
     let next = c.next_image-image.ensures in
     let text = written c.as_slice.result.now c.encode_image-text.result r c.args.n c.next_image-image.result next c.as_slice.ensures.bytes c.encode_image-text.ensures in
-    let here = subst (λ (book : BookState). IsOpenedFrom held book) (sym c.self.view_is) opened in
-    opened_with_burnt c.args.n r c.as_slice.result.now (g.S.StateStore.seen c.self.inside.store) _ text (next_counted r c.args.n c.next_image-image.result next) c.burn.new.self c.in-Ok.ensures.ok c.in-Err.ensures.writes held here
+    let new = book_of c.burn.new.self (g.S.StateStore.seen c.replace.new.self) in
+    subst (λ (old : BookState). IsSameOpening old new) c.self.view_is
+    (same_with_burnt c.args.n r c.as_slice.result.now (g.S.StateStore.seen c.self.inside.store) _ text (next_counted r c.args.n c.next_image-image.result next) c.burn.new.self c.in-Ok.ensures.ok c.in-Err.ensures.writes)
 
 pub returns-in-Ok-replace-clause-reserves : goal.returns-in-Ok-replace-clause-reserves
 returns-in-Ok-replace-clause-reserves g c =
@@ -68,8 +70,7 @@ returns-in-Ok-replace-clause-reserves g c =
     let next = c.next_image-image.ensures in
     let text = written c.as_slice.result.now c.encode_image-text.result r c.args.n c.next_image-image.result next c.as_slice.ensures.bytes c.encode_image-text.ensures in
     let given = given_last r c.burn.new.self c.confirm.new.self c.args.n c.confirm.ensures c.in-Ok.ensures.ok in
-    let late = c.confirm.new.self in
-    let new : BookState = record { key = late.key; base = late.base; openings = late.openings; burnt = late.burnt; history = late.history; store = g.S.StateStore.seen c.replace.new.self } in
+    let new = book_of c.confirm.new.self (g.S.StateStore.seen c.replace.new.self) in
     let lease : LeaseState = record { key = c.key-key.result; start = c.counter-start.result; len = c.args.n } in
     subst (λ (old : BookState). Reserves c.args.n old (Ok lease) new) c.self.view_is (
       (next_counted r c.args.n c.next_image-image.result next).within,

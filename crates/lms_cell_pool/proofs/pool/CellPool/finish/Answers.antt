@@ -1,15 +1,15 @@
 use Rattle.std.proofs.Common.{rules, ◌≡◌, ◌-◌, ◌≤◌, ◌<◌, List, [], ◌∷◌, ◌++◌, length, All, sym, ap, ◌∙◌, subst, arith, append_assoc}
 use Rattle.crossbeam_utils.specs.Seq.{cell_view}
 use Rattle.lms_spec.specs.Bytes.{below}
-use Rattle.lms_pool.specs.History.{places_in}
+use Rattle.lms_pool.specs.CallLog.{places_in}
 use Rattle.lms_pool.specs.States.{PoolState, SeatState}
 use Rattle.lms_pool.specs.Ends.{IsWhole}
-use Rattle.lms_pool.proofs.Histories.{once_each}
-use Rattle.lms_pool.proofs.Wholes.{Sums, Whole, hands_length, nothing_before, sums}
-use Rattle.lms_cell_pool.specs.Rule.{View, hands_in}
+use Rattle.lms_pool.proofs.CallLogs.{once_each}
+use Rattle.lms_pool.proofs.Wholes.{Sums, Whole, came, hands_length, nothing_before, sums}
+use Rattle.lms_cell_pool.specs.Rule.{View, hand_in, hands_in}
 use Rattle.lms_cell_pool.proofs.Steps.{finds}
 use Rattle.lms_cell_pool.proofs.Views.{hands_over, merges}
-use Rattle.lms_cell_pool.proofs.Ends.{came, ending}
+use Rattle.lms_cell_pool.proofs.Ends.{ending, own_view}
 use Rattle.lms_cell_pool.proofs.pool.CellPool.finish.Given.{Over}
 use Rattle.lms_cell_pool.proofs.pool.CellPool.finish.Goals as goal
 use Rattle.lms_cell_pool.proofs.pool.CellPool.finish.Goals.{After-load_as-found}
@@ -17,8 +17,8 @@ use Rattle.lms_cell_pool.proofs.pool.CellPool.finish.Goals.{After-load_as-found}
 pub loop-next-init : goal.loop-next-init
 loop-next-init g c =
     let last = c.last.inside in
-    let is = came c.args.self last.pool.value last.number last.stopped last.token.table_id (cell_view last.token) c.in-Some.last c.args.seats.items c.pop.new.self.items []
-    c.last.invariant c.last.view_is c.requires c.in-Some.ensures.items in (
+    let is = came own_view c.args.self last.pool.value last.number last.stopped last.token.table_id (hand_in (cell_view last.token)).log (cell_view last.token) c.in-Some.last c.args.seats.items c.pop.new.self.items []
+    c.last.invariant.of_pool c.last.invariant.alone c.last.view_is c.requires c.in-Some.ensures.items in (
       c.in-Some.last ∷ [],
       c.in-Some.ensures.items,
       is.table_is ∙ sym (ap (λ (p : PoolState). p.table) c.self.view_is),
@@ -33,8 +33,8 @@ split_pass-whole-requires g c =
     let next = c.next.inside in
     let front = c.pop-in-loop-next.new.self.items in
     let placed = i.1 ∙ ap (λ (seats : List SeatState). seats ++ i.0) c.in-Some-pop.ensures.items ∙ append_assoc front (c.in-Some-pop.next ∷ []) i.0 in
-    let is = came c.args.self next.pool.value next.number next.stopped next.token.table_id (cell_view next.token) c.in-Some-pop.next c.args.seats.items front i.0
-    c.next.invariant c.next.view_is c.requires placed in
+    let is = came own_view c.args.self next.pool.value next.number next.stopped next.token.table_id (hand_in (cell_view next.token)).log (cell_view next.token) c.in-Some-pop.next c.args.seats.items front i.0
+    c.next.invariant.of_pool c.next.invariant.alone c.next.view_is c.requires placed in
     (search rules, (search rules, (is.table_is ∙ sym (ap (λ (p : PoolState). p.table) c.self.view_is), hands_over next.token.id (cell_view next.token) _ is.alone)))
 
 pub join_pass-requires : goal.join_pass-requires
@@ -44,8 +44,8 @@ join_pass-requires g c =
     let next = c.next.inside in
     let front = c.pop-in-loop-next.new.self.items in
     let placed = i.1 ∙ ap (λ (seats : List SeatState). seats ++ i.0) c.in-Some-pop.ensures.items ∙ append_assoc front (c.in-Some-pop.next ∷ []) i.0 in
-    let is = came c.args.self next.pool.value next.number next.stopped next.token.table_id (cell_view next.token) c.in-Some-pop.next c.args.seats.items front i.0
-    c.next.invariant c.next.view_is c.requires placed in
+    let is = came own_view c.args.self next.pool.value next.number next.stopped next.token.table_id (hand_in (cell_view next.token)).log (cell_view next.token) c.in-Some-pop.next c.args.seats.items front i.0
+    c.next.invariant.of_pool c.next.invariant.alone c.next.view_is c.requires placed in
     let whole = c.split_pass-whole.ensures.given in
     let some_hand : 0 < length (hands_in (cell_view all)) = omega (arith, ap (λ (v : View). length (hands_in v)) i.3, hands_length i.0, i.5) in (
       search rules,
@@ -63,9 +63,9 @@ load_as-found-requires g c =
     let all = c.loop-next.all in
     (search rules, (search rules, (c.loop-next.invariant.2, finds all.id (cell_view all))))
 
--- what the last load tells: the history of all seats, and the numbers that it makes
+-- what the last load tells: the call log of all seats, and the numbers that it makes
 tallied : (g : Over) (c : After-load_as-found g)
-    → (w : Whole c.args.self.len c.load_as-found.result.gone c.loop-next.invariant.0) × Sums c.args.self.len c.load_as-found.result.gone c.loop-next.stopped w.log
+    → (w : Whole c.args.self.len c.load_as-found.result.taken c.loop-next.invariant.0) × Sums c.args.self.len c.load_as-found.result.taken c.loop-next.stopped w.log
 tallied g c =
     let pool = c.args.self in
     let i = c.loop-next.invariant in
@@ -76,7 +76,7 @@ tallied g c =
     let w = ending pool c.load_as-found.result (cell_view c.loop-next.all) (cell_view c.load_as-found.new.pass) here.items i.0 c.load_as-found.ensures.rule i.3 many none some
     (subst (All (λ (s : SeatState). s.pool ≡ pool)) i.1 c.requires) in
     let short : pool.len ≤ 1024 = omega (arith, c.self.invariant.lease.at_most, ap (λ (p : PoolState). p.len) c.self.view_is) in
-    (w, sums pool.len c.load_as-found.result.gone c.loop-next.stopped i.0 w short i.4)
+    (w, sums pool.len c.load_as-found.result.taken c.loop-next.stopped i.0 w short i.4)
 
 pub overflow_sub-result-2 : goal.overflow_sub-result-2
 overflow_sub-result-2 g c =

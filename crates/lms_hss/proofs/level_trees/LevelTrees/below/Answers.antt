@@ -20,8 +20,8 @@ use Rattle.lms_hss.proofs.level_trees.LevelTrees.below.Goals as goal
 there : (key : KeyOfCode) (k : ℕ) → k + 1 < length key.levels → k < length (hss_key_of key).levels
 there key k below = omega (arith, length-map key.levels level_of, below)
 
-pub tree-parent-requires-clause-from : goal.tree-parent-requires-clause-from
-tree-parent-requires-clause-from g c =
+pub tree-above-requires-clause-from : goal.tree-above-requires-clause-from
+tree-above-requires-clause-from g c =
     let key = hss_key_of c.args.key.now in
     omega (
       arith,
@@ -32,8 +32,8 @@ tree-parent-requires-clause-from g c =
       above-from key c.args.k c.args.start c.loop-number.number (there c.args.key.now c.args.k c.requires.below) (omega (arith, c.tree_number-first.ensures, c.loop-number.auto.number)),
     )
 
-pub tree-parent-requires-clause-to : goal.tree-parent-requires-clause-to
-tree-parent-requires-clause-to g c =
+pub tree-above-requires-clause-to : goal.tree-above-requires-clause-to
+tree-above-requires-clause-to g c =
     let key = hss_key_of c.args.key.now in
     omega (
       arith,
@@ -56,15 +56,15 @@ serves key k start last n p q level parent below held order from to at leaf foun
 
 pub child-requires-clause-from : goal.child-requires-clause-from
 child-requires-clause-from g c κs within =
-    (serves c.args.key.now c.args.k c.args.start c.args.last c.loop-number.number c.parent-parent.result.0 c.parent-parent.result.1 c.args.self.now c.tree-parent.result.now
+    (serves c.args.key.now c.args.k c.args.start c.args.last c.loop-number.number c.parent-parent.result.0 c.parent-parent.result.1 c.args.self.now c.tree-above.result.now
     c.requires.below c.requires.level c.requires.order (omega (arith, c.tree_number-first.ensures, c.loop-number.auto.number))
-    (omega (arith, c.tree_number-end.ensures, c.loop-number-test.true)) c.parent-parent.ensures.tree c.parent-parent.ensures.leaf c.tree-parent.ensures).0
+    (omega (arith, c.tree_number-end.ensures, c.loop-number-test.true)) c.parent-parent.ensures.tree c.parent-parent.ensures.leaf c.tree-above.ensures).0
 
 pub child-requires-clause-to : goal.child-requires-clause-to
 child-requires-clause-to g c κs within =
-    (serves c.args.key.now c.args.k c.args.start c.args.last c.loop-number.number c.parent-parent.result.0 c.parent-parent.result.1 c.args.self.now c.tree-parent.result.now
+    (serves c.args.key.now c.args.k c.args.start c.args.last c.loop-number.number c.parent-parent.result.0 c.parent-parent.result.1 c.args.self.now c.tree-above.result.now
     c.requires.below c.requires.level c.requires.order (omega (arith, c.tree_number-first.ensures, c.loop-number.auto.number))
-    (omega (arith, c.tree_number-end.ensures, c.loop-number-test.true)) c.parent-parent.ensures.tree c.parent-parent.ensures.leaf c.tree-parent.ensures).1
+    (omega (arith, c.tree_number-end.ensures, c.loop-number-test.true)) c.parent-parent.ensures.tree c.parent-parent.ensures.leaf c.tree-above.ensures).1
 
 -- the sets of the next level
 sets-are : (key : KeyOfCode) (levels : List (LmsType × OtsType)) (k : ℕ) → levels ≡ key.levels → k + 1 < length key.levels
@@ -85,11 +85,11 @@ loop-number-preserved g c =
     let more = c.push_reserved.ensures.items in
     let trees = c.loop-number.trees.items in
     let tree = c.in_ok-child.field-0 in
-    let is = parent-is key k c.args.start c.args.last n c.parent-parent.result.0 c.args.self.now c.tree-parent.result.now (there c.args.key.now k c.requires.below)
-    c.requires.level c.parent-parent.ensures.tree c.tree-parent.ensures in
+    let is = parent-is key k c.args.start c.args.last n c.parent-parent.result.0 c.args.self.now c.tree-above.result.now (there c.args.key.now k c.requires.below)
+    c.requires.level c.parent-parent.ensures.tree c.tree-above.ensures in
     let sets = sets-are c.args.key.now c.as_slice.result.now k c.as_slice.ensures.levels c.requires.below in
     let held = holds-more key (k + 1) c.args.start c.args.last c.tree_number-first.result n trees tree c.loop-number.invariant.held c.loop-number.invariant.count
-    (λ i from to e. signed-child key i k c.parent-parent.result.1 (get_or c.as_slice.result.now (k + 1) (H5, W1)) c.leaves-leaves.result c.tree-parent.result.now tree (is i from to e)
+    (λ i from to e. signed-child key i k c.parent-parent.result.1 (get_or c.as_slice.result.now (k + 1) (H5, W1)) c.leaves-leaves.result c.tree-above.result.now tree (is i from to e)
     (c.parent-parent.ensures.leaf ∙ ap (λ m. m % 2 ^ (level_at key k).lms.h) (sym e)) sets
     (c.leaves-leaves.ensures.from i from e) (c.leaves-leaves.ensures.to i to e) c.in_ok-child.ensures) in
     record {

@@ -7,12 +7,12 @@ use Rattle.lms_hss.proofs.verification.SignedKey.parse.Goals as goal
 
 pub returns-in_err-signature-clause-none : goal.returns-in_err-signature-clause-none
 returns-in_err-signature-clause-none c =
-    rw c.from_residual-in_err-signature.ensures
+    rw c.from_residual.ensures
     (λ count message accepted.
     absurd (omega (
       arith,
       c.in_err-signature.ensures.cases,
-      accepted-long count c.in_ok-length.length c.args.signer.now message c.args.text.now c.in_ok-length.ensures.some accepted,
+      accepted-long count c.signature_len-length.result c.args.signer.now message c.args.text.now c.signature_len-length.ensures accepted,
     )))
 
 pub returns-in_err-key-clause-none : goal.returns-in_err-key-clause-none
@@ -24,13 +24,13 @@ returns-in_err-key-clause-none c =
       arith,
       c.in_err-key.ensures.cases,
       ap length cut.2,
-      length-drop c.in_ok-length.length c.args.text.now,
-      accepted-long count c.in_ok-length.length c.args.signer.now message c.args.text.now c.in_ok-length.ensures.some accepted,
+      length-drop c.signature_len-length.result c.args.text.now,
+      accepted-long count c.signature_len-length.result c.args.signer.now message c.args.text.now c.signature_len-length.ensures accepted,
     )))
 
 pub returns-clause-some : goal.returns-clause-some
 returns-clause-some c =
-    let n = c.in_ok-length.length in
+    let n = c.signature_len-length.result in
     let text = c.args.text.now in
     let first = c.in_ok-signature.ensures.cases in
     let second = c.in_ok-key.ensures.cases in
@@ -39,19 +39,19 @@ returns-clause-some c =
     let whole : signature ++ rest ≡ text = ap₂ (λ x y. x ++ y) first.1 first.2 ∙ take-append-drop n text in
     let others = ap₂ (λ x y. x ++ y) second.1 second.2 ∙ take-append-drop 56 rest in
     record {
-      signature_length = subst (λ n. HasSignaturesOf n c.args.signer.now) (sym (ap length first.1 ∙ length-take-le n text (omega (arith, first.0)))) c.in_ok-length.ensures.some;
+      signature_length = subst (λ n. HasSignaturesOf n c.args.signer.now) (sym (ap length first.1 ∙ length-take-le n text (omega (arith, first.0)))) c.signature_len-length.ensures;
       key_length = ap length second.1 ∙ length-take-le 56 rest (omega (arith, second.0));
       parts = sym whole ∙ (ap (λ rest. signature ++ rest) (sym others) ∙ sym (append_assoc signature _ _));
     }
 
 pub returns-in_err-signature-clause-not_cut : goal.returns-in_err-signature-clause-not_cut
 returns-in_err-signature-clause-not_cut c =
-    rw c.from_residual-in_err-signature.ensures
+    rw c.from_residual.ensures
     (λ signature key rest cut.
     absurd (omega (
       arith,
       c.in_err-signature.ensures.cases,
-      cut-long c.in_ok-length.length c.args.signer.now c.args.text.now signature key rest c.in_ok-length.ensures.some cut,
+      cut-long c.signature_len-length.result c.args.signer.now c.args.text.now signature key rest c.signature_len-length.ensures cut,
     )))
 
 pub returns-in_err-key-clause-not_cut : goal.returns-in_err-key-clause-not_cut
@@ -63,6 +63,6 @@ returns-in_err-key-clause-not_cut c =
       arith,
       c.in_err-key.ensures.cases,
       ap length front.2,
-      length-drop c.in_ok-length.length c.args.text.now,
-      cut-long c.in_ok-length.length c.args.signer.now c.args.text.now signature key rest c.in_ok-length.ensures.some cut,
+      length-drop c.signature_len-length.result c.args.text.now,
+      cut-long c.signature_len-length.result c.args.signer.now c.args.text.now signature key rest c.signature_len-length.ensures cut,
     )))

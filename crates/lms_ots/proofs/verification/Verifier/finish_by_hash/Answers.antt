@@ -1,7 +1,7 @@
 use Rattle.std.proofs.Common.{◌++◌, ap, ap₂, sym, ◌∙◌, subst}
 use Rattle.sha2.specs.Sha256.{sha256}
 use Rattle.lms_spec.specs.Bytes.{u16str}
-use Rattle.lms_spec.specs.Hashing.{d_mesg, place}
+use Rattle.lms_spec.specs.Hashing.{d_mesg, hash_prefix}
 use Rattle.lms_spec.specs.Ots.{message_hash, IsOtsSignature}
 use Rattle.lms_ots.proofs.OtsParts.{randomizer-of}
 use Rattle.lms_ots.proofs.verification.Verifier.finish_by_hash.Goals as goal
@@ -14,5 +14,5 @@ returns g c t id q signature before message taken hashed =
     at (c.candidate_by_hash.ensures signature message
     (subst (λ (t : _). IsOtsSignature t of_self.randomizer.now of_self.values.now signature) (sym taken.set_is) taken.signature_parts)
     (hashed
-    ∙ (ap (λ x. sha256 (place id q ++ u16str d_mesg ++ x ++ message)) (randomizer-of t of_self.randomizer.now of_self.values.now signature taken.signature_parts)
-    ∙ ap₂ (λ id q. sha256 (place id q ++ u16str d_mesg ++ of_self.randomizer.now ++ message)) (sym taken.id_is) (sym taken.leaf_is))))
+    ∙ (ap (λ x. sha256 (hash_prefix id q ++ u16str d_mesg ++ x ++ message)) (randomizer-of t of_self.randomizer.now of_self.values.now signature taken.signature_parts)
+    ∙ ap₂ (λ id q. sha256 (hash_prefix id q ++ u16str d_mesg ++ of_self.randomizer.now ++ message)) (sym taken.id_is) (sym taken.leaf_is))))

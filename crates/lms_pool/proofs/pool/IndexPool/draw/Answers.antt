@@ -1,6 +1,6 @@
 use Rattle.std.proofs.Common.{◌<◌, ◌+◌, ◌%◌, ◌^◌, true, refl, sym, ap, ◌∙◌, subst, arith}
-use Rattle.lms_pool.specs.declared.history.Call.TheVariants.{Claim}
-use Rattle.lms_pool.specs.History.{gone}
+use Rattle.lms_pool.specs.declared.call_log.Call.TheVariants.{Claim}
+use Rattle.lms_pool.specs.CallLog.{taken}
 use Rattle.lms_pool.specs.Rule.{the_hand, drawn, reply_at}
 use Rattle.lms_pool.specs.States.{PoolState, SeatState, seen}
 use Rattle.lms_pool.proofs.Steps.{draws}
@@ -15,14 +15,14 @@ fetch_add-place-requires c =
     let same = ap (λ (s : SeatState). s.pool) c.me.view_is ∙ c.requires.pool ∙ sym c.self.view_is in
     let before = subst (λ (s : SeatState). seen s < s.pool.len) (sym c.me.view_is) (subst (λ (p : PoolState). seen c.args.me.now < p.len) (sym c.requires.pool) c.requires.before) in
     asks me _ pool.word.shared.key (λ n. (n + 1) % 2 ^ 64) drawn same c.self.invariant c.me.invariant
-    (draws _ _ _ _ _ _ (subst (λ (p : PoolState). gone p.len log < p.len) same before))
+    (draws _ _ _ _ _ _ (subst (λ (p : PoolState). taken p.len log < p.len) same before))
 
 pub invariant_of-me : goal.invariant_of-me
 invariant_of-me c =
     let me = c.me.inside in
     let told = c.fetch_add-place.ensures in
     let long = ap (λ (s : SeatState). s.pool.len) c.me.view_is ∙ ap (λ (p : PoolState). p.len) (c.requires.pool ∙ sym c.self.view_is) in
-    let some = c.self.invariant.sized.lease.some in
+    let some = c.self.invariant.of_lease.lease.some in
     let sees = draw_ends me.pool.value.len c.fetch_add-place.result (omega (arith, long, some)) (omega (arith, long, c.if-place-self.true)) in
     (after_call me c.me.invariant Claim (reply_at me.pool.value.len c.fetch_add-place.result Claim) _ _ told.2 refl).stays me.stopped true _ told.0 (omega arith) sees
 

@@ -1,7 +1,7 @@
 use Rattle.std.proofs.Common.{min, sym, ap, ◌∙◌, refl, arith}
 use lib.Dec.{leb}
-use Rattle.lms_pool.specs.declared.history.Call.TheVariants as calls
-use Rattle.lms_pool.specs.declared.history.Reply.TheVariants.{Count}
+use Rattle.lms_pool.specs.declared.call_log.Call.TheVariants as calls
+use Rattle.lms_pool.specs.declared.call_log.Reply.TheVariants.{Count}
 use Rattle.lms_pool.specs.Rule.{looked}
 use Rattle.lms_pool.specs.States.{PoolState, SeatState}
 use Rattle.lms_pool.proofs.Steps.{looks}

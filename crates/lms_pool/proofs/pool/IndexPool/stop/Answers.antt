@@ -1,6 +1,6 @@
 use Rattle.std.proofs.Common.{◌≡◌, ◌+◌, ◌-◌, min, max, true, refl, sym, ap, ◌∙◌, arith}
-use Rattle.lms_pool.specs.declared.history.Call.TheVariants.{Stop}
-use Rattle.lms_pool.specs.declared.history.Reply.TheVariants.{Count}
+use Rattle.lms_pool.specs.declared.call_log.Call.TheVariants.{Stop}
+use Rattle.lms_pool.specs.declared.call_log.Reply.TheVariants.{Count}
 use Rattle.lms_pool.specs.Rule.{stopped}
 use Rattle.lms_pool.specs.States.{PoolState, SeatState}
 use Rattle.lms_pool.proofs.Steps.{stops}
@@ -20,7 +20,7 @@ overflow_add-me c =
     let burnt : me.pool.value.len - min c.fetch_max-found.result me.pool.value.len ≡ c.saturating_sub-burnt.result = omega (arith, c.saturating_sub-burnt.ensures, long) in
     let after = after_call me c.me.invariant Stop (Count c.saturating_sub-burnt.result) _ _ told.2 (ap Count burnt) in
     let stays = after.stays (me.stopped + c.saturating_sub-burnt.result) true _ told.0 refl (is_len me.pool.value.len) in
-    omega (arith, stays.few, long, c.self.invariant.sized.lease.at_most)
+    omega (arith, stays.of_pool.few, long, c.self.invariant.of_lease.lease.at_most)
 
 pub invariant_of-me : goal.invariant_of-me
 invariant_of-me c =

@@ -2,6 +2,8 @@ use Rattle.lms_tree.proofs.verification.Verifier.update.Goals as goal
 
 pub returns : goal.returns
 returns c public_key signature message taken = record {
+  lms = taken.lms;
+  ots = taken.ots;
   key_parts = taken.key_parts;
   q = taken.q;
   ots_part = taken.ots_part;

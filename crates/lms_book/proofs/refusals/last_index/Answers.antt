@@ -1,5 +1,0 @@
-use Rattle.std.proofs.Common.{rules}
-use Rattle.lms_book.proofs.refusals.last_index.Goals as goal
-
-pub returns : goal.returns
-returns c = search rules

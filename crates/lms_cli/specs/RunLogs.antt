@@ -1,0 +1,88 @@
+-- The calls that a run of the program makes on its world, one after another, the newest first.
+use Rattle.std.specs.Prelude.{◌≡◌, ◌⊎◌, ℕ, List, Option, string_bytes}
+use Rattle.clap.specs.Words.{Text}
+use Rattle.lms_hss.specs.declared.key.HssKey.{HssKey as KeyOfCode}
+use Rattle.lms_cli.specs.Commands.{AreTakenAs, AsksForHelp, IsMistaken}
+use Rattle.lms_commands.specs.BatchLogs.{LogsJobs, LogsJobsFailed}
+use Rattle.lms_commands.specs.Faults.{fault_line, status_of}
+use Rattle.lms_lines.specs.AnswerLines.{AppendsFront}
+use Rattle.lms_commands.specs.Keygen.{IsKeyOf, IsNoKey}
+use Rattle.lms_commands.specs.KeygenLogs.{LogsKeygen, LogsKeygenFailed}
+use Rattle.lms_commands.specs.Logs.{WorldCalls}
+use Rattle.lms_commands.specs.ReadingLogs.{LogsInfo, LogsInfoFailed, LogsVerify, LogsVerifyFailed}
+use Rattle.lms_commands.specs.SignLogs.{LogsSign, LogsSignFailed}
+use Rattle.lms_commands.specs.Verdicts.{verdict_status}
+use Rattle.lms_cli.specs.declared.command.types.Command.{Command}
+use Rattle.lms_cli.specs.declared.command.types.Command.TheVariants.{Batch, Info, Keygen, Sign, Verify}
+use Rattle.lms_commands.specs.declared.fault.Fault.{Fault}
+use Rattle.lms_commands.specs.declared.fault.Fault.TheVariants.{OutOfMemory, Output}
+use Rattle.lms_commands.specs.declared.status.Status.{Status}
+use Rattle.lms_commands.specs.declared.status.Status.TheVariants.{Done, Usage}
+use Rattle.lms_commands.specs.declared.verdict.Verdict.{Verdict}
+
+-- a command is done, and the program ends so
+abbrev pub LogsObeyed : Command → Status → Option (List ℕ) → Option (List ℕ) → List ℕ → List ℕ
+    → WorldCalls → WorldCalls → Type 0
+LogsObeyed (Keygen levels seed id state public) end input rest before printed old new = (end ≡ Done)
+    × ((key : KeyOfCode) × IsKeyOf (string_bytes levels) (string_bytes seed) (string_bytes id) key
+    × LogsKeygen key (string_bytes state) (string_bytes public) before printed old new)
+LogsObeyed (Info state) end input rest before printed old new =
+    (end ≡ Done) × LogsInfo (string_bytes state) before printed old new
+LogsObeyed (Sign state random message out) end input rest before printed old new = (end ≡ Done)
+    × LogsSign (string_bytes random) (string_bytes message) (string_bytes state)
+    (string_bytes out) before printed old new
+LogsObeyed (Batch state workers) end input rest before printed old new =
+    (end ≡ Done) × LogsJobs (string_bytes state) input rest before printed old new
+LogsObeyed (Verify public message signature) end input rest before printed old new =
+    (verdict : Verdict) × (end ≡ verdict_status verdict)
+    × LogsVerify (string_bytes public) (string_bytes message)
+    (string_bytes signature) verdict before printed old new
+
+-- a command fails
+abbrev pub LogsFailed : Command → Fault → Option (List ℕ) → Option (List ℕ) → List ℕ → List ℕ
+    → WorldCalls → WorldCalls → Type 0
+LogsFailed (Keygen levels seed id state public) fault input rest before printed old new =
+    (IsNoKey (string_bytes levels) (string_bytes seed) (string_bytes id) fault × (new ≡ old)
+    × (printed ≡ before))
+    ⊎ ((key : KeyOfCode) × IsKeyOf (string_bytes levels) (string_bytes seed) (string_bytes id) key
+    × LogsKeygenFailed key (string_bytes state) (string_bytes public) before printed fault old new)
+LogsFailed (Info state) fault input rest before printed old new =
+    LogsInfoFailed (string_bytes state) before printed fault old new
+LogsFailed (Sign state random message out) fault input rest before printed old new =
+    LogsSignFailed (string_bytes random) (string_bytes message) (string_bytes state)
+    (string_bytes out) before printed fault old new
+LogsFailed (Batch state workers) fault input rest before printed old new =
+    LogsJobsFailed (string_bytes state) input rest before printed fault old new
+LogsFailed (Verify public message signature) fault input rest before printed old new =
+    LogsVerifyFailed (string_bytes public) (string_bytes message)
+    (string_bytes signature) before printed fault old new
+
+-- a command that the arguments ask for is done; or they ask for help or are mistaken, and nothing
+-- is called
+abbrev pub LogsAnswered : List Text → Status → Option (List ℕ) → Option (List ℕ) → List ℕ → List ℕ
+    → WorldCalls → WorldCalls → Type 0
+LogsAnswered words end input rest before printed old new =
+    ((new ≡ old)
+    × ((AsksForHelp words × (end ≡ Done))
+    ⊎ (IsMistaken words × (end ≡ Usage) × (printed ≡ before))))
+    ⊎ ((command : Command) × AreTakenAs words command
+    × LogsObeyed command end input rest before printed old new)
+
+-- it fails; or help could not be printed, or memory ran out for the arguments, and nothing is
+-- called
+abbrev pub LogsRefused : List Text → Fault → Option (List ℕ) → Option (List ℕ) → List ℕ → List ℕ
+    → WorldCalls → WorldCalls → Type 0
+LogsRefused words fault input rest before printed old new =
+    ((new ≡ old)
+    × (((fault ≡ OutOfMemory) × (printed ≡ before)) ⊎ (AsksForHelp words × (fault ≡ Output))))
+    ⊎ ((command : Command) × AreTakenAs words command
+    × LogsFailed command fault input rest before printed old new)
+
+-- all calls of a run that ends so; at a fault no more than its line goes to the errors, of which
+-- this was known before and is now
+abbrev pub LogsRun : List Text → Status → Option (List ℕ) → Option (List ℕ) → List ℕ → List ℕ
+    → Option (List ℕ) → Option (List ℕ) → WorldCalls → WorldCalls → Type 0
+LogsRun words end input rest before printed told_before told old new =
+    LogsAnswered words end input rest before printed old new
+    ⊎ ((fault : Fault) × (end ≡ status_of fault) × AppendsFront told_before told (fault_line fault)
+    × LogsRefused words fault input rest before printed old new)

@@ -1,0 +1,69 @@
+-- Runs of the program at one state, one after another, each perhaps cut off by a crash.
+use Rattle.std.specs.Prelude.{◌≡◌, ◌⊎◌, ℕ, List, [], ◌∷◌, AllPairs, Option}
+use Rattle.clap.specs.Words.{Text}
+use Rattle.lms_commands.specs.Histories.{AreDelivered, ArePrinted, HandsKey, HandsNothing, HandsState, HandsVerdict, Held, IsBeginning, IsCarriedAlong, IsEarlier, IsTurn, TakenTurn, Signature, all_left}
+use Rattle.lms_commands.specs.Logs.{WorldCalls}
+use Rattle.lms_commands.specs.declared.status.Status.{Status}
+use Rattle.lms_cli.specs.Commands.{AreTakenAs, AsksForHelp}
+use Rattle.lms_cli.specs.RunLogs.{LogsRun}
+use Rattle.lms_cli.specs.declared.command.types.Command.{Command}
+use Rattle.lms_cli.specs.declared.command.types.Command.TheVariants.{Batch, Info, Keygen, Sign, Verify}
+
+-- what a command hands out: `sign` writes signatures to its file, `batch` prints their lines, and
+-- no other has any
+abbrev pub HandsOut : Command → List Signature → WorldCalls → List ℕ → List ℕ → Type 0
+HandsOut (Keygen levels seed id state public) signatures whole before printed =
+    (signatures ≡ []) × (HandsNothing whole before printed ⊎ HandsKey whole before printed)
+HandsOut (Info state) signatures whole before printed =
+    (signatures ≡ []) × HandsState whole before printed
+HandsOut (Sign state random message out) signatures whole before printed =
+    AreDelivered signatures whole before printed
+HandsOut (Batch state workers) signatures whole before printed =
+    ArePrinted signatures whole before printed
+HandsOut (Verify public message signature) signatures whole before printed =
+    (signatures ≡ []) × HandsVerdict whole before printed
+
+-- a run of the program: what it is handed and what comes of it, by the contract of `run` on its
+-- calls; all calls that it would make, and those that it began before it ended or crashed
+pub record ProgramRun : Type 0 where
+  pub words : List Text
+  pub end : Status
+  pub input : Option (List ℕ)
+  pub rest : Option (List ℕ)
+  pub before : List ℕ
+  pub printed : List ℕ
+  pub told_before : Option (List ℕ)
+  pub told : Option (List ℕ)
+  pub whole : WorldCalls
+  pub begun : WorldCalls
+  pub logged : LogsRun words end input rest before printed told_before told [] whole
+  pub first : IsBeginning begun whole
+
+-- nothing is called, and nothing is printed but help; or what the arguments ask for hands out these
+-- signatures
+abbrev pub HandsOutAll : ProgramRun → List Signature → Type 0
+HandsOutAll run signatures =
+    ((run.whole ≡ []) × (signatures ≡ []) × (AsksForHelp run.words ⊎ (run.printed ≡ run.before)))
+    ⊎ ((command : Command) × AreTakenAs run.words command
+    × HandsOut command signatures run.whole run.before run.printed)
+
+-- a run takes this turn at its state
+pub record TakesTurn (run : ProgramRun) (turn : TakenTurn) : Type 0 where
+  pub whole : turn.whole ≡ run.whole
+  pub begun : turn.begun ≡ run.begun
+  pub is_turn : IsTurn turn.turn turn.signatures turn.whole
+  pub hands : HandsOutAll run turn.signatures
+
+-- each run takes its turn
+abbrev pub TakeTurns : List ProgramRun → List TakenTurn → Type 0
+TakeTurns [] [] = Unit {0}
+TakeTurns (run ∷ runs) (turn ∷ turns) = TakesTurn run turn × TakeTurns runs turns
+TakeTurns [] (turn ∷ turns) = ⊥
+TakeTurns (run ∷ runs) [] = ⊥
+
+-- runs of the program take turns at their state; and where these carry along what is stored, no two
+-- signatures that left are by one index of a key
+abbrev pub NoIndexLeavesTwice : Type 0
+NoIndexLeavesTwice = (runs : List ProgramRun)
+    → (turns : List TakenTurn) × TakeTurns runs turns
+    × ((held : Held) → IsCarriedAlong held turns → AllPairs IsEarlier (all_left turns))

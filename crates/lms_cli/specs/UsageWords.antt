@@ -1,0 +1,40 @@
+-- The arguments that the usage lines show.
+use Rattle.std.specs.Prelude.{◌≡◌, ◌++◌, List, ◌∷◌, [], codes, true}
+use Rattle.clap.specs.Words.{Text, takes}
+use Rattle.lms_cli.specs.Application.{Subcommand, batch, info, keygen, lms_app, sign, verify}
+use Rattle.lms_cli.specs.Commands.{AsksFor}
+
+-- `--NAME=TEXT` for each name and the text in its place
+abbrev pub option_words : List Text → List Text → List Text
+option_words (option ∷ options) (text ∷ texts) =
+    (codes "--" ++ option ++ codes "=" ++ text) ∷ option_words options texts
+option_words _ _ = []
+
+-- a subcommand with each option and its text in one word
+abbrev pub words_for : Text → Subcommand → List Text → List Text
+words_for program s texts = program ∷ s.name ∷ option_words s.options texts
+
+-- clap's definition takes them, and reads the subcommand and the texts from them
+abbrev pub TakesTexts : Subcommand → List Text → Type 0
+TakesTexts s texts =
+    (program : Text) → (takes lms_app (words_for program s texts) ≡ true)
+    × AsksFor s texts (words_for program s texts)
+
+abbrev pub KeygenIsTaken : Type 0
+KeygenIsTaken =
+    (levels seed id state public : Text)
+    → TakesTexts keygen (levels ∷ seed ∷ id ∷ state ∷ public ∷ [])
+
+abbrev pub InfoIsTaken : Type 0
+InfoIsTaken = (state : Text) → TakesTexts info (state ∷ [])
+
+abbrev pub SignIsTaken : Type 0
+SignIsTaken =
+    (state random message out : Text) → TakesTexts sign (state ∷ random ∷ message ∷ out ∷ [])
+
+abbrev pub BatchIsTaken : Type 0
+BatchIsTaken = (state workers : Text) → TakesTexts batch (state ∷ workers ∷ [])
+
+abbrev pub VerifyIsTaken : Type 0
+VerifyIsTaken =
+    (public message signature : Text) → TakesTexts verify (public ∷ message ∷ signature ∷ [])

@@ -1,0 +1,273 @@
+//! The program's command line.
+ghost use Rattle.std.specs.Prelude.{◌≡◌, [], codes, IfOk, IfErr, IsSome, Some, MatchResult, map, true, false, string_bytes};
+ghost use Rattle.clap.specs.Words.{app_of, fault_of, first_value, found_of, kind_of, rows_of, rule_of, takes};
+ghost use Rattle.clap.specs.declared.builder.command.Command.TheViews.{out-Command as fields_of};
+ghost use Rattle.lms_cli.specs.Application.{app_for, batch, subcommand_called, info, keygen, lms_app, required_option, sign, verify};
+ghost use Rattle.lms_cli.specs.Commands.{AreWordsOf, FaultAt, FaultOf, HasOptions, IsMadeOf};
+
+pub mod laws;
+mod types;
+
+pub use crate::fault::CommandFault;
+use clap::error::ErrorKind;
+use clap::{Arg, ArgMatches, Error};
+use std::alloc::{AllocError, Global};
+use std::convert::AsStr;
+pub use types::Command;
+
+const LEVELS_HELP: &str =
+    "Height/width of each level, top first, as 10/8,10/8: 1 to 8 levels; heights 5, 10, 15, 20 or 25, together at most 60; widths 1, 2, 4 or 8";
+
+const KEYGEN_NOTE: &str = "Example:
+  lms_tool keygen --levels 10/8,10/8 --seed \"$(openssl rand -hex 32)\" --id \"$(openssl rand -hex 16)\" \\
+      --state key.state --public key.pub
+
+Never use a seed and identifier twice, whatever the levels: the same one-time keys would sign again, from index 0.";
+
+const INFO_NOTE: &str = "Example:
+  lms_tool info --state key.state
+
+Prints the levels, how many indices are used (counter), how many there are (capacity) and how many are left (left), how many
+openings of the state stored something (openings), and how many indices were burnt before its last write (burnt).";
+
+const SIGN_NOTE: &str = "Example:
+  lms_tool sign --state key.state --random \"$(openssl rand -hex 32)\" --message firmware.bin --out firmware.sig
+
+Prints the index, which counts as used before the signature is made. Never sign with an older copy of a state.";
+
+const BATCH_NOTE: &str = "Example, for a file `jobs` with one line for each message:
+  lms_tool batch --state key.state --workers 4 < jobs > answers
+
+A job line is a randomizer of 64 hexadecimal digits, random and fresh for each job, one space, and the message, 0 to 131072
+hexadecimal digits; 1024 lines at most. So for the message `abc`:
+  5f0d1f7ac2be30a4d1c96bb5e86f27930c4ad0b2f4e1907c6e5a3d8f1b7290c4 616263
+
+An answer line is the index, one space, and the signature in hexadecimal. The indices count as used before the first signature
+is made. Never sign with an older copy of a state.";
+
+const VERIFY_NOTE: &str = "Example:
+  lms_tool verify --public key.pub --message firmware.bin --signature firmware.sig
+
+Ends with status 0 for `valid`, 1 for `invalid`, and another where a file can't be read.";
+
+/// The command that the command-line arguments ask for; the first of them is the program's name.
+///
+/// `Help` where they ask for help and `Usage` where they are no command, both with clap's text, and
+/// `OutOfMemory` where memory ran out.
+pub fn command<S: AsStr>(alloc: Global, words: &[S]) -> Result<Command, CommandFault>
+    ensures reads { IfOk result (AreWordsOf (map S.text words.now)) }
+    ensures taken { IfErr result (λ e.
+        takes lms_app (map S.text words.now) ≡ true → e ≡ CommandFault.OutOfMemory) }
+    ensures faults { MatchResult result (λ _. fault_of lms_app (map S.text words.now) ≡ [])
+        (FaultAt (map S.text words.now)) }
+{
+    let matches = match application(alloc)?.try_get_matches_from(words) {
+        Ok(matches) => matches,
+        Err(error) => return Err(fault_from(alloc, &error)),
+    };
+    match matches.subcommand() {
+        Some((name, options)) => Ok(read(alloc, name, options)?),
+        None => unreachable!(),
+    }
+}
+
+/// The program as clap knows it.
+fn application<'a>(alloc: Global) -> Result<clap::Command<'a>, AllocError>
+    ensures { IfOk result (λ c. app_of c ≡ lms_app) }
+{
+    clap::Command::new(alloc, "lms_tool")
+        .about("Makes keys, signs and verifies with HSS/LMS (RFC 8554)")
+        .subcommand_required(true)
+        .subcommand(keygen_application(alloc)?)?
+        .subcommand(info_application(alloc)?)?
+        .subcommand(sign_application(alloc)?)?
+        .subcommand(batch_application(alloc)?)?
+        .subcommand(verify_application(alloc)?)
+}
+
+fn keygen_application<'a>(alloc: Global) -> Result<clap::Command<'a>, AllocError>
+    ensures app { IfOk result (λ c. app_of c ≡ app_for keygen) }
+    ensures local { IfOk result (λ c. (fields_of c).has_globals ≡ false) }
+{
+    clap::Command::new(alloc, "keygen")
+        .about("Makes a key from a seed")
+        .after_help(KEYGEN_NOTE)
+        .arg(option(alloc, "levels", "LEVELS", LEVELS_HELP))?
+        .arg(option(
+            alloc,
+            "seed",
+            "HEX",
+            "64 hexadecimal digits, random and secret",
+        ))?
+        .arg(option(alloc, "id", "HEX", "32 hexadecimal digits, random"))?
+        .arg(option(alloc, "state", "FILE", "The key's state, a new file"))?
+        .arg(option(
+            alloc,
+            "public",
+            "FILE",
+            "Where the public key is written, 60 bytes, in place of any older file",
+        ))
+}
+
+fn info_application<'a>(alloc: Global) -> Result<clap::Command<'a>, AllocError>
+    ensures app { IfOk result (λ c. app_of c ≡ app_for info) }
+    ensures local { IfOk result (λ c. (fields_of c).has_globals ≡ false) }
+{
+    clap::Command::new(alloc, "info")
+        .about("Describes a key")
+        .after_help(INFO_NOTE)
+        .arg(option(alloc, "state", "FILE", "The key's state"))
+}
+
+fn sign_application<'a>(alloc: Global) -> Result<clap::Command<'a>, AllocError>
+    ensures app { IfOk result (λ c. app_of c ≡ app_for sign) }
+    ensures local { IfOk result (λ c. (fields_of c).has_globals ≡ false) }
+{
+    clap::Command::new(alloc, "sign")
+        .about("Signs a message")
+        .after_help(SIGN_NOTE)
+        .arg(option(alloc, "state", "FILE", "The key's state"))?
+        .arg(option(
+            alloc,
+            "random",
+            "HEX",
+            "64 hexadecimal digits, random, fresh for each signature",
+        ))?
+        .arg(option(alloc, "message", "FILE", "The message, any bytes"))?
+        .arg(option(
+            alloc,
+            "out",
+            "FILE",
+            "Where the signature is written, raw bytes, in place of any older file",
+        ))
+}
+
+fn batch_application<'a>(alloc: Global) -> Result<clap::Command<'a>, AllocError>
+    ensures app { IfOk result (λ c. app_of c ≡ app_for batch) }
+    ensures local { IfOk result (λ c. (fields_of c).has_globals ≡ false) }
+{
+    clap::Command::new(alloc, "batch")
+        .about("Signs the job lines of standard input")
+        .after_help(BATCH_NOTE)
+        .arg(option(alloc, "state", "FILE", "The key's state"))?
+        .arg(option(
+            alloc,
+            "workers",
+            "N",
+            "How many workers sign at once, 1 to 64",
+        ))
+}
+
+fn verify_application<'a>(alloc: Global) -> Result<clap::Command<'a>, AllocError>
+    ensures app { IfOk result (λ c. app_of c ≡ app_for verify) }
+    ensures local { IfOk result (λ c. (fields_of c).has_globals ≡ false) }
+{
+    clap::Command::new(alloc, "verify")
+        .about("Prints whether a signature is valid")
+        .after_help(VERIFY_NOTE)
+        .arg(option(alloc, "public", "FILE", "The public key, 60 bytes"))?
+        .arg(option(alloc, "message", "FILE", "The message, any bytes"))?
+        .arg(option(alloc, "signature", "FILE", "The signature, raw bytes"))
+}
+
+/// A required option `--NAME VALUE`.
+fn option<'a>(alloc: Global, name: &'a str, value: &'a str, help: &'a str) -> Arg<'a>
+    ensures rule { rule_of result ≡ required_option name.entry.now }
+    ensures local { result.global ≡ false }
+{
+    Arg::new(alloc, name)
+        .long(name)
+        .value_name(value)
+        .help(help)
+        .required(true)
+}
+
+/// The command of the subcommand `name` with these options.
+fn read(alloc: Global, name: &str, options: &ArgMatches<'_>) -> Result<Command, AllocError>
+    requires { HasOptions (subcommand_called name.now) (found_of options.now) }
+    ensures { IfOk result (IsMadeOf name.now (rows_of (found_of options.now))) }
+{
+    match name {
+        "keygen" => read_keygen(alloc, options),
+        "info" => read_info(alloc, options),
+        "sign" => read_sign(alloc, options),
+        "batch" => read_batch(alloc, options),
+        "verify" => read_verify(alloc, options),
+        _ => unreachable!(),
+    }
+}
+
+fn read_keygen(alloc: Global, options: &ArgMatches<'_>) -> Result<Command, AllocError>
+    requires { HasOptions (Some keygen) (found_of options.now) }
+    ensures { IfOk result (IsMadeOf (codes "keygen") (rows_of (found_of options.now))) }
+{
+    Ok(Command::Keygen {
+        levels: option_text(alloc, options, "levels")?,
+        seed: option_text(alloc, options, "seed")?,
+        id: option_text(alloc, options, "id")?,
+        state: option_text(alloc, options, "state")?,
+        public: option_text(alloc, options, "public")?,
+    })
+}
+
+fn read_info(alloc: Global, options: &ArgMatches<'_>) -> Result<Command, AllocError>
+    requires { HasOptions (Some info) (found_of options.now) }
+    ensures { IfOk result (IsMadeOf (codes "info") (rows_of (found_of options.now))) }
+{
+    Ok(Command::Info {
+        state: option_text(alloc, options, "state")?,
+    })
+}
+
+fn read_sign(alloc: Global, options: &ArgMatches<'_>) -> Result<Command, AllocError>
+    requires { HasOptions (Some sign) (found_of options.now) }
+    ensures { IfOk result (IsMadeOf (codes "sign") (rows_of (found_of options.now))) }
+{
+    Ok(Command::Sign {
+        state: option_text(alloc, options, "state")?,
+        random: option_text(alloc, options, "random")?,
+        message: option_text(alloc, options, "message")?,
+        out: option_text(alloc, options, "out")?,
+    })
+}
+
+fn read_batch(alloc: Global, options: &ArgMatches<'_>) -> Result<Command, AllocError>
+    requires { HasOptions (Some batch) (found_of options.now) }
+    ensures { IfOk result (IsMadeOf (codes "batch") (rows_of (found_of options.now))) }
+{
+    Ok(Command::Batch {
+        state: option_text(alloc, options, "state")?,
+        workers: option_text(alloc, options, "workers")?,
+    })
+}
+
+fn read_verify(alloc: Global, options: &ArgMatches<'_>) -> Result<Command, AllocError>
+    requires { HasOptions (Some verify) (found_of options.now) }
+    ensures { IfOk result (IsMadeOf (codes "verify") (rows_of (found_of options.now))) }
+{
+    Ok(Command::Verify {
+        public: option_text(alloc, options, "public")?,
+        message: option_text(alloc, options, "message")?,
+        signature: option_text(alloc, options, "signature")?,
+    })
+}
+
+/// The text of an option that was given.
+fn option_text(alloc: Global, options: &ArgMatches<'_>, name: &str) -> Result<String, AllocError>
+    requires { IsSome (first_value (found_of options.now) name.now) }
+    ensures { IfOk result (λ text.
+        first_value (found_of options.now) name.now ≡ Some (string_bytes text)) }
+{
+    String::from_str(alloc, options.get_str(name).unwrap())
+}
+
+/// The fault that clap's error is.
+fn fault_from(alloc: Global, error: &Error) -> CommandFault
+    ensures { FaultOf (kind_of error.now) result }
+{
+    match (error.kind(), error.to_string(alloc)) {
+        (ErrorKind::OutOfMemory, _) | (_, Err(_)) => CommandFault::OutOfMemory,
+        (ErrorKind::DisplayHelp, Ok(text)) => CommandFault::Help { text },
+        (_, Ok(text)) => CommandFault::Usage { text },
+    }
+}

@@ -1,0 +1,31 @@
+//! What the program's usage promises, over clap's definition of it.
+
+ghost use Rattle.lms_cli.specs.UsageWords.{BatchIsTaken, InfoIsTaken, KeygenIsTaken, SignIsTaken, VerifyIsTaken};
+
+/// `keygen --levels=L --seed=S --id=I --state=K --public=P` is taken for any five texts, as
+/// `keygen` with these.
+pub fn keygen_is_taken()
+    ensures { KeygenIsTaken }
+{}
+
+/// `info --state=K` is taken for any text, as `info` on K.
+pub fn info_is_taken()
+    ensures { InfoIsTaken }
+{}
+
+/// `sign --state=K --random=R --message=M --out=S` is taken for any four texts, as `sign` with
+/// these.
+pub fn sign_is_taken()
+    ensures { SignIsTaken }
+{}
+
+/// `batch --state=K --workers=N` is taken for any two texts, as `batch` with these.
+pub fn batch_is_taken()
+    ensures { BatchIsTaken }
+{}
+
+/// `verify --public=P --message=M --signature=S` is taken for any three names, as `verify` on P, M
+/// and S.
+pub fn verify_is_taken()
+    ensures { VerifyIsTaken }
+{}

@@ -1,0 +1,39 @@
+//! What the arguments may ask for.
+
+/// What the program is asked to do.
+#[derive(Debug, Drop)]
+pub enum Command {
+    /// Make a key of these levels from a seed and an identifier, both in hexadecimal, and write its
+    /// state and its public key to two files.
+    Keygen {
+        levels: String,
+        seed: String,
+        id: String,
+        state: String,
+        public: String,
+    },
+    /// Describe the key whose state is in this file.
+    Info {
+        state: String,
+    },
+    /// Sign the message in a file by the key whose state is in a file, with the randomizer `random`
+    /// in hexadecimal, and write the signature to the file `out`. All but `random` name files.
+    Sign {
+        state: String,
+        random: String,
+        message: String,
+        out: String,
+    },
+    /// Sign the job lines of standard input by the key whose state is in a file, by so many
+    /// workers, a number in decimal.
+    Batch {
+        state: String,
+        workers: String,
+    },
+    /// Verify a signature. Each text names a file.
+    Verify {
+        public: String,
+        message: String,
+        signature: String,
+    },
+}

@@ -1,0 +1,9 @@
+//! The program as one function of its arguments, its files and its streams.
+//!
+//! [`run::run`] reads the arguments as a [`command::Command`] and does what it asks.
+#![tactic(auto)]
+
+pub mod command;
+mod fault;
+pub mod laws;
+pub mod run;

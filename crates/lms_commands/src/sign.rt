@@ -1,0 +1,319 @@
+//! `sign`: a message signed with the next index of a key's state.
+ghost use Rattle.std.specs.Prelude.{[], ◌∷◌, ◌++◌, ◌≡◌, ◌≢◌, ◌⊎◌, ◌+◌, ℕ, List, ◌<◌, IfErr, IfOk, IfSome, None, Ok, OnOk, Some, codes, length, option_map, false, true};
+ghost use Rattle.std.specs.Io.KnownBytes.{Appends};
+ghost use Rattle.hex.specs.Hex.{decode_of};
+ghost use Rattle.lms_spec.specs.HashLength.{hash_length};
+ghost use Rattle.lms_spec.specs.Hss.{capacity_of};
+ghost use Rattle.lms_hss.specs.Keys.{hss_key_of};
+ghost use Rattle.lms_kept.specs.Signed.{IsSignedByText};
+ghost use Rattle.lms_book.specs.Books.{counter};
+ghost use Rattle.lms_book.specs.States.{IsSameOpening};
+ghost use Rattle.lms_commands.specs.Faults.{of_signing};
+ghost use Rattle.lms_texts.specs.Descriptions.{number_line};
+ghost use Rattle.lms_commands.specs.Keygen.{IsHexOf};
+ghost use Rattle.lms_lines.specs.AnswerLines.{AppendsFront};
+ghost use Rattle.lms_world.specs.Events.{Printing, Written, after};
+ghost use Rattle.lms_commands.specs.Logs.{LogsKeeping};
+ghost use Rattle.lms_commands.specs.SignLogs.{index_line, DeliversSignature, LogsNotSigned, LogsSign, LogsSignFailed, LogsSigned, LogsUndelivered};
+ghost use Rattle.lms_world.specs.Known.{SameFiles, SameFilesBut, SameNodes, Stays};
+ghost use Rattle.lms_commands.specs.Keeping.{KeepsOnly};
+ghost use Rattle.lms_commands.specs.Signing.{FailsToSign, FailsToSignNext, FailsUnder, GivesOne, KeepsWhereUsed, SignsFile, SignsNext, SignsNothing, SignsUnder};
+
+use crate::fault::Fault;
+use crate::files::{lock_state, open_state, read_file, write_file};
+use crate::keeping::{keep_trees, kept_text};
+use lms_batch::Job;
+use lms_book::{Book, BookFault, Lease, StateStore};
+use lms_hss::Progress;
+use lms_kept::{KeptSignature, KeptTrees, sign_by_text};
+use lms_params::{HASH_LEN, OutOfMemory};
+use lms_texts::{print_index, read_bytes};
+use lms_world::{Printer, World};
+use std::alloc::Global;
+use std::io::Write;
+use std::thread::Threads;
+
+/// Why a message was not signed.
+#[derive(Clone, Copy)]
+enum NextFault {
+    /// No index was reserved.
+    Book(BookFault),
+    /// Memory was refused after the reservation: the index is used, and signed nothing.
+    OutOfMemory,
+}
+
+impl From<NextFault> for Fault {
+    ghost from_gives = { λ sign_fault fault. fault ≡ of_signing sign_fault };
+
+    fn from(fault: NextFault) -> Self {
+        match fault {
+            NextFault::Book(fault) => Fault::from(fault),
+            NextFault::OutOfMemory => Fault::OutOfMemoryBurnt { count: 1 },
+        }
+    }
+}
+
+/// A signature, the index that made it, and the trees that signed, where what was read does not
+/// serve it as it is.
+#[derive(Drop)]
+struct Signed {
+    index: u64,
+    signature: Vec<u8>,
+    trees: Option<KeptTrees>,
+}
+
+/// Signs the message in a file with the next index of a state's key, under a randomizer of 64
+/// hexadecimal digits, writes the signature to a file and prints the index.
+///
+/// Faults, in this order: `BadRandom`; `Input` where the message can't be read; `StateInUse` where
+/// the state's lock is not available; `ReadState`; `BadState`; `Exhausted`; `WriteStateBurnt` where
+/// the use of the index may not have been stored; `OutOfMemoryBurnt` and `Output` once it was.
+/// `OutOfMemory` may come anywhere before `WriteStateBurnt`. At the last two the index is used;
+/// after `WriteStateBurnt` the state may still be the older one, which gives the index again. No
+/// file is written before the use of the index was stored.
+///
+/// What is kept of the key's trees beside the state is read before the state is opened, and where
+/// the signature needed other nodes it is kept anew once the use of the index was stored, before
+/// the file is written. Where either can't be done, nothing is reported.
+///
+/// `progress` gets how many leaves of the trees that the signature needs are computed.
+pub fn sign_file<W: World, O: Write>(
+    rt: &(impl Threads + Sync),
+    alloc: Global,
+    world: &mut W,
+    log: &mut W::Log,
+    state: &str,
+    random: &str,
+    message: &str,
+    out: &str,
+    output: &mut Printer<O>,
+    progress: &impl Progress,
+) -> Result<(), Fault>
+    ensures logged { OnOk result
+        (LogsSign random.now message.now state.now out.now output.old output.new
+        (W.events log.old) (W.events log.new)) }
+    ensures log_failed { IfErr result (λ fault.
+        LogsSignFailed random.now message.now state.now out.now output.old output.new fault
+        (W.events log.old) (W.events log.new)) }
+    ensures signed { OnOk result (SignsFile (W.known world.old)
+        (W.known world.new) state.now random.now message.now out.now
+        (Some output.old) (Some output.new)) }
+    ensures failed { IfErr result (FailsToSign (W.known world.old)
+        (W.known world.new) state.now random.now message.now) }
+    ensures silent { IfErr result (λ fault. fault ≢ Fault.Output → output.new ≡ output.old) }
+    ensures files { SameFilesBut out.now (W.known world.old) (W.known world.new) }
+    ensures nodes { KeepsWhereUsed (W.known world.old) (W.known world.new) state.now }
+{
+    let randomizer = randomizer_from(random)?;
+    let message = read_file(alloc, world, log, message)?;
+    let job = Job {
+        c: randomizer,
+        message,
+    };
+    let lock = lock_state(alloc, world, log, state)?;
+    let done = sign_locked(rt, alloc, world, log, &lock, &job, out, output, progress);
+    world.unlock(log, lock);
+    done
+}
+
+/// The same, once the message is read and the lock is acquired.
+fn sign_locked<W: World, O: Write>(
+    rt: &(impl Threads + Sync),
+    alloc: Global,
+    world: &mut W,
+    log: &mut W::Log,
+    lock: &W::Lock,
+    job: &Job,
+    out: &str,
+    output: &mut Printer<O>,
+    progress: &impl Progress,
+) -> Result<(), Fault>
+    ensures logged { OnOk result
+        ((delivers : DeliversSignature job.now.c job.now.message.items out.now output.old
+        (W.events log.old) (W.events log.new))
+        × (output.new ≡ output.old ++ index_line delivers.writes)) }
+    ensures log_failed { IfErr result (λ fault.
+        LogsUndelivered job.now.c job.now.message.items out.now output.old output.new fault
+        (W.events log.old) (W.events log.new)) }
+    ensures signed { OnOk result ((state : List ℕ) → W.is_lock_of lock.now state
+        → SignsUnder (W.known world.old)
+        (W.known world.new) state job.now.c job.now.message.items out.now
+        (Some output.old) (Some output.new)) }
+    ensures failed { IfErr result (λ fault. (state : List ℕ) → W.is_lock_of lock.now state
+        → FailsUnder (W.known world.old)
+        (W.known world.new) state job.now.c job.now.message.items fault) }
+    ensures silent { IfErr result (λ fault. fault ≢ Fault.Output → output.new ≡ output.old) }
+    ensures files { SameFilesBut out.now (W.known world.old) (W.known world.new) }
+    ensures nodes { (state : List ℕ) → W.is_lock_of lock.now state
+        → KeepsWhereUsed (W.known world.old) (W.known world.new) state }
+{
+    let kept = kept_text(alloc, world, log, lock);
+    let signed = sign_by_state(rt, alloc, world, log, lock, job, kept.as_deref(), progress)?;
+    deliver(world, log, out, &signed, output)
+}
+
+/// The randomizer of a text of 64 hexadecimal digits, else `BadRandom`.
+fn randomizer_from(text: &str) -> Result<[u8; HASH_LEN], Fault>
+    ensures read { IfOk result (λ c. (length c ≡ hash_length) × (decode_of text.now ≡ Ok c)) }
+    ensures refused { IfErr result (λ fault.
+        (fault ≡ Fault.BadRandom) × ¬ IsHexOf hash_length text.now) }
+{
+    Ok(read_bytes(text).ok_or(Fault::BadRandom)?)
+}
+
+/// Writes a signature to a file, and then prints its index. `Output` where either can't be done,
+/// also where memory for the file was refused, since the index is used.
+fn deliver<W: World, O: Write>(
+    world: &mut W,
+    log: &mut W::Log,
+    out: &str,
+    signed: &Signed,
+    output: &mut Printer<O>,
+) -> Result<(), Fault>
+    ensures logged { OnOk result (W.events log.new
+        ≡ after (Written out.now signed.now.signature.items true ∷ Printing output.old ∷ [])
+        (W.events log.old)) }
+    ensures failed { IfErr result (λ fault. (fault ≡ Fault.Output)
+        × (((W.events log.new
+        ≡ after (Written out.now signed.now.signature.items false ∷ []) (W.events log.old))
+        × (output.new ≡ output.old))
+        ⊎ ((W.events log.new
+        ≡ after (Written out.now signed.now.signature.items true ∷ Printing output.old ∷ [])
+        (W.events log.old))
+        × AppendsFront (Some output.old) (Some output.new)
+        (number_line (codes "index") signed.now.index)))) }
+    ensures given { OnOk result ((W.known world.new).may_give out.now signed.now.signature.items) }
+    ensures printed { OnOk result (Appends (Some output.old) (Some output.new)
+        (number_line (codes "index") signed.now.index)) }
+    ensures others { SameFilesBut out.now (W.known world.old) (W.known world.new) }
+    ensures states { (state : List ℕ) → Stays (W.known world.old) (W.known world.new) state }
+    ensures nodes { SameNodes (W.known world.old) (W.known world.new) }
+{
+    match write_file(world, log, out, &signed.signature) {
+        Ok(()) => {
+            world.begin_printing(log, output);
+            Ok(print_index(output, signed.index)?)
+        }
+        Err(_) => Err(Fault::Output),
+    }
+}
+
+/// Signs a message with the next index of the key of a lock's state.
+fn sign_by_state<W: World>(
+    rt: &(impl Threads + Sync),
+    alloc: Global,
+    world: &mut W,
+    log: &mut W::Log,
+    lock: &W::Lock,
+    job: &Job,
+    kept: Option<&[u8]>,
+    progress: &impl Progress,
+) -> Result<Signed, Fault>
+    requires { (state : List ℕ) → W.is_lock_of lock.now state
+        → IfSome kept (λ text. (W.known world.old).may_keep state text.now) }
+    ensures logged { IfOk result (λ signed.
+        LogsSigned (option_map (λ text. text.now) kept.entry) job.now.c job.now.message.items
+        signed.index signed.signature.items (W.events log.old) (W.events log.new)) }
+    ensures log_failed { IfErr result (λ fault.
+        LogsNotSigned fault (W.events log.old) (W.events log.new)) }
+    ensures signed { IfOk result (λ signed. (state : List ℕ) → W.is_lock_of lock.now state
+        → SignsNext (W.known world.old) (W.known world.new) state job.now.c job.now.message.items
+        signed.signature.items signed.index) }
+    ensures failed { IfErr result (λ fault. (state : List ℕ) → W.is_lock_of lock.now state
+        → FailsToSignNext (W.known world.old) (W.known world.new) state fault) }
+    ensures files { SameFiles (W.known world.old) (W.known world.new) }
+    ensures nodes { (state : List ℕ) → W.is_lock_of lock.now state
+        → KeepsWhereUsed (W.known world.old) (W.known world.new) state }
+{
+    let mut book = open_state(alloc, world, log, lock)?;
+    let signed = sign_next(rt, alloc, &mut book, job, kept, progress);
+    world.put_back(log, lock, book.close());
+    match signed {
+        Ok(signed) => {
+            keep_signers(alloc, world, log, lock, &signed);
+            Ok(signed)
+        }
+        Err(fault) => Err(Fault::from(fault)),
+    }
+}
+
+/// Keeps the trees that signed, where what was read did not serve the index as it was.
+fn keep_signers<W: World>(
+    alloc: Global,
+    world: &mut W,
+    log: &mut W::Log,
+    lock: &W::Lock,
+    signed: &Signed,
+)
+    ensures logged { LogsKeeping signed.now.trees (W.events log.old) (W.events log.new) }
+    ensures kept { KeepsOnly signed.now.trees (W.known world.old) (W.known world.new) }
+    ensures states { (state : List ℕ) → Stays (W.known world.old) (W.known world.new) state }
+    ensures files { SameFiles (W.known world.old) (W.known world.new) }
+{
+    if let Some(trees) = &signed.trees {
+        keep_trees(alloc, world, log, lock, trees);
+    }
+}
+
+/// Signs a job with the next index of a book (RFC 8554, 6.2). The use of the index is stored before
+/// the signature is made. `Book` where no index was reserved; `OutOfMemory` where memory is refused
+/// after that, and the index stays used. A crash at any moment leaves what it could leave before,
+/// or the image that counts the index.
+fn sign_next<S: StateStore>(
+    rt: &(impl Threads + Sync),
+    alloc: Global,
+    book: &mut Book<S>,
+    job: &Job,
+    kept: Option<&[u8]>,
+    progress: &impl Progress,
+) -> Result<Signed, NextFault>
+    ensures opening { IsSameOpening book.old book.new }
+    ensures index { IfOk result (λ signed. signed.index ≡ counter book.old) }
+    ensures reserved { IfOk result (λ _. GivesOne book.old book.new) }
+    ensures failed { IfErr result (λ fault. SignsNothing book.old fault book.new) }
+    ensures signature { IfOk result (λ signed.
+        IsSignedByText
+        (option_map (λ text. text.now) kept.entry) book.old.key signed.index job.now.c
+        job.now.message.items
+        signed.signature.items signed.trees) }
+{
+    let lease = book.reserve(1).map_err(|fault| NextFault::Book(fault))?;
+    let signed = sign_lease(rt, alloc, lease, job, kept, progress);
+    match signed {
+        Ok(signed) => Ok(signed),
+        Err(_) => Err(NextFault::OutOfMemory),
+    }
+}
+
+/// Signs a job with the index of a lease of one, by the nodes of a text where they sign what is
+/// accepted, and else by trees that are computed. `OutOfMemory` where memory is refused; the index
+/// is spent in any case.
+fn sign_lease(
+    rt: &(impl Threads + Sync),
+    alloc: Global,
+    lease: Lease,
+    job: &Job,
+    kept: Option<&[u8]>,
+    progress: &impl Progress,
+) -> Result<Signed, OutOfMemory>
+    requires { lease.len ≡ 1 }
+    ensures index { IfOk result (λ signed. signed.index ≡ lease.start) }
+    ensures signature { IfOk result (λ signed.
+        IsSignedByText
+        (option_map (λ text. text.now) kept.entry) lease.key signed.index job.now.c
+        job.now.message.items
+        signed.signature.items signed.trees) }
+{
+    // for the proof: the length's clause bounds the index.
+    let _len = lease.len();
+    let (key, index) = (lease.key(), lease.start());
+    let message = job.message.as_slice();
+    let signed = sign_by_text(rt, alloc, key, index, &job.c, message, kept, progress);
+    lease.end();
+    let KeptSignature { signature, trees } = signed?;
+    Ok(Signed {
+        index,
+        signature,
+        trees,
+    })
+}

@@ -1,0 +1,113 @@
+//! `verify`: a signature judged.
+ghost use Rattle.std.specs.Prelude.{Some, ◌≡◌, ◌≢◌, ℕ, List, [], IfErr, IfOk};
+ghost use Rattle.std.specs.Io.KnownBytes.{Appends};
+ghost use Rattle.lms_hss.specs.Verifying.{HasTaken as HasTakenByVerifier};
+ghost use Rattle.lms_commands.specs.Judging.{HasTaken};
+ghost use Rattle.lms_commands.specs.Verdicts.{IsRightFor, line_of};
+ghost use Rattle.lms_commands.specs.ReadingLogs.{LogsVerify, LogsVerifyFailed};
+ghost use Rattle.lms_commands.specs.Verifying.{FailsToJudge, Judges};
+
+use crate::fault::Fault;
+use crate::files::{hand_over, open_file, read_file};
+use crate::verdict::{Verdict, print_verdict};
+use lms_hss::{ByEights, Verifier};
+use lms_world::{Printer, Taker, World};
+use std::alloc::Global;
+use std::io::Write;
+
+/// Reads a public key, opens a message and reads a signature, in this order, then reads the message
+/// piece by piece, as the world hands it over; prints the verdict on them and answers it.
+///
+/// `Input` where a file can't be read, `OutOfMemory` where memory for it was refused, `Output`
+/// where the verdict can't be printed. Only at `Output` may a part of it have been printed.
+pub fn verify_files<W: World, O: Write>(
+    alloc: Global,
+    world: &W,
+    log: &mut W::Log,
+    public: &str,
+    message: &str,
+    signature: &str,
+    output: &mut Printer<O>,
+) -> Result<Verdict, Fault>
+    ensures logged { IfOk result (λ verdict.
+        LogsVerify public.now message.now signature.now verdict output.old output.new
+        (W.events log.old) (W.events log.new)) }
+    ensures log_failed { IfErr result (λ fault.
+        LogsVerifyFailed public.now message.now signature.now output.old output.new fault
+        (W.events log.old) (W.events log.new)) }
+    ensures judged { IfOk result (Judges (W.known world.now) public.now message.now signature.now) }
+    ensures printed { IfOk result (λ verdict.
+        Appends (Some output.old) (Some output.new) (line_of verdict)) }
+    ensures failed { IfErr result (FailsToJudge (W.known world.now)
+        public.now message.now signature.now) }
+    ensures silent { IfErr result (λ fault. fault ≢ Fault.Output → output.new ≡ output.old) }
+{
+    let public = read_file(alloc, world, log, public)?;
+    let message = open_file(alloc, world, log, message)?;
+    let signature = read_file(alloc, world, log, signature)?;
+    let mut judge = Judge::begin(&public, &signature);
+    hand_over(message, &mut judge)?;
+    let verdict = judge.finish();
+    world.begin_printing(log, output);
+    print_verdict(output, verdict)?;
+    Ok(verdict)
+}
+
+/// Judges a signature of a message that comes in pieces.
+#[derive(Drop)]
+struct Judge<'a> {
+    // None where no message is accepted.
+    verifier: Option<Verifier<'a>>,
+}
+
+impl<'a> Judge<'a> {
+    /// Before the first piece.
+    fn begin(public: &'a [u8], signature: &'a [u8]) -> Self
+        ensures { HasTaken result public.now signature.now [] }
+    {
+        Judge {
+            verifier: Verifier::begin(public, signature, ByEights),
+        }
+    }
+
+    /// The verdict on all pieces.
+    fn finish(self) -> Verdict
+        ensures { (public signature message : List ℕ)
+            → HasTaken self.entry public signature message
+            → IsRightFor result public message signature }
+    {
+        match self.verifier {
+            Some(verifier) => verdict_of(verifier),
+            None => Verdict::Invalid,
+        }
+    }
+}
+
+/// The verdict of a verifier.
+fn verdict_of(verifier: Verifier) -> Verdict
+    ensures { (public signature message : List ℕ)
+        → HasTakenByVerifier verifier.entry public signature message
+        → IsRightFor result public message signature }
+{
+    if verifier.finish(ByEights) {
+        Verdict::Valid
+    } else {
+        Verdict::Invalid
+    }
+}
+
+impl Taker for Judge<'_> {
+    ghost use Rattle.lms_commands.specs.Judging.{Goes, goes-nowhere, goes-on};
+
+    ghost after = { Goes };
+
+    fn take(&mut self, piece: &[u8]) {
+        if let Some(verifier) = &mut self.verifier {
+            verifier.update(piece);
+        }
+    }
+
+    ghost none = { goes-nowhere };
+
+    ghost more = { goes-on };
+}

@@ -1,0 +1,41 @@
+//! A draft beside a file, and how it replaces the file.
+use crate::paths::OWNER_ONLY;
+use std::fs::{OpenFile, OpenOptions};
+use std::io::{ErrorKind, Write};
+use std::os::unix::fs::OpenOptionsExt;
+use std::rt::Files;
+use std::{fs, io};
+
+/// A new empty file of this name, which only the owner may read. A draft that an earlier crash left
+/// is removed first.
+pub(crate) fn make_draft<R: Files>(files: &R, draft: &str) -> io::Result<R::File> {
+    match fs::remove_file(files, draft) {
+        Err(error) if error.kind() != ErrorKind::NotFound => return Err(error),
+        _ => {}
+    }
+    OpenOptions::new()
+        .write(true)
+        .create_new(true)
+        .mode(OWNER_ONLY)
+        .open(files, draft)
+}
+
+/// Writes the bytes to a draft, flushes and closes it, and renames it over the file of the other
+/// name. A crash before the rename leaves that file as it was.
+pub(crate) fn place_draft<R: Files>(
+    files: &R,
+    file: R::File,
+    text: &[u8],
+    draft: &str,
+    name: &str,
+) -> io::Result<()> {
+    fill(file, text)?;
+    fs::rename(files, draft, name)
+}
+
+/// Writes the bytes to a file, flushes it and closes it.
+fn fill<F: OpenFile + Write + Drop>(file: F, text: &[u8]) -> io::Result<()> {
+    let mut file = file;
+    file.write_all(text)?;
+    file.sync_all()
+}

@@ -1,0 +1,159 @@
+//! A store in a file.
+ghost use Rattle.std.specs.Prelude.{◌≡◌, IfOk};
+ghost use Rattle.lms_file_store.specs.FileStores.{fresh, giving, failed};
+
+use crate::drafts::{make_draft, place_draft};
+use crate::locking::StateLock;
+use crate::paths::{folder_of, sibling};
+use crate::record::Record;
+use lms_book::{LastRead, ReadFault, StateStore, StoreFault, StoredBytes};
+use lms_params::OutOfMemory;
+use std::alloc::Global;
+use std::fs::OpenFile;
+use std::io::{ErrorKind, Read};
+use std::marker::Model;
+use std::rt::Files;
+use std::{fs, io};
+
+/// A store in a file. It keeps in memory what it stored for certain last and up to three images
+/// that it tried to store since. Each has the seed in it, and none is wiped. Contracts see all
+/// writes since the store was made, the bytes that the last read gave, and the count of failures.
+#[derive(Drop)]
+pub struct FileStore<'a, R: Files> {
+    files: &'a R,
+    state: String,
+    draft: String,
+    folder: String,
+    writes: Record,
+    given: LastRead,
+    failures: u64,
+}
+
+impl<'a, R: Files> Model for FileStore<'a, R> {
+    ghost use Rattle.std.specs.Prelude.{string_bytes};
+    ghost use Rattle.lms_file_store.specs.FileStores.{AreBeside, FileState};
+
+    ghost Value = { FileState };
+
+    ghost view = { λ store.
+        record { writes = store.writes; given = store.given; failures = store.failures } };
+
+    ghost invariant = { λ store.
+        AreBeside (string_bytes store.state) (string_bytes store.draft)
+        (string_bytes store.folder) };
+}
+
+impl<'a, R: Files> FileStore<'a, R> {
+    /// The store in the file of this lock, which need not exist yet. Hold the lock as long as the
+    /// store is used. `OutOfMemory` where memory for the paths is refused.
+    pub fn locked(
+        alloc: Global,
+        files: &'a R,
+        lock: &StateLock<R::File>,
+    ) -> Result<Self, OutOfMemory>
+        ensures { IfOk result (λ store. store ≡ fresh) }
+    {
+        let state = String::from_str(alloc, lock.path())?;
+        let draft = sibling(alloc, state.as_str(), ".new")?;
+        let folder = String::from_str(alloc, folder_of(state.as_str()))?;
+        Ok(FileStore {
+            files,
+            state,
+            draft,
+            folder,
+            writes: Record::new(),
+            given: LastRead::none(),
+            failures: 0,
+        })
+    }
+
+    /// All bytes of the file.
+    fn fetch(&self, alloc: Global) -> io::Result<Vec<u8>> {
+        let mut file = fs::open(self.files, self.state.as_str())?;
+        let mut text = Vec::new(alloc);
+        file.read_to_end(&mut text)?;
+        Ok(text)
+    }
+
+    /// Writes the bytes beside the state, flushes them, and renames them over the state. A crash
+    /// before the rename leaves the old state; between the rename and the flush of the folder it
+    /// leaves the old or the new one. The folder is opened first, so that nothing changes where it
+    /// can't be opened.
+    fn put(&self, text: &[u8]) -> io::Result<()> {
+        let folder = fs::open(self.files, self.folder.as_str())?;
+        let (draft, state) = (self.draft.as_str(), self.state.as_str());
+        let file = make_draft(self.files, draft)?;
+        place_draft(self.files, file, text, draft, state)?;
+        folder.sync_all()
+    }
+
+    /// From now on these are the bytes that the last read gave.
+    fn give(&mut self, text: &Vec<u8>)
+        ensures { self.new ≡ giving self.old text.now.items }
+    {
+        self.given = LastRead::of(text);
+    }
+
+    /// Counts a failure.
+    fn fail(&mut self)
+        ensures { self.new ≡ failed self.old }
+    {
+        self.failures = self.failures.saturating_add(1);
+    }
+}
+
+impl<R: Files + Sync> StateStore for FileStore<'_, R> {
+    ghost use Rattle.lms_file_store.specs.FileStores.{view_of, ReadsKnown, RecordsWrite};
+    ghost use Rattle.lms_book.specs.Stops.{ReadsStore, WritesStore};
+
+    ghost seen = { view_of };
+
+    ghost may_fail = { λ _. Unit {0} };
+
+    /// All bytes of the file. `Device` where they can't be read, and where they are none of the
+    /// kept images: then somebody else wrote them, or a failed write that three others followed.
+    /// `OutOfMemory` where memory for them is refused. Before a first certain write any bytes may
+    /// be there.
+    #[tactic(auto, using(crate::proofs::Keeping::knows_leaves))]
+    fn read(&mut self, alloc: Global) -> Result<Vec<u8>, ReadFault>
+        ensures seen { ReadsStore (Unit {0}) (view_of self.old) result (view_of self.new) }
+        ensures known { ReadsKnown self.old result self.new }
+    {
+        match self.fetch(alloc) {
+            Ok(text) if self.writes.knows(&text) => {
+                self.give(&text);
+                Ok(text)
+            }
+            Err(error) if error.kind() == ErrorKind::OutOfMemory => Err(ReadFault::OutOfMemory),
+            _ => {
+                self.fail();
+                Err(ReadFault::Device)
+            }
+        }
+    }
+
+    /// Writes the bytes to `NAME.new`, which only the owner may read, flushes it, renames it over
+    /// the file and flushes the folder. `Err` where a step fails. More than 256 bytes are refused
+    /// before any file is touched; a book burns the range all the same. A crash at any point leaves
+    /// the file with the old bytes or with these. It takes no memory.
+    fn replace(&mut self, text: &[u8]) -> Result<(), StoreFault>
+        ensures writes { WritesStore text.now (view_of self.old) result (view_of self.new) }
+        ensures recorded { RecordsWrite self.old text.now result self.new }
+    {
+        let Some(kept) = StoredBytes::new(text) else {
+            self.fail();
+            return Err(StoreFault);
+        };
+        match self.put(text) {
+            Ok(()) => {
+                self.writes.stored(kept);
+                Ok(())
+            }
+            Err(_) => {
+                self.writes.failed(kept);
+                self.fail();
+                Err(StoreFault)
+            }
+        }
+    }
+}

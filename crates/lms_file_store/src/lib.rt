@@ -1,0 +1,23 @@
+//! A key's state in a file, the lock on it, and the nodes of its trees that are kept beside it.
+//!
+//! A store is made from the lock on its file. Hold the lock as long as the store is used: two
+//! stores in one file give an index twice. So does an older copy of the file that is put back, or a
+//! second name of it by a hard link; nothing here can see these.
+//!
+//! No contract knows a disk. What is proved is about the bytes written through a store, under two
+//! assumptions: a rename replaces the file whole, so that a crash within it leaves the old file or
+//! the new one; and after `sync_all` answered `Ok`, a crash loses neither the bytes of that file
+//! nor the names in that folder.
+#![tactic(auto)]
+
+mod drafts;
+mod file_store;
+mod locking;
+mod nodes;
+mod paths;
+mod record;
+mod writes;
+
+pub use crate::file_store::FileStore;
+pub use crate::locking::{StateLock, TryLock, lock};
+pub use lms_params::OutOfMemory;

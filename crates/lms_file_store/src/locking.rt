@@ -1,0 +1,86 @@
+//! The lock on a store's file.
+ghost use Rattle.std.specs.Prelude.{◌≡◌, IfOk, IfSome, IsTrue, string_bytes};
+
+use crate::paths::{OWNER_ONLY, exists, resolve, sibling};
+use lms_params::OutOfMemory;
+use std::alloc::Global;
+use std::fs::{File, OpenOptions};
+use std::io::ErrorKind;
+use std::os::unix::fs::OpenOptionsExt;
+use std::rt::Files;
+
+/// An open file that can be locked.
+pub trait TryLock {
+    /// The lock is acquired.
+    ghost is_locked: { Self → Type 0 };
+
+    /// Tries to lock the whole file, without waiting. True only where it is locked now, which it
+    /// stays until it is dropped.
+    fn try_lock(&self) -> bool
+        ensures { IsTrue result → is_locked self.now };
+}
+
+impl TryLock for File {
+    ghost is_locked = { λ _. Unit {0} };
+
+    fn try_lock(&self) -> bool {
+        File::try_lock(self).is_ok()
+    }
+}
+
+/// The lock on a state's file, held until it is dropped.
+#[derive(Drop)]
+pub struct StateLock<F> {
+    // Where the state's name led to when it was locked.
+    path: String,
+    file: F,
+}
+
+impl<F> StateLock<F> {
+    /// The path of the state's file.
+    pub(crate) fn path(&self) -> &str
+        ensures { result.now ≡ string_bytes self.now.path }
+    {
+        self.path.as_str()
+    }
+
+    /// Whether the state's file exists, or anything else of its name; true also where that can't be
+    /// known. A new state that is written only where this is false replaces nothing.
+    pub fn is_of_a_state<R: Files>(&self, files: &R) -> bool {
+        exists(files, self.path())
+    }
+}
+
+/// Locks the state of this name, without waiting, against other programs that call this, until the
+/// lock is dropped. `None` where another holds the lock, its file can't be made, or the name can't
+/// be resolved. `OutOfMemory` where memory for its path, or to open its file, is refused.
+///
+/// The locked file is `NAME.lock` beside the state, where NAME is that of the state's file after
+/// symbolic links. It stays there and must not be removed: two programs could then hold a lock
+/// each, one on the old file and one on a new one.
+pub fn lock<R: Files>(
+    files: &R,
+    alloc: Global,
+    name: &str,
+) -> Result<Option<StateLock<R::File>>, OutOfMemory>
+where
+    R::File: TryLock,
+    ensures { IfOk result (λ locked. IfSome locked (λ lock. R.File.is_locked lock.file)) }
+{
+    let path = match resolve(files, alloc, name) {
+        Ok(path) => path,
+        Err(error) if error.kind() == ErrorKind::OutOfMemory => return Err(OutOfMemory),
+        Err(_) => return Ok(None),
+    };
+    let beside = sibling(alloc, path.as_str(), ".lock")?;
+    let opened = OpenOptions::new()
+        .write(true)
+        .create(true)
+        .mode(OWNER_ONLY)
+        .open(files, beside.as_str());
+    match opened {
+        Ok(file) if file.try_lock() => Ok(Some(StateLock { path, file })),
+        Err(error) if error.kind() == ErrorKind::OutOfMemory => Err(OutOfMemory),
+        _ => Ok(None),
+    }
+}

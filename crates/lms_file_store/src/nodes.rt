@@ -1,0 +1,80 @@
+//! The file of kept tree nodes beside a key's state.
+//!
+//! A reader does not depend on it: it may be missing, and a check value in it has to show whether
+//! it is what was written.
+ghost use Rattle.std.specs.Prelude.{◌≤◌, length, IfSome};
+
+use crate::drafts::{make_draft, place_draft};
+use crate::locking::StateLock;
+use crate::paths::sibling;
+use std::alloc::Global;
+use std::io::Read;
+use std::rt::Files;
+use std::{fs, io};
+
+/// The name of the file after that of the state.
+const NODES: &str = ".nodes";
+
+/// The same of its draft.
+const DRAFT: &str = ".nodes.new";
+
+impl<F> StateLock<F> {
+    /// The bytes of the file `NAME.nodes` beside the state, where NAME is that of the state's file
+    /// after symbolic links.
+    ///
+    /// `None` where there is no such file; where something else has its name, as a folder, a device
+    /// or a symbolic link, which is not opened; where it has more than `most` bytes, or grows while
+    /// it is read; where it can't be read; and where memory for its path or its bytes is refused.
+    /// It takes memory for one byte more than the file has, and none where the file has more than
+    /// `most`.
+    pub fn read_nodes<R: Files>(&self, files: &R, alloc: Global, most: usize) -> Option<Vec<u8>>
+        ensures at_most { IfSome result (λ text. length text.items ≤ most) }
+    {
+        let name = sibling(alloc, self.path(), NODES).ok()?;
+        let size = plain_size(files, name.as_str(), most)?;
+        let text = read_up_to(files, alloc, name.as_str(), size).ok()?;
+        if text.len() <= size { Some(text) } else { None }
+    }
+
+    /// Makes these the bytes of that file. They are written to a new file `NAME.nodes.new`, which
+    /// only the owner may read and which replaces one that an earlier crash left; it is flushed and
+    /// renamed over `NAME.nodes`. A crash of the program leaves `NAME.nodes` as it was, or with
+    /// these bytes. The folder is not flushed, so a loss of power may still leave the old file, or
+    /// none.
+    ///
+    /// An error where a step fails, and where memory for the paths is refused. Then the file is as
+    /// it was, and the new one is removed where possible.
+    pub fn write_nodes<R: Files>(&self, files: &R, alloc: Global, text: &[u8]) -> io::Result<()> {
+        let name = sibling(alloc, self.path(), NODES)?;
+        let draft = sibling(alloc, self.path(), DRAFT)?;
+        let file = make_draft(files, draft.as_str())?;
+        let placed = place_draft(files, file, text, draft.as_str(), name.as_str());
+        if placed.is_err() {
+            let _ = fs::remove_file(files, draft.as_str());
+        }
+        placed
+    }
+}
+
+/// The length of a plain file, at most `most`. `None` where it is longer, where there is no such
+/// file, and where something else has its name, as a symbolic link.
+fn plain_size<R: Files>(files: &R, name: &str, most: usize) -> Option<usize>
+    ensures { IfSome result (λ size. size ≤ most) }
+{
+    let found = fs::symlink_metadata(files, name).ok()?;
+    let size = usize::try_from(found.len()).ok()?;
+    if found.is_file() && size <= most {
+        Some(size)
+    } else {
+        None
+    }
+}
+
+/// The first bytes of a file, up to one more than `size`, in memory for these.
+fn read_up_to<R: Files>(files: &R, alloc: Global, name: &str, size: usize) -> io::Result<Vec<u8>> {
+    let room = size.saturating_add(1);
+    let mut text = Vec::with_capacity(alloc, room)?;
+    let file = fs::open(files, name)?;
+    file.take(room as u64).read_to_end(&mut text)?;
+    Ok(text)
+}

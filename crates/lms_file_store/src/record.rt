@@ -1,0 +1,80 @@
+//! What a file store has to know of its writes to judge a read.
+ghost use Rattle.std.specs.Prelude.{◌≡◌, ◌↔◌, List, [], ◌∷◌, IsTrue, false, true};
+ghost use Rattle.lms_file_store.specs.FileStores.{FileWrite, Knows};
+
+use crate::writes::Writes;
+use arrayvec::ArrayVec;
+use lms_book::StoredBytes;
+use std::marker::Model;
+
+/// How many images a store keeps at most: the one that was stored for certain last, and three that
+/// were tried since.
+const MOST_TEXTS: usize = 4;
+
+/// The place of the oldest tried image, after the certain one.
+const OLDEST_TRIED: usize = 1;
+
+/// The writes of a store. It keeps, without taking memory, what was stored for certain last and
+/// what was tried since. Contracts see all writes, the newest first.
+#[derive(Drop)]
+pub(crate) struct Record {
+    writes: Writes,
+    // The certain one first, then the tried ones, the oldest first. None before a first certain
+    // one, when any bytes may be left.
+    kept: ArrayVec<StoredBytes, MOST_TEXTS>,
+}
+
+impl Model for Record {
+    ghost use Rattle.std.specs.Prelude.{◌≡◌, List};
+    ghost use Rattle.lms_file_store.specs.FileStores.{FileWrite, kept_after};
+
+    ghost Value = { List FileWrite };
+
+    ghost view = { λ entry. entry.writes.made };
+
+    ghost invariant = { λ entry. entry.kept.items ≡ kept_after entry.writes.made };
+}
+
+impl Record {
+    /// No writes.
+    pub(crate) fn new() -> Self
+        ensures { result ≡ [] }
+    {
+        Record {
+            writes: Writes::new(),
+            kept: ArrayVec::new(),
+        }
+    }
+
+    /// Adds a write that was stored for certain, so that a crash can leave nothing else.
+    pub(crate) fn stored(&mut self, text: StoredBytes)
+        ensures { self.new ≡ record { text = text; stored = true } ∷ self.old }
+    {
+        self.writes.add(text.as_slice(), true);
+        self.kept.clear();
+        self.kept.push(text);
+    }
+
+    /// Adds a write that was tried. Where four are kept, the oldest tried one is forgotten.
+    pub(crate) fn failed(&mut self, text: StoredBytes)
+        ensures { self.new ≡ record { text = text; stored = false } ∷ self.old }
+    {
+        self.writes.add(text.as_slice(), false);
+        if self.kept.is_empty() {
+            return;
+        }
+        if self.kept.is_full() {
+            let _ = self.kept.remove(OLDEST_TRIED);
+        }
+        self.kept.push(text);
+    }
+
+    /// Whether these bytes are one of those kept, each of which a crash could leave; where none is
+    /// kept, any bytes are known. What was forgotten is not known, though a crash could leave it,
+    /// too.
+    pub(crate) fn knows(&self, text: &[u8]) -> bool
+        ensures { IsTrue result ↔ Knows self.now text.now }
+    {
+        self.kept.is_empty() || self.kept.iter().any(|kept| kept.as_slice() == text)
+    }
+}

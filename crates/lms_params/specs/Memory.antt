@@ -1,6 +1,0 @@
--- Want of memory.
-use Rattle.std.specs.Prelude.{ℕ, List, codes}
-
--- what it prints
-abbrev pub out_of_memory_text : List ℕ
-out_of_memory_text = codes "out of memory"

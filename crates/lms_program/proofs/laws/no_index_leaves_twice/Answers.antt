@@ -1,5 +1,0 @@
-use Rattle.lms_program.proofs.Turning.{no_index_leaves}
-use Rattle.lms_program.proofs.laws.no_index_leaves_twice.Goals as goal
-
-pub returns : goal.returns
-returns c = no_index_leaves

@@ -1,9 +1,0 @@
-use Rattle.std.proofs.Common.{rules}
-use Rattle.lms_program.proofs.Ending.{any_front}
-use Rattle.lms_program.proofs.run.report.Goals as goal
-
-pub returns-clause-status : goal.returns-clause-status
-returns-clause-status g c = search rules
-
-pub returns-clause-told : goal.returns-clause-told
-returns-clause-told g c = any_front _ _ _ _ c.print_fault.ensures.printed c.print_fault.ensures.broken

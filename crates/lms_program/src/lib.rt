@@ -1,8 +1,0 @@
-//! The program as one function of its arguments, its files and its streams.
-//!
-//! [`run::run`] reads the arguments as a [`command::Command`] and does what it asks.
-#![tactic(auto)]
-
-pub mod command;
-pub mod laws;
-pub mod run;

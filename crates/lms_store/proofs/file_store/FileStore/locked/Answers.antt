@@ -1,5 +1,0 @@
-use Rattle.std.proofs.Common.{rules}
-use Rattle.lms_store.proofs.file_store.FileStore.locked.Goals as goal
-
-pub returns : goal.returns
-returns g c = search rules

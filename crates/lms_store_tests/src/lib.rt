@@ -1,5 +1,0 @@
-//! Tests of `lms_store`.
-#![tactic(auto)]
-
-#[cfg(test)]
-mod tests;

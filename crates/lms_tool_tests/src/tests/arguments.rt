@@ -1,0 +1,54 @@
+//! The arguments of commands, and levels of keys.
+use lms_params::{LmsType, OtsType};
+
+const SEED: &str = "1111111111111111111111111111111111111111111111111111111111111111";
+
+const ID: &str = "22222222222222222222222222222222";
+
+pub(super) const ONE: [(LmsType, OtsType); 1] = [(LmsType::H5, OtsType::W8)];
+
+pub(super) const TWO: [(LmsType, OtsType); 2] = [
+    (LmsType::H5, OtsType::W8),
+    (LmsType::H5, OtsType::W8),
+];
+
+/// The levels 5/2, whose tree takes a twentieth of the work.
+pub(super) const CHEAP: [(LmsType, OtsType); 1] = [(LmsType::H5, OtsType::W2)];
+
+pub(super) const CHEAP_TWICE: [(LmsType, OtsType); 2] = [
+    (LmsType::H5, OtsType::W2),
+    (LmsType::H5, OtsType::W2),
+];
+
+pub(super) const INFO: [&str; 4] = ["lms_tool", "info", "--state", "key.state"];
+
+pub(super) const SIGN: [&str; 10] = [
+    "lms_tool",
+    "sign",
+    "--state",
+    "key.state",
+    "--random",
+    "3333333333333333333333333333333333333333333333333333333333333333",
+    "--message",
+    "text",
+    "--out",
+    "text.sig",
+];
+
+/// The arguments that make a key of these levels.
+pub(super) fn keygen(levels: &str) -> [&str; 12] {
+    [
+        "lms_tool",
+        "keygen",
+        "--levels",
+        levels,
+        "--seed",
+        SEED,
+        "--id",
+        ID,
+        "--state",
+        "key.state",
+        "--public",
+        "key.pub",
+    ]
+}

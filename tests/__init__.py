@@ -1,0 +1,1 @@
+"""The tests: `run` runs those of `merge_check` and `by_hand`."""

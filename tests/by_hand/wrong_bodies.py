@@ -1,0 +1,326 @@
+"""Tries wrong bodies: crates/NAME/wrong-bodies/*.edit, which the merge check leaves out, of the
+crates that the arguments name, or of all that have some. With the argument --gate before them it
+tries the edits of must-fail/ in their place.
+
+Edits of several functions go into one check, which says of each function whether it is proved. An
+edit is refused where the function that it changes is not proved, for a reason of its own: not for a
+name or a type, and not for another function that it calls. What a check leaves open is tried again
+with fewer others, and at last alone. Crates are proved first, where they are not yet, in
+crates/NAME/out; edits are tried in copies of the repository, as many at once as there are
+processors. Prints how many of each crate were refused, and names the others; each edit counts."""
+
+import collections
+import contextlib
+import os
+import pathlib
+import re
+import shutil
+import signal
+import subprocess
+import threading
+
+from tests.harness import ARGUMENTS, TOP, Wrong, checks
+
+# The commands that run.
+RUNNING = set()
+
+# What a check says where a name or a type is wrong, and no statement is false.
+NAMES = re.compile(r"has no field|is not in scope|has no `|was not admitted|is no name|operand is missing|expected the end|cannot continue")
+NO_TYPES = re.compile(r"\berror\[[\w-]+\]")
+# A function, with the lines before it in the report, from what was said of the one before on.
+FUNCTION = re.compile(r"(?m)((?:^(?!fn |impl |struct |enum ).*\n)*)^fn (\S+): (proved|not proved|no proof|could not tell)(.*)$")
+OPEN = re.compile(r"(?m)^note: src/\S+:\d+:\d+: it is not proved that")
+
+
+class Edit:
+    """A piece of code that takes the place of another one, in one or more files of a crate."""
+
+    def __init__(self, file):
+        self.name, self.crate = file.stem, file.parent.parent
+        self.pairs, path, old = [], None, None
+        for line in file.read_text(encoding="utf-8").split("\n"):
+            word, _, rest = line.partition(": ")
+            if word == "file":
+                path = rest.strip()
+            elif word == "old":
+                old = rest
+            elif word.removesuffix(":") == "new":
+                self.pairs.append((path, old, rest))
+        places = [edited_function(self.crate, path, old) for path, old, _ in self.pairs]
+        self.functions = {function for function, _ in places}
+        # What changes a contract, a type or a constant may leave other functions unproved.
+        self.is_of_bodies = all(is_in_body for _, is_in_body in places)
+
+    def changes(self, name):
+        """Whether it changes a function, by the name that a check has for it, or may change it."""
+        return None in self.functions or any(names(self.crate.name, it).fullmatch(name) for it in self.functions)
+
+    def apply(self, texts):
+        """The files' contents with this edit in them, or None where what it replaces is not there
+        exactly once."""
+        texts = dict(texts)
+        for path, old, new in self.pairs:
+            text = texts.get(path) or (self.crate / path).read_text(encoding="utf-8")
+            if text.count(old) != 1:
+                return None
+            texts[path] = text.replace(old, new)
+        return texts
+
+
+def edited_function(crate, path, old):
+    """The file, the type with its trait, and the name of the function in which a piece of code is,
+    or None where it is in none, and whether it is in the body."""
+    text = (crate / path).read_text(encoding="utf-8")
+    at = text.find(old)
+    if not path.endswith(".rt") or at < 0:
+        return None, False
+    # (the piece may begin with the function's first line)
+    heads = list(re.finditer(r"(?m)^( *)(?:pub(?:\([^)]*\))? )?(?:const |unsafe |extern \"C\" )*fn (\w+)", text[: at + len(old)]))
+    if not heads:
+        return None, False
+    (margin, name), start = heads[-1].groups(), heads[-1].start()
+    before = text[start:at]
+    if re.search(rf"(?m)^{margin}\}}$", before):
+        return None, False
+    blocks = re.findall(r"(?m)^impl\b(?:<.*?>)? ?([^{]*)\{", text[:at]) if margin else []
+    # Where there is a contract, the body begins on a line of its own.
+    is_in_body = re.search(rf"(?m)^{margin}\{{$|\A.*\{{$", before) is not None
+    return (path, words_of(blocks[-1]) if blocks else "", name), is_in_body
+
+
+def words_of(head):
+    """The type of an `impl`, followed by the trait where it has one, as a check names it."""
+    head = re.sub(r"(?s)\bwhere\b.*|'\w+|\w+::", "", head)
+    # A trait's arguments are in its name, a type's are not.
+    trait, _, block = head.partition(" for ") if " for " in head else ("", "", head)
+    return "".join([*re.findall(r"\w+", block)[:1], *re.findall(r"\w+", trait)])
+
+
+def names(crate, function):
+    """What a check calls a function, and the closures in it: by its module, or, where it is a
+    method, by its type, wherever that is."""
+    path, block, name = function
+    modules = "".join(f"{it}::" for it in pathlib.PurePath(path).with_suffix("").parts[1:] if it not in ("lib", "main"))
+    place = r"(?:\w+::)*" if block else modules
+    own = "::".join([it for it in (block, name) if it])
+    return re.compile(rf"{crate}::{place}(?:{own}|fn::{own}::\S+)")
+
+
+class Said:
+    """What a check said of the functions of a crate."""
+
+    def __init__(self, crate, status, text):
+        self.crate, self.status, self.text = crate, status, text
+        self.has_verdict = status == 1 and re.search(r"(?m)^logic=not-proved", text) is not None
+        self.found = FUNCTION.findall(text)
+
+    def refused(self, edits):
+        """The edits of these, which were made together, that are refused: of each a function that
+        it changes is named, for a reason of its own. No edit of a body leaves another function
+        unproved but by a call, so where such a one is named, it tells nothing of any."""
+        if not self.has_verdict:
+            return []
+        named = [name for before, name, kind, why in self.found if self.is_own(name, kind, why, before)]
+        refused = {edit: [it for it in named if edit.changes(it)] for edit in edits}
+        is_told = len(edits) == 1 or set(named) == {it for its in refused.values() for it in its}
+        return [edit for edit, its in refused.items() if its and is_told]
+
+    def is_own(self, name, kind, why, before):
+        """Whether a function is not proved by search, or what its own proof files say of it is
+        false."""
+        if kind == "no proof":
+            return "`search` did not prove" in why
+        # A function that calls itself has a folder whose name begins with +.
+        *parents, last = name.split("::")[1:]
+        folder = "/".join(["proofs", *parents, rf"\+?{last}", ""])
+        errors = re.findall(rf"(?m)^(?:\./)?{folder}\S+: error: (.*)$", self.text)
+        return kind == "not proved" and (OPEN.search(before) is not None or any(not NAMES.search(it) for it in errors))
+
+    def why(self):
+        """Why an edit is not refused."""
+        if self.status == 0:
+            return "it is still proved"
+        lines = self.text.rstrip("\n").split("\n")
+        told = [it for it in lines if NO_TYPES.search(it) or re.search(r":\d+:\d+: error", it)] if self.status == 1 else []
+        return [*told, lines[-1]][0]
+
+
+class Copy:
+    """A copy of the repository in which one check at a time runs."""
+
+    def __init__(self, folder):
+        self.top = folder
+        folder.mkdir()
+        for name in ("crates.txt", "HANDLES"):
+            shutil.copy2(TOP / name, folder)
+        shutil.copytree(TOP / "crates", folder / "crates", ignore=shutil.ignore_patterns("out", "must-fail", "wrong-bodies"))
+
+    def check(self, crate, texts):
+        """Checks a crate with these contents of files in place of its own, over what its check in
+        crates/NAME/out proved."""
+        here = self.top / "crates" / crate.name
+        kept = here / "out" / "incremental"
+        shutil.rmtree(kept, ignore_errors=True)
+        shutil.copytree(crate / "out" / "incremental", kept, copy_function=link)
+        try:
+            for path, text in texts.items():
+                (here / path).write_text(text, encoding="utf-8")
+            ran = run("rt", "check", "--jobs", "1", cwd=here)
+            if ran.returncode < 0:
+                ran = run("rt", "check", "--jobs", "1", cwd=here)
+            return Said(crate, ran.returncode, ran.stdout)
+        finally:
+            for path in texts:
+                shutil.copy2(crate / path, here / path)
+
+
+def link(one, other):
+    """Copies a file. What was proved is replaced by a check and never changed, so a second name is
+    enough where there can be one."""
+    try:
+        return os.link(one, other) if one.endswith(".oantt") else shutil.copy2(one, other)
+    except OSError:
+        return shutil.copy2(one, other)
+
+
+def run(*words, cwd):
+    """What a command ended with and printed."""
+    how = {"stdin": subprocess.DEVNULL, "stdout": subprocess.PIPE, "stderr": subprocess.STDOUT, "text": True, "errors": "replace"}
+    with subprocess.Popen(words, cwd=cwd, start_new_session=True, **how) as ran:
+        RUNNING.add(ran)
+        try:
+            said, _ = ran.communicate()
+        finally:
+            RUNNING.discard(ran)
+    return subprocess.CompletedProcess(words, ran.returncode, said)
+
+
+class Trials:
+    """The edits that are left to try, in groups for one check each, and what came of the others."""
+
+    def __init__(self, edits):
+        self.turn = threading.Condition()
+        self.refused, self.failed = collections.Counter(), []
+        self.groups, self.running = [], 0
+        # Those of the highest crates take longest, and go first.
+        for crate in reversed(list(dict.fromkeys(it.crate for it in edits))):
+            self.groups += grouped([it for it in edits if it.crate == crate])
+
+    def next(self):
+        """The next group, once there is one, or None at the end."""
+        with self.turn:
+            self.turn.wait_for(lambda: self.groups or not self.running)
+            if not self.groups:
+                return None
+            self.running += 1
+            return self.groups.pop(0)
+
+    def ended(self, group, said):
+        """Takes what a check said of a group: the edits that are not refused yet go into smaller
+        groups."""
+        edits, _ = group
+        refused = said.refused(edits)
+        left = [it for it in edits if it not in refused]
+        with self.turn:
+            self.running -= 1
+            self.refused.update(it.crate.name for it in refused)
+            if len(edits) == 1:
+                self.failed += [(it, said.why()) for it in left]
+            elif len(left) < len(edits):
+                self.groups += grouped(left)
+            else:
+                # Nothing was told of any: halves, down to each alone.
+                half = len(left) // 2
+                self.groups += [group for part in (left[:half], left[half:]) for group in grouped(part)]
+            self.turn.notify_all()
+
+
+def grouped(edits):
+    """Edits of a crate in groups, with the files' contents of each, or None for one that can't be
+    applied. A function is changed by one edit of a group; what changes more than bodies is
+    alone."""
+    groups = []
+    for edit in edits:
+        for members, texts in groups:
+            apart = texts and edit.is_of_bodies and all(it.is_of_bodies and not it.functions & edit.functions for it in members)
+            more = edit.apply(texts) if apart else None
+            if more:
+                members.append(edit)
+                texts.update(more)
+                break
+        else:
+            groups.append(([edit], edit.apply({})))
+    return groups
+
+
+def work(trials, copy):
+    """Tries groups, until none is left."""
+    while group := trials.next():
+        edits, texts = group
+        crate = edits[0].crate
+        try:
+            said = copy.check(crate, texts) if texts else Said(crate, 2, "what it replaces is not in its file exactly once")
+        except Exception as error:  # pylint: disable=broad-except
+            said = Said(crate, 2, repr(error))
+        trials.ended(group, said)
+
+
+def unproved(crate):
+    """Proves a crate, and says what failed, or nothing where it is proved and what that left is
+    kept."""
+    for verb in ("lib", "check"):
+        ran = run("rt", verb, cwd=crate)
+        if ran.returncode == 0 and (crate / "out" / "incremental").is_dir():
+            return ""
+    return "\n".join(ran.stdout.split("\n")[-40:])
+
+
+def chosen_crates(folder, names):
+    """The crates of these names, or all that have such a folder, in the order of `crates.txt`."""
+    listed = [line.split(":")[0].split()[0] for line in (TOP / "crates.txt").read_text(encoding="utf-8").split("\n") if ":" in line]
+    names = sorted(names, key=listed.index) if set(names) <= set(listed) else names
+    names = names or [it for it in listed if (TOP / "crates" / it / folder).is_dir()]
+    for name in names:
+        if not (TOP / "crates" / name / folder).is_dir():
+            raise Wrong(f"crates/{name} has no {folder}; the arguments are [--gate] [CRATE ..]")
+    return [TOP / "crates" / name for name in names]
+
+
+def tried(edits):
+    """What came of these edits, tried in as many copies as there are processors."""
+    trials, folder = Trials(edits), pathlib.Path("copies").resolve()
+    folder.mkdir()
+    try:
+        copies = [Copy(folder / str(number)) for number in range(len(os.sched_getaffinity(0)))]
+        threads = [threading.Thread(target=work, args=(trials, copy), daemon=True) for copy in copies]
+        for it in threads:
+            it.start()
+        for it in threads:
+            it.join()
+    finally:
+        for it in list(RUNNING):
+            with contextlib.suppress(ProcessLookupError):
+                os.killpg(it.pid, signal.SIGKILL)
+        shutil.rmtree(folder, ignore_errors=True)
+    return trials
+
+
+@checks
+def wrong_bodies(counter):
+    """Each edit counts as one that passed where it is refused."""
+    folder = "must-fail" if ARGUMENTS[:1] == ["--gate"] else "wrong-bodies"
+    crates = chosen_crates(folder, ARGUMENTS[1:] if folder == "must-fail" else ARGUMENTS)
+    for crate in crates:
+        failed = unproved(crate)
+        if failed:
+            raise Wrong(f"{crate.name} is not proved\n{failed}")
+    edits = [Edit(file) for crate in crates for file in sorted((crate / folder).glob("*.edit"))]
+    trials = tried(edits)
+    for crate in crates:
+        count = sum(it.crate == crate for it in edits)
+        print(f"{crate.name}: {trials.refused[crate.name]} of {count} wrong bodies were refused")
+    for edit, why in trials.failed:
+        print(f"NOT REFUSED: {edit.crate.name}/{edit.name}: {why}")
+    passed = sum(trials.refused.values())
+    counter.passed += passed
+    counter.failed += len(edits) - passed

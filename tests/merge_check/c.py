@@ -1,0 +1,347 @@
+"""The verifier, called from C, by the library that lms_c builds and by those that docs/C.md names
+beside it: the example, every way of calling, a program with no C library, and the same for aarch64
+and for browsers. What needs a tool that is not there is skipped."""
+
+import os
+import pathlib
+import re
+import shutil
+import subprocess
+
+from tests.harness import TOP, Wrong, checks, holds
+from tests.program import PROGRAM, keygen, put, read, sign, verify
+
+EXAMPLES = TOP / "examples"
+PUBLIC, MESSAGE, SIGNATURE = EXAMPLES / "release.pub", EXAMPLES / "firmware.bin", EXAMPLES / "firmware.sig"
+TWO_PUBLIC, TWO_SIGNATURE = EXAMPLES / "c/two_levels.pub", EXAMPLES / "c/two_levels.sig"
+LIBRARY = TOP / "crates/lms_c/out/liblms_c.a"
+# Where it is, while one of the others has its place.
+KEPT = "kept.a"
+NAMES = ["llvm", "sse2", "rattle"]
+INCLUDES = [f"-I{TOP}/include", f"-I{EXAMPLES}/c"]
+WARNINGS = ["-Wall", "-Wextra", "-pedantic", "-Werror"]
+EXPORTS = ["T lms_message_head", "T lms_verify", "T lms_verify_hash", "T lms_verify_pieces"]
+# The bytes of stack that docs/C.md tells a boot loader to have.
+MOST_STACK = 4096
+
+
+def said_by(*words, **how):
+    """What a command prints, which must end well."""
+    both = {"stdin": subprocess.DEVNULL, "stdout": subprocess.PIPE, "stderr": subprocess.STDOUT, "text": True, "errors": "replace"}
+    ran = subprocess.run(words, check=False, **both, **how)
+    holds(ran.returncode == 0, f"{words[0]} ended with {ran.returncode}\n{ran.stdout}")
+    return ran.stdout
+
+
+def gives(verdict, *words):
+    """A program prints this verdict, and ends with its status."""
+    ran = subprocess.run(words, stdin=subprocess.DEVNULL, capture_output=True, text=True, check=False)
+    wanted = (["valid", "invalid"].index(verdict), f"{verdict}\n")
+    holds((ran.returncode, ran.stdout) == wanted, f"{words[0]}: {ran.returncode} {ran.stdout!r} {ran.stderr!r}, not {verdict}")
+
+
+def all_ways(verdict, public, message, signature):
+    """The verdict on a public key, a message and a signature, by every library, every way of
+    calling and the example."""
+    programs = sorted(pathlib.Path("programs").iterdir())
+    holds(programs, "no program is built")
+    for program in programs:
+        gives(verdict, program.resolve(), public, message, signature)
+
+
+def all_heads(verdict, public, message, signature, head):
+    """The same, with `head` where key and signature have one, and `none` where they don't."""
+    all_ways(verdict, public, message, signature)
+    programs = sorted(pathlib.Path("programs").glob("*_ways"))
+    holds(programs, "no program of all ways is built")
+    for program in programs:
+        gives(verdict, program.resolve(), public, message, signature, head)
+
+
+def changed(contents, at):
+    """Bytes with the lowest bit of one of them changed."""
+    return b"".join([contents[:at], bytes([contents[at] ^ 1]), contents[at + 1 :]])
+
+
+def others(contents):
+    """Six other contents of a file, with their names."""
+    return {
+        "cut": contents[:-1],
+        "longer": contents + b"x",
+        "empty": b"",
+        "first": changed(contents, 0),
+        "last": changed(contents, len(contents) - 1),
+        "zeros": bytes(len(contents)),
+    }
+
+
+def refuses_others(counter):
+    """Other keys, messages and signatures are invalid."""
+    for name in others(b"x"):
+        put("other", others(read(PUBLIC))[name])
+        counter.check(f"{name} public key", all_ways, "invalid", "other", MESSAGE, SIGNATURE)
+        put("other", others(read(MESSAGE))[name])
+        counter.check(f"{name} message", all_heads, "invalid", PUBLIC, "other", SIGNATURE, "head")
+        put("other", others(read(SIGNATURE))[name])
+        counter.check(f"{name} signature", all_ways, "invalid", PUBLIC, MESSAGE, "other")
+
+
+def judges_heads(counter):
+    """Which keys and signatures have a head. In one level a signature is its number of signed keys,
+    q, the one-time typecode, C, 34 values, the typecode and the path; in two the upper one's of
+    1292 bytes and the signed key come before it."""
+
+    def judges_place(name, public, signature, at, head):
+        """A changed byte of a signature at this place: key and signature have a head, or none."""
+        put("changed", changed(read(signature), at))
+        counter.check(name, all_heads, "invalid", public, MESSAGE, "changed", head)
+
+    counter.check("one level has a head", all_heads, "valid", PUBLIC, MESSAGE, SIGNATURE, "head")
+    judges_place("another number of signed keys", PUBLIC, SIGNATURE, 3, "none")
+    judges_place("a leaf that is not in the tree", PUBLIC, SIGNATURE, 4, "none")
+    judges_place("another leaf of the tree", PUBLIC, SIGNATURE, 7, "head")
+    judges_place("another one-time typecode", PUBLIC, SIGNATURE, 11, "none")
+    judges_place("another C", PUBLIC, SIGNATURE, 12, "head")
+    judges_place("another typecode", PUBLIC, SIGNATURE, 12 + 32 * 35 + 3, "none")
+    put("longer", read(SIGNATURE) + b"x")
+    counter.check("a signature that is too long has no head", all_heads, "invalid", PUBLIC, MESSAGE, "longer", "none")
+    counter.check("two levels have a head", all_heads, "valid", TWO_PUBLIC, MESSAGE, TWO_SIGNATURE, "head")
+    judges_place("another signature of the upper level", TWO_PUBLIC, TWO_SIGNATURE, 1000, "none")
+    judges_place("another signed key", TWO_PUBLIC, TWO_SIGNATURE, 4 + 1292 + 40, "none")
+    judges_place("another path of the lower level", TWO_PUBLIC, TWO_SIGNATURE, 2643, "head")
+    counter.check("a signature of two levels under a key of one", all_heads, "invalid", PUBLIC, MESSAGE, TWO_SIGNATURE, "none")
+
+
+def make_key(name, levels, seed, identifier):
+    """Makes the key of a name, of these levels, from a digit for its seed and one for its
+    identifier."""
+    said_by(PROGRAM, *keygen(levels, seed * 64, identifier * 32, f"{name}.state", f"{name}.pub"))
+
+
+def sign_by(name, message):
+    """Signs a message by the key of a name."""
+    said_by(PROGRAM, *sign(message, f"{name}.sig", "7" * 64, f"{name}.state"))
+
+
+def judges_crosswise(counter, levels, head):
+    """Two keys of one shape and identifier from different seeds: each verifies its own signature,
+    and not the other's."""
+    counter.check(f"{levels}: the first key", make_key, "first", levels, "1", "2")
+    counter.check(f"{levels}: the second key", make_key, "second", levels, "3", "2")
+    counter.check(f"{levels}: it signs by the first", sign_by, "first", MESSAGE)
+    counter.check(f"{levels}: it signs by the second", sign_by, "second", MESSAGE)
+    counter.check(f"{levels}: the first's, under the first", all_heads, "valid", "first.pub", MESSAGE, "first.sig", "head")
+    counter.check(f"{levels}: the second's, under the second", all_heads, "valid", "second.pub", MESSAGE, "second.sig", "head")
+    counter.check(f"{levels}: the first's, under the second", all_heads, "invalid", "second.pub", MESSAGE, "first.sig", head)
+    counter.check(f"{levels}: the second's, under the first", all_heads, "invalid", "first.pub", MESSAGE, "second.sig", head)
+    for name in os.listdir():
+        if name.startswith(("first.", "second.")):
+            os.remove(name)
+
+
+def is_file(name, other):
+    """Two files have the same bytes."""
+    holds(read(name) == read(other), f"{name} has other bytes")
+
+
+def judges_signed(counter):
+    """Messages on both sides of the hash's block, and a long one, signed in two levels; keys
+    crosswise; and the files of the example."""
+    counter.check("a key of two levels", make_key, "key", "5/4,5/8", "1", "2")
+    for length in (0, 1, 55, 64, 200000):
+        put("message", read(PROGRAM)[:length])
+        counter.check(f"two levels, {length} bytes, are signed", sign_by, "key", "message")
+        counter.check(f"two levels, {length} bytes", all_ways, "valid", "key.pub", "message", "key.sig")
+        counter.check(f"two levels, {length} bytes, by lms_tool", gives, "valid", PROGRAM, *verify("message", "key.sig", "key.pub"))
+        counter.check(f"two levels, {length} bytes, under a key of one", all_ways, "invalid", PUBLIC, "message", "key.sig")
+    judges_crosswise(counter, "5/8", "head")
+    judges_crosswise(counter, "5/4,5/8", "none")
+    counter.check("the example's key of two levels", make_key, "two", "5/8,5/8", "5", "6")
+    counter.check("the example of two levels is signed", sign_by, "two", MESSAGE)
+    counter.check("the example's public key is that file", is_file, "two.pub", TWO_PUBLIC)
+    counter.check("the example's signature is that file", is_file, "two.sig", TWO_SIGNATURE)
+
+
+def example_fails(program):
+    """The example says which file it can't read, and that it can't print."""
+    ran = subprocess.run([program, "missing", MESSAGE, SIGNATURE], stdin=subprocess.DEVNULL, capture_output=True, text=True, check=False)
+    holds(ran.returncode == 2 and "missing" in ran.stderr, f"with no key: {ran.returncode} {ran.stderr!r}")
+    words = ["sh", "-c", 'exec "$0" "$@" >&-', program, PUBLIC, MESSAGE, SIGNATURE]
+    ran = subprocess.run(words, stdin=subprocess.DEVNULL, capture_output=True, check=False)
+    holds(ran.returncode == 2, f"with no output: {ran.returncode}")
+
+
+def put_back():
+    """The library of this computer, where one of the others has taken its place."""
+    if os.path.exists(KEPT):
+        shutil.move(KEPT, LIBRARY)
+
+
+def build_other(name, *words):
+    """Builds the library of a name, with these arguments of `rt lib`, and then puts the one that
+    was there back. What `rt` says."""
+    shutil.copy2(LIBRARY, "copy.a")
+    shutil.move("copy.a", KEPT)
+    try:
+        said = said_by("rt", "lib", *words, cwd=LIBRARY.parent.parent)
+        shutil.move(LIBRARY, f"{name}.a")
+    finally:
+        put_back()
+    return said
+
+
+def build(name, source, program):
+    """The program of a library of a name."""
+    said_by("cc", "-std=c99", "-O2", *WARNINGS, *INCLUDES, source, f"{name}.a", "-o", program)
+
+
+def build_installed():
+    """By pkg-config, from the folder that lms_c was given, in which it is named without its path:
+    flags with blanks would fall apart."""
+    environment = {**os.environ, "PKG_CONFIG_PATH": "lib/pkgconfig"}
+    flags = said_by("pkg-config", "--cflags", "--libs", "lms", cwd="installed", env=environment).split()
+    said_by("cc", "-O2", EXAMPLES / "c/verify.c", "-o", os.path.abspath("programs/installed_verify"), *flags, cwd="installed")
+
+
+def code_and_data(library):
+    """How many bytes of code and constants a library has, and how many of data that is written."""
+    code, data, zeros = map(int, said_by("size", "-t", library).splitlines()[-1].split()[:3])
+    return code, data + zeros
+
+
+def keeps_to_itself(library):
+    """The four calls are all that a library exports, functions of memory are all that it asks for,
+    and it has no data to write."""
+    rows = [line.split() for line in said_by("nm", "-g", library).splitlines()]
+    exports = sorted(" ".join(row[1:]) for row in rows if len(row) == 3)
+    more = [row[1] for row in rows if row[:1] == ["U"] and row[1] not in ("memcpy", "memmove", "memset")]
+    code, data = code_and_data(library)
+    holds(exports == EXPORTS and not more and code > 0 and data == 0, f"exports {exports}; asks for more: {more}; {code} and {data} bytes")
+
+
+def stays_within(name, most):
+    """A call of this library takes no more than so many bytes of stack."""
+    holds(most is not None, "the compiler told no bound")
+    said_by("cc", "-std=c11", "-O2", *INCLUDES, TOP / "tests/c/stack.c", f"{name}.a", "-o", "stack")
+    taken = int(said_by("./stack", PUBLIC, MESSAGE, SIGNATURE, TWO_PUBLIC, MESSAGE, TWO_SIGNATURE))
+    holds(taken <= most, f"takes {taken} bytes of {most}")
+
+
+def is_at_most(bound, most):
+    """The compiler's bound is no more than so many bytes."""
+    holds(bound is not None and bound <= most, f"the bound is {bound}")
+
+
+def links(text):
+    """Whether the compiler links a program of this text."""
+    put("probe.c", text.encode())
+    how = {"stdin": subprocess.DEVNULL, "stdout": subprocess.DEVNULL, "stderr": subprocess.DEVNULL}
+    return subprocess.run(["cc", "-w", "probe.c", "-o", "probe"], check=False, **how).returncode == 0
+
+
+def has_no_makecontext():
+    """The C library has no makecontext, though programs can be linked."""
+    return links("int main(void) { return 0; }") and not links("int makecontext(void); int main(void) { return makecontext(); }")
+
+
+def link_bare(made, library, *compiler):
+    """Links a program of this name with a library and no C library."""
+    bare = ["-std=c11", "-O2", "-ffreestanding", "-fno-stack-protector", "-nostdlib", "-static"]
+    said_by(*compiler, *bare, *INCLUDES, TOP / "tests/c/bare.c", library, "-o", made)
+
+
+def judges_bare(*program):
+    """The files are judged with no C library, by a program that is run as the words say."""
+    gives("valid", *program, PUBLIC, MESSAGE, SIGNATURE)
+    gives("invalid", *program, PUBLIC, SIGNATURE, SIGNATURE)
+    gives("valid", *program, TWO_PUBLIC, MESSAGE, TWO_SIGNATURE)
+
+
+def judges_aarch64(counter):
+    """The library and the program with no C library, for aarch64."""
+    counter.check("it is built for aarch64", build_other, "aarch64", "--target", "aarch64-unknown-linux-gnu")
+    if not (shutil.which("clang") and shutil.which("ld.lld")):
+        counter.skip("a program for aarch64", "there is no clang or no lld")
+        return
+    counter.check("it links for aarch64", link_bare, "bare_aarch64", "aarch64.a", "clang", "--target=aarch64-linux-gnu", "-fuse-ld=lld")
+    emulator = shutil.which("qemu-aarch64") or shutil.which("qemu-aarch64-static")
+    if emulator:
+        counter.check("it runs on aarch64", judges_bare, emulator, "./bare_aarch64")
+    else:
+        counter.skip("running a program for aarch64", "there is no emulator")
+
+
+def links_wasm():
+    """Links the library for browsers, into a module that asks for nothing."""
+    kit = pathlib.Path(shutil.which("rt")).resolve().parent.parent
+    said_by(kit / "bin/rattle-link", "--target", "wasm64-unknown-unknown", "--toolchain", kit / "toolchain", "-o", "lms.wasm", "wasm.a")
+
+
+def judges_node():
+    """The verdicts of that module, in node."""
+    # Versions before 24 want the word, and later ones know no such word.
+    memories = ["--experimental-wasm-memory64"]
+    if subprocess.run(["node", *memories, "-e", "0"], stdin=subprocess.DEVNULL, capture_output=True, check=False).returncode:
+        memories = []
+    node = ["node", *memories, TOP / "tests/c/node.mjs", "lms.wasm"]
+    put("changed", changed(read(MESSAGE), 0))
+    gives("valid", *node, PUBLIC, MESSAGE, SIGNATURE)
+    gives("invalid", *node, PUBLIC, "changed", SIGNATURE)
+    gives("valid", *node, TWO_PUBLIC, MESSAGE, TWO_SIGNATURE)
+    gives("invalid", *node, TWO_PUBLIC, MESSAGE, SIGNATURE)
+
+
+def builds_here():
+    """The library of this computer, with header and pkg-config file in a folder."""
+    print(said_by(TOP / "lms_c", os.path.abspath("installed")), end="", flush=True)
+
+
+def builds_by_rattle(bounds):
+    """The library by Rattle's own compiler, whose bound on the stack is noted."""
+    found = re.findall(r".* stack-bytes=(\d+) ", build_other("rattle", "--backend", "rattle"))
+    if not found:
+        raise Wrong("the compiler told no bound")
+    bounds.append(int(found[-1]))
+    print(f"by Rattle's own compiler: {code_and_data('rattle.a')[0]} bytes, with at most {bounds[-1]} bytes of stack", flush=True)
+
+
+@checks
+def the_verifier_for_c(counter):
+    os.mkdir("programs")
+    bounds = []
+    counter.check("the library is built", builds_here)
+    counter.check("the library is copied", shutil.copy2, LIBRARY, "llvm.a")
+    counter.check("it is built for processors with SSE2 alone", build_other, "sse2", "--cpu", "x86-64")
+    counter.check("it is built by Rattle's own compiler", builds_by_rattle, bounds)
+    bound = bounds[0] if bounds else None
+    for name in NAMES:
+        counter.check(f"all ways are built, {name}", build, name, TOP / "tests/c/ways.c", f"programs/{name}_ways")
+        counter.check(f"the example is built, {name}", build, name, EXAMPLES / "c/verify.c", f"programs/{name}_verify")
+        counter.check(f"it keeps to itself, {name}", keeps_to_itself, f"{name}.a")
+        counter.check(f"it links with no C library, {name}", link_bare, f"bare_{name}", f"{name}.a", "cc")
+        counter.check(f"it runs with no C library, {name}", judges_bare, f"./bare_{name}")
+    if shutil.which("pkg-config"):
+        counter.check("the example is built from the folder that was named", build_installed)
+    else:
+        counter.skip("the example from the folder that lms_c was given", "there is no pkg-config")
+    if has_no_makecontext():
+        counter.skip("the stack", "the C library has no makecontext")
+    else:
+        for name in NAMES:
+            counter.check(f"the stack is within what a loader is told, {name}", stays_within, name, MOST_STACK)
+        counter.check("the stack is within the compiler's bound", stays_within, "rattle", bound)
+        counter.check("the compiler's bound is within what a loader is told", is_at_most, bound, MOST_STACK)
+    counter.check("the example says what fails", example_fails, os.path.abspath("programs/llvm_verify"))
+    judges_heads(counter)
+    refuses_others(counter)
+    if os.access(PROGRAM, os.X_OK):
+        judges_signed(counter)
+    else:
+        counter.skip("signatures of lms_tool", "it is not built")
+    judges_aarch64(counter)
+    counter.check("it is built for browsers", build_other, "wasm", "--target", "wasm64-unknown-unknown")
+    counter.check("it links for browsers", links_wasm)
+    if shutil.which("node"):
+        counter.check("it runs in node", judges_node)
+    else:
+        counter.skip("running the verifier for browsers", "there is no node")

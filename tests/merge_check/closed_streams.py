@@ -1,0 +1,125 @@
+"""Each set of the three standard streams closed: the program ends as it should, and no file has
+what isn't its own. And each exit status."""
+
+import os
+
+from tests.harness import TOP, add_test, holds, test
+from tests.program import BATCH, INFO, PROGRAM, ends, fails, has, index_in, job_lines, keygen, preload, put, read, run, sign, verify
+
+LEVELS = ((5, 8),)
+SETS = ["", "0", "1", "2", "01", "02", "12", "012"]
+CLOSINGS = {"0": "<&-", "1": ">&-", "2": "2>&-"}
+# A word, a version and an index, the root, the 63 nodes of the tree, and the check value.
+NODES_LENGTH = 16 + 32 + 32 * 63 + 32
+
+
+def run_closed(closed, arguments, program=PROGRAM, **how):
+    """Runs the program without the streams of these numbers."""
+    closings = " ".join(CLOSINGS[it] for it in closed)
+    return run(["-c", f'exec "$0" "$@" {closings}', program, *arguments], program="sh", **how)
+
+
+def expect(closed, ran, status, output="", errors=""):
+    """It ended with this status, this output and these errors, but for what a closed stream was to
+    take."""
+    wanted = (status, "" if "1" in closed else output, "" if "2" in closed else errors)
+    found = (ran.returncode, ran.stdout, ran.stderr)
+    holds(found == wanted, f"{' '.join(map(str, ran.args[4:]))}: {found}, not {wanted}")
+
+
+def prints(closed, arguments, status, output):
+    """The program ends with this status and this output, or fails where its output is closed."""
+    ran = run_closed(closed, arguments)
+    if "1" in closed:
+        expect(closed, ran, 6, errors="error: cannot write output\n")
+    else:
+        expect(closed, ran, status, output)
+
+
+def files_are(counter, openings, *signatures):
+    """The state counts so many indices as used, and so many openings. The files are the state, its
+    lock, the kept nodes, the public key, the message and these signatures, each of which is valid
+    and has the index that it is named for."""
+    found, wanted = sorted(os.listdir()), sorted([*signatures, "key.pub", "key.state", "key.state.lock", "key.state.nodes", "text"])
+    holds(found == wanted, f"the files are {found}")
+    has("key.state.lock", b"")
+    holds(len(read("key.state.nodes")) == NODES_LENGTH, "something was written into the nodes")
+    has("text", b"abc")
+    ends(INFO, 0, f"levels 5/8\ncounter {counter}\ncapacity 32\nleft {32 - counter}\nopenings {openings}\nburnt 0\n")
+    for name in signatures:
+        ends(verify("text", name), 0, "valid\n")
+        holds(f"{index_in(read(name), LEVELS)}.sig" == name, f"another index in {name}")
+
+
+def answers(ran, *indices):
+    """It printed the answer lines of these indices. Their signatures become files."""
+    holds((ran.returncode, ran.stderr) == (0, ""), f"batch: {ran.returncode} {ran.stderr!r}")
+    lines = [line.split(" ") for line in ran.stdout.splitlines()]
+    holds([number for number, _ in lines] == list(map(str, indices)), f"not the answer lines of {indices}")
+    for number, digits in lines:
+        put(f"{number}.sig", bytes.fromhex(digits))
+
+
+def works_without(closed):
+    """Every command, with the streams of these numbers closed."""
+    shown = run(["--help"]).stdout
+    prints(closed, keygen(), 0, "capacity 32\n")
+    prints(closed, sign(out="0.sig"), 0, "index 0\n")
+    files_are(1, 1, "0.sig")
+    prints(closed, sign(out="1.sig"), 0, "index 1\n")
+    prints(closed, INFO, 0, "levels 5/8\ncounter 2\ncapacity 32\nleft 30\nopenings 2\nburnt 0\n")
+    prints(closed, verify("text", "1.sig"), 0, "valid\n")
+    prints(closed, verify("text", "key.pub"), 1, "invalid\n")
+    prints(closed, ["--help"], 0, shown)
+    ran = run_closed(closed, ["sign"])
+    holds(ran.returncode == 2, f"sign with no options ended with {ran.returncode}")
+    expect(closed, run_closed(closed, keygen()), 3, errors="error: state exists\n")
+    expect(closed, run_closed(closed, verify("text", "none")), 6, errors="error: cannot read input\n")
+    files_are(2, 2, "0.sig", "1.sig")
+    batch = run_closed(closed, BATCH, input=job_lines(b"abc", b"abc").decode())
+    if "0" in closed:
+        expect(closed, batch, 0)
+        files_are(2, 2, "0.sig", "1.sig")
+    elif "1" in closed:
+        expect(closed, batch, 6, errors="error: cannot write output\n")
+        files_are(4, 3, "0.sig", "1.sig")
+    else:
+        answers(batch, 2, 3)
+        files_are(4, 3, "0.sig", "1.sig", "2.sig", "3.sig")
+
+
+for numbers in SETS:
+    add_test(f"closed streams: {' '.join(numbers) or 'none'}", works_without, numbers)
+
+
+@test
+def the_script_leaves_the_streams_as_they_are():
+    ends(keygen(), 0, "capacity 32\n")
+    for index in range(2):
+        ends(sign(out=f"{index}.sig"), 0, f"index {index}\n")
+    expect("1", run_closed("1", sign(out="2.sig"), program=TOP / "lms_tool"), 6, errors="error: cannot write output\n")
+    files_are(3, 3, "0.sig", "1.sig", "2.sig")
+
+
+@test
+def ends_with_each_status():
+    example = [TOP / "examples" / name for name in ("firmware.bin", "firmware.sig", "release.pub")]
+    ends(verify(*example), 0, "valid\n")
+    ends(keygen(), 0, "capacity 32\n")
+    for index in range(3):
+        ends(sign(out=f"{index}.sig"), 0, f"index {index}\n")
+    ends(verify("text", "text"), 1, "invalid\n")
+    fails(verify(".", "text"), 6, "cannot read input")
+    # A message of 256 MiB in 16 MiB of addresses, which have the program and its libraries in them.
+    put("long", b"")
+    os.truncate("long", 256 << 20)
+    limited = ["-c", 'ulimit -v 16384; exec "$0" "$@"', PROGRAM]
+    ends([*limited, *verify("long", "0.sig")], 1, "invalid\n", program="sh")
+    fails(keygen("5/3", state="other", public="other"), 2, "bad levels")
+    fails(["info", "--state", "none"], 3, "cannot read state")
+    for index in range(3, 32):
+        ends(sign(out=f"{index}.sig"), 0, f"index {index}\n")
+    fails(sign(out="more.sig"), 4, "exhausted: 0 left")
+    fails(INFO, 5, "out of memory", env=preload("refuse", REFUSE=1))
+    fails(verify("text", "none"), 6, "cannot read input")
+    fails([b"\xff"], 6, "cannot read input")

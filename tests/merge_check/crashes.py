@@ -1,0 +1,193 @@
+"""The program killed at each of its operations on files and streams in turn, or with this operation
+failing, alone or with all after it.
+
+This is done to a `keygen`, to a `sign` by trees that it computes and keeps, to one by kept trees,
+and to a `batch` of three jobs. Then a `sign` and a `batch` follow. No index may be given twice, the
+next one is what the old state counts or what the new one does, the new signature must be valid, and
+no draft of a file may be left."""
+
+import concurrent.futures
+import os
+import pathlib
+import shutil
+import signal
+
+from tests.harness import add_test, holds
+from tests.program import ends, index_in, job_lines, keygen, preload, run, sign, verify
+
+LEVELS = ((5, 2),)
+# How many operations each command has; if the program changes, these change with it. Each opens
+# /dev/null (1), acquires the lock (2, or 3 where there is no state) and stores the state by way of
+# a draft (7). It may keep nodes by way of another one (5), write a file (2) and print a line (1).
+# `keygen` looks whether there is a state (1). `sign` reads the message (4), the kept nodes (4, or 1
+# where there are none) and the state (3). `batch` reads the state (3) and the lines (2), and prints
+# each answer by 8 writes.
+OPERATIONS = {"keygen": 20, "sign by trees": 26, "sign by kept trees": 24, "batch": 39}
+# What each command is run with, which of the made files it finds, and the next index before it and
+# after it.
+KEYGEN = keygen("5/2")
+COMMANDS = {
+    "keygen": (KEYGEN, [], 0, 0),
+    "sign by trees": (sign(out="first.sig"), ["key.pub", "key.state"], 1, 2),
+    "sign by kept trees": (sign(out="first.sig"), ["key.pub", "key.state", "key.state.nodes"], 1, 2),
+    "batch": (["batch", "--state", "key.state", "--workers", "2"], ["key.pub", "key.state", "key.state.nodes"], 1, 4),
+}
+# How the command ends where it meets the operation.
+STATUSES = {"killed": [-signal.SIGKILL], "failed": [3, 5, 6], "failed alone": [0, 3, 5, 6]}
+FILES = ["key.pub", "key.state", "key.state.lock", "key.state.nodes"]
+LINES = job_lines(b"\0", b"\1", b"\2")
+MADE = pathlib.Path("made")
+
+
+def indices_in(answers):
+    """The indices of answer lines, the last of which may be cut. Each is that of its signature."""
+    lines = [it.split(b" ") for it in answers.splitlines() if b" " in it]
+    for index, digits in lines:
+        holds(len(digits) < 16 or int(digits[8:16], 16) == int(index), "another index is printed")
+    return [int(index) for index, digits in lines if digits]
+
+
+class Crash:
+    """One run of a command in a folder of its own, where the operation of a number crashes it or
+    fails."""
+
+    def __init__(self, what, how, number):
+        self.what, self.how, self.number = what, how, number
+        self.arguments, found, self.counter, self.used = COMMANDS[what]
+        self.folder = pathlib.Path(how, str(number)).resolve()
+        self.folder.mkdir(parents=True)
+        for name in found:
+            shutil.copy(MADE / name, self.folder)
+        shutil.copy("text", self.folder)
+        (self.folder / "lines").write_bytes(LINES)
+
+    def holds(self, is_so, why):
+        """Fails where this is not so."""
+        holds(is_so, f"at operation {self.number}: {why}")
+
+    def bytes_of(self, name):
+        """The bytes of a file, or none where it does not exist."""
+        path = self.folder / name
+        return path.read_bytes() if path.exists() else b""
+
+    def is_there(self, name):
+        """Whether there is such a file."""
+        return (self.folder / name).exists()
+
+    def is_as_made(self, name):
+        """Whether a file is as it was made."""
+        return self.bytes_of(name) == (MADE / name).read_bytes()
+
+    def run(self, arguments, **how):
+        """Runs the program here."""
+        with open(self.folder / "lines", "rb") as lines:
+            return run(arguments, cwd=self.folder, stdin=lines, text=False, **how)
+
+    def begin(self):
+        """Runs the command. Whether it has an operation of this number."""
+        met = self.folder / "met"
+        last = self.number if self.how == "failed alone" else 10**6
+        settings = {"STOP": self.number} if self.how == "killed" else {"FAIL": self.number, "LAST": last}
+        ran = self.run(self.arguments, env=preload("stop", MET=met, **settings))
+        self.status, self.printed, self.is_met = ran.returncode, ran.stdout, met.exists()
+        self.holds(ran.returncode in (STATUSES[self.how] if self.is_met else [0]), f"ended with {ran.returncode}: {ran.stderr}")
+        self.holds(ran.returncode or self.is_whole(), "ended well, and did not do all")
+        self.nodes_are_in_turn()
+
+    def is_whole(self):
+        """What a command that ended well gives is there."""
+        if self.what == "keygen":
+            return self.is_as_made("key.pub")
+        if self.what == "batch":
+            return len(indices_in(self.printed)) == 3
+        return self.run(verify(signature="first.sig")).returncode == 0
+
+    def nodes_are_in_turn(self):
+        """Nodes are written after the state alone is stored, and before the signature; and none
+        where the kept ones are used."""
+        nodes = self.is_there("key.state.nodes")
+        if self.what == "keygen":
+            self.holds(self.is_there("key.state") or not nodes, "nodes are kept without a state")
+        elif self.what == "sign by trees":
+            self.holds(not self.is_as_made("key.state") or not nodes, "nodes are kept before the state is stored")
+            is_alone = self.how == "failed alone"
+            self.holds(is_alone or not self.bytes_of("first.sig") or nodes, "no nodes are kept, and a signature is written")
+        else:
+            self.holds(self.how == "failed alone" or self.is_as_made("key.state.nodes"), "the kept nodes are others")
+
+    def make_again(self):
+        """Makes the key of a `keygen` that left no state, and puts the public key there, which may
+        not be written."""
+        if not self.is_there("key.state"):
+            self.holds(self.run(KEYGEN).returncode == 0, "the next keygen fails")
+            self.holds(self.is_as_made("key.pub"), "another public key")
+        shutil.copy(MADE / "key.pub", self.folder)
+
+    def given(self):
+        """The indices that the command gave: of a file that is cut, what there is."""
+        if self.what == "batch":
+            return indices_in(self.printed)
+        index = index_in(self.bytes_of("first.sig"), LEVELS)
+        return [] if index is None else [index]
+
+    def sign_again(self):
+        """Signs by a `sign` and by a `batch`. The first index that is given."""
+        ran = self.run(sign(out="second.sig"))
+        self.holds(ran.returncode == 0, f"the next sign fails: {ran.stderr}")
+        self.holds(self.run(verify(signature="second.sig")).returncode == 0, "an invalid signature")
+        index = index_in(self.bytes_of("second.sig"), LEVELS)
+        self.holds(ran.stdout == b"index %d\n" % index, "another index is printed")
+        self.holds(index in (self.counter, self.used), f"the next index is {index}")
+        self.holds(self.status or index == self.used, f"the next index is {index} after a good end")
+        files = sorted(it.name for it in self.folder.glob("key.*"))
+        self.holds(files == FILES, f"the files are {files}")
+        ran = self.run(COMMANDS["batch"][0])
+        self.holds(ran.returncode == 0, f"the next batch fails: {ran.stderr}")
+        third = indices_in(ran.stdout)
+        self.holds(len(third) == 3, "the next batch is not whole")
+        all_given = [*self.given(), index, *third]
+        self.holds(len(set(all_given)) == len(all_given), f"an index is given twice: {all_given}")
+        return index
+
+    def end(self):
+        """Has the command crash, and goes on. The next index, and whether there was such an
+        operation."""
+        self.begin()
+        if self.what == "keygen":
+            self.make_again()
+        index = self.sign_again()
+        shutil.rmtree(self.folder)
+        return index, self.is_met
+
+
+def make():
+    """Makes a key of which one index has signed, with the nodes that were kept then."""
+    ends(KEYGEN, 0, "capacity 32\n")
+    ends(sign(), 0, "index 0\n")
+    MADE.mkdir()
+    for name in ("key.pub", "key.state", "key.state.nodes"):
+        shutil.copy(name, MADE)
+
+
+def crashes(what, how):
+    """Has a command end so at each of its operations, some at once."""
+    make()
+    counter, used = COMMANDS[what][2:]
+    preload("stop")
+    at_once, ended = len(os.sched_getaffinity(0)), []
+    with concurrent.futures.ThreadPoolExecutor(at_once) as pool:
+        while all(is_met for _, is_met in ended):
+            numbers = range(len(ended) + 1, len(ended) + 1 + at_once)
+            ended += pool.map(lambda number: Crash(what, how, number).end(), numbers)
+    operations = next(at for at, (_, is_met) in enumerate(ended) if not is_met)
+    holds(operations == OPERATIONS[what], f"there are {operations} operations, and should be {OPERATIONS[what]}")
+    indices = [index for index, _ in ended[: operations + 1]]
+    holds(indices[-1] == used, "the command used nothing")
+    # An operation that fails alone may be before the state is stored, or one after which the
+    # command goes on.
+    holds(how == "failed alone" or indices == sorted(indices), f"the next indices are {indices}, from {counter} on")
+
+
+for command in COMMANDS:
+    for way in STATUSES:
+        add_test(f"{command}, {way} at each of {OPERATIONS[command]} operations", crashes, command, way)

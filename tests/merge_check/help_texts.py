@@ -1,0 +1,197 @@
+"""Each text of help, each kind of mistake in arguments, and options in another order and with `=`:
+what the program prints, and nothing else."""
+
+from tests.harness import add_test, test
+from tests.program import ends
+from tests.reference import SEED
+
+LEVELS = (
+    "Height/width of each level, top first, as 10/8,10/8: 1 to 8 levels; heights 5, 10, 15, 20 or 25, together at most 60; "
+    "widths 1, 2, 4 or 8"
+)
+
+PROGRAM_HELP = """\
+Makes keys, signs and verifies with HSS/LMS (RFC 8554)
+
+Usage: lms_tool <COMMAND>
+
+Commands:
+  keygen  Makes a key from a seed
+  info    Describes a key
+  sign    Signs a message
+  batch   Signs the job lines of standard input
+  verify  Prints whether a signature is valid
+  help    Print this message or the help of the given subcommand(s)
+
+Options:
+  -h, --help  Print help
+"""
+
+KEYGEN_HELP = f"""\
+Makes a key from a seed
+
+Usage: lms_tool keygen --levels <LEVELS> --seed <HEX> --id <HEX> --state <FILE> --public <FILE>
+
+Options:
+      --levels <LEVELS>  {LEVELS}
+      --seed <HEX>       64 hexadecimal digits, random and secret
+      --id <HEX>         32 hexadecimal digits, random
+      --state <FILE>     The key's state, a new file
+      --public <FILE>    Where the public key is written, 60 bytes, in place of any older file
+  -h, --help             Print help
+
+Example:
+  lms_tool keygen --levels 10/8,10/8 --seed "$(openssl rand -hex 32)" --id "$(openssl rand -hex 16)" \\
+      --state key.state --public key.pub
+
+Never use a seed and identifier twice, whatever the levels: the same one-time keys would sign again, from index 0.
+"""
+
+INFO_HELP = """\
+Describes a key
+
+Usage: lms_tool info --state <FILE>
+
+Options:
+      --state <FILE>  The key's state
+  -h, --help          Print help
+
+Example:
+  lms_tool info --state key.state
+
+Prints the levels, how many indices are used (counter), how many there are (capacity) and how many are left (left), how many
+openings of the state stored something (openings), and how many indices were burnt before its last write (burnt).
+"""
+
+SIGN_HELP = """\
+Signs a message
+
+Usage: lms_tool sign --state <FILE> --random <HEX> --message <FILE> --out <FILE>
+
+Options:
+      --state <FILE>    The key's state
+      --random <HEX>    64 hexadecimal digits, random, fresh for each signature
+      --message <FILE>  The message, any bytes
+      --out <FILE>      Where the signature is written, raw bytes, in place of any older file
+  -h, --help            Print help
+
+Example:
+  lms_tool sign --state key.state --random "$(openssl rand -hex 32)" --message firmware.bin --out firmware.sig
+
+Prints the index, which counts as used before the signature is made. Never sign with an older copy of a state.
+"""
+
+BATCH_HELP = """\
+Signs the job lines of standard input
+
+Usage: lms_tool batch --state <FILE> --workers <N>
+
+Options:
+      --state <FILE>  The key's state
+      --workers <N>   How many workers sign at once, 1 to 64
+  -h, --help          Print help
+
+Example, for a file `jobs` with one line for each message:
+  lms_tool batch --state key.state --workers 4 < jobs > answers
+
+A job line is a randomizer of 64 hexadecimal digits, random and fresh for each job, one space, and the message, 0 to 131072
+hexadecimal digits; 1024 lines at most. So for the message `abc`:
+  5f0d1f7ac2be30a4d1c96bb5e86f27930c4ad0b2f4e1907c6e5a3d8f1b7290c4 616263
+
+An answer line is the index, one space, and the signature in hexadecimal. The indices count as used before the first signature
+is made. Never sign with an older copy of a state.
+"""
+
+VERIFY_HELP = """\
+Prints whether a signature is valid
+
+Usage: lms_tool verify --public <FILE> --message <FILE> --signature <FILE>
+
+Options:
+      --public <FILE>     The public key, 60 bytes
+      --message <FILE>    The message, any bytes
+      --signature <FILE>  The signature, raw bytes
+  -h, --help              Print help
+
+Example:
+  lms_tool verify --public key.pub --message firmware.bin --signature firmware.sig
+
+Ends with status 0 for `valid`, 1 for `invalid`, and another where a file can't be read.
+"""
+
+HELP_HELP = """\
+Print this message or the help of the given subcommand(s)
+
+Usage: lms_tool help [COMMAND]...
+
+Arguments:
+  [COMMAND]...  Print help for the subcommand(s)
+"""
+
+# The text of help, and each of the arguments that ask for it.
+TEXTS = [
+    (PROGRAM_HELP, ["--help", "-h", "help"]),
+    (KEYGEN_HELP, ["keygen --help"]),
+    (INFO_HELP, ["info --help"]),
+    (SIGN_HELP, ["sign --help"]),
+    (BATCH_HELP, ["batch --help"]),
+    (VERIFY_HELP, ["verify --help", "verify -h", "help verify"]),
+    (HELP_HELP, ["help help"]),
+]
+
+MORE = "For more information, try '--help'.\n"
+USAGE = f"Usage: lms_tool <COMMAND>\n\n{MORE}"
+VERIFY_USAGE = f"Usage: lms_tool verify --public <FILE> --message <FILE> --signature <FILE>\n\n{MORE}"
+
+# Arguments that are a mistake, what is said of them, and how to go on.
+MISTAKES = [
+    (
+        "",
+        "'lms_tool' requires a subcommand but one was not provided\n  [subcommands: keygen, info, sign, batch, verify, help]",
+        USAGE,
+    ),
+    ("stray", "unrecognized subcommand 'stray'", USAGE),
+    ("help stray", "unrecognized subcommand 'stray'", USAGE),
+    ("help --help", "unrecognized subcommand '--help'", USAGE),
+    ("--stray", "unexpected argument '--stray' found", USAGE),
+    (
+        "-- verify",
+        "unexpected argument 'verify' found\n\n  tip: subcommand 'verify' exists; to use it, remove the '--' before it",
+        USAGE,
+    ),
+    ("verify stray", "unexpected argument 'stray' found", VERIFY_USAGE),
+    (
+        "verify --public k --signature s",
+        "the following required arguments were not provided:\n  --message <FILE>",
+        VERIFY_USAGE,
+    ),
+    ("verify --public k --public k", "the argument '--public <FILE>' cannot be used multiple times", VERIFY_USAGE),
+    ("verify --public", "a value is required for '--public <FILE>' but none was supplied", MORE),
+]
+
+
+def shows(arguments, text):
+    """The program prints this text, and nothing else."""
+    ends(arguments.split(), 0, text)
+
+
+def is_mistaken(arguments, said, how_to_go_on):
+    """The program says this of the arguments, and then how to go on."""
+    ends(arguments.split(), 2, errors=f"error: {said}\n\n{how_to_go_on}")
+
+
+for help_text, askings in TEXTS:
+    for asking in askings:
+        add_test(f"help by `{asking}`", shows, asking, help_text)
+for mistake, saying, then in MISTAKES:
+    add_test(f"the mistake in `{mistake}`", is_mistaken, mistake, saying, then)
+
+
+@test
+def takes_options_in_any_order_and_with_equals_signs():
+    seed = SEED.hex()
+    shows(f"keygen --public key.pub --state=key.state --id {'2' * 32} --seed {seed} --levels 5/8", "capacity 32\n")
+    shows(f"sign --out=text.sig --message text --random {seed} --state key.state", "index 0\n")
+    shows("info --state=key.state", "levels 5/8\ncounter 1\ncapacity 32\nleft 31\nopenings 1\nburnt 0\n")
+    shows("batch --workers=1 --state key.state", "")
+    shows("verify --signature text.sig --message=text --public key.pub", "valid\n")

@@ -1,0 +1,317 @@
+"""Power is lost after each operation of `keygen`, `sign` and `batch` on files, by a model of a weak
+file system, and the program goes on.
+
+`record.c`, which is loaded before the program, records what it does to files, folders and streams.
+After each operation that changes something, every state of the files is made that a loss of power
+may leave then (`weak_disk.py`):
+
+- Each write to a file that was not flushed since is there whole, or its first half, or zeros in its
+  place, or its second half after zeros, or nothing. A file that was emptied to be written anew may
+  have its old bytes still.
+- Each name in a folder that was not flushed since leads to what it led to at some moment since,
+  whatever the other names do. So a file that was made or removed is there or not, and a rename is
+  lost, kept, or done to one of its two names alone. The new name leads to the old file or to the
+  new one: the program relies on that.
+- A flush of a file flushes none of its names, and a flush of a folder nothing of what its files
+  hold. A flush of kept nodes does nothing, so they are absent, old, new or damaged.
+- What the runs before did not flush may be lost as well, but for what they gave away, which no run
+  reads.
+
+The state's file must be old and whole, or absent before a `keygen` stored it, or new and whole; and
+new once a byte of a public key, of a signature or of standard output was written. From some of the
+states the program goes on, as if what is left were flushed: `info` prints what the state says, or
+`keygen` makes it where it is absent, and `sign` gives its next index, which was not given before,
+with the right signature. In this `keygen` and this `sign` power is lost again, after each
+operation, and the state's file is compared.
+
+Where there are more than 4000 states of a moment, some 4000 are drawn, by a fixed seed. The program
+goes on from 25 states of each run, from the first moment to the last, and with `--all` from all
+that differ in the state's file or those beside it. A failure prints up to 20 faults of a run.
+
+The last two tests see that faults are found of each run by a model in which flushes of files do
+nothing, and by one in which those of folders do nothing, and that the program does not go on well
+from there. With `--ignore files` or `--ignore folders` the other tests use such a model, and fail.
+
+It does not show what a file system does, nor whether a flush is one, since no machine loses power.
+No operation fails. No file system is tried that puts other bytes into a file, loses what was
+flushed, or lets a name that was renamed over lead to neither file. Heights are 5 alone."""
+
+import argparse
+import concurrent.futures
+import functools
+import itertools
+import os
+import tempfile
+
+from tests.harness import ARGUMENTS, Wrong, add_test, holds
+from tests.merge_check.weak_disk import Disk, differs_by, fault_of, found_in, lay, operations, printed
+from tests.program import ends, has, job_lines, keygen, preload, read, run, sign
+from tests.reference import image, kept, public_of, signature_of
+
+ONE, TWO = ((5, 8),), ((5, 4), (5, 4))
+MESSAGE = b"abc"
+MOST_CASES, MOST_LINES = 25, 20
+
+
+def asked():
+    """The module's arguments."""
+    parser = argparse.ArgumentParser("tests/run power_cuts --")
+    parser.add_argument("--all", action="store_true")
+    parser.add_argument("--ignore", choices=["files", "folders"])
+    return parser.parse_args(ARGUMENTS)
+
+
+class Run:
+    """A recorded run of the program: the files that it found and what it did; the state before it,
+    if there was one, and after it; and the index that is next before it and after it."""
+
+    def __init__(self, key, name, before, after, indices):
+        self.key, self.name, self.before, self.after, self.indices = key, name, before, after, indices
+
+    def record(self, folder, arguments, jobs=b""):
+        """Runs the program, and records all that it does to files in the folder. What it
+        printed."""
+        self.folder, self.found, log = folder, found_in(folder), f"{folder}.record"
+        ran = run(arguments, cwd=folder, input=jobs, text=False, env=preload("record", RECORD=log))
+        self.done = list(operations(read(log)))
+        os.remove(log)
+        unknown = [data for word, _, _, data in self.done if word == "unknown"]
+        said = f"{self.name} ended with {ran.returncode}: {ran.stderr}; calls that are not known: {unknown}"
+        holds((ran.returncode, ran.stderr, unknown) == (0, b"", []), said)
+        holds(printed(self.done) == ran.stdout, f"{self.name}: not all that was printed is recorded")
+        disk = self.disk()
+        for number, operation in enumerate(self.done, 1):
+            disk.do(*operation, number)
+        there = {name: contents for name, (_, contents) in found_in(folder).items()}
+        recorded = {name: disk.file(name).contents for name in disk.names if disk.file(name)}
+        holds(recorded == there, f"{self.name}: not all that was done to files is recorded")
+        holds(there.get(self.key.state) == self.after, f"{self.name}: it left another state")
+        return ran.stdout
+
+    def disk(self, ignored=None):
+        """The files that it found."""
+        return Disk(self.folder, self.found, self.key.state, ignored)
+
+    def cuts(self, disk):
+        """Loses power at each moment. Of each loss: what it leaves, the index below which all may
+        have been given, what is wrong, and a call that says where that was, until the next loss."""
+        for number, operation in enumerate([None, *self.done]):
+            at = f"{self.name} #{number}"
+            moment = disk.do(*operation, at) if operation else at
+            for left, lost in disk.losses() if moment else ():
+                fault = fault_of(left.get(self.key.state, (0, None))[1], self.before, self.after, disk.has_left)
+                yield left, self.indices[disk.has_left], fault, lambda: f"{self.key.name}, after {moment}; lost: {disk.said(lost)}"
+
+    def faults(self):
+        """Lines on the first faults that are found, where all was flushed before this run."""
+        found = (f"{where()}; found: {fault[1]}" for _, _, fault, where in self.cuts(self.disk()) if fault)
+        return list(itertools.islice(found, MOST_LINES))
+
+
+class Key:
+    """A key in a folder, and the runs on it, one after another, where a number is a `batch` of so
+    many jobs. Where a state has another name, by which the program finds it, that is a link to
+    it."""
+
+    def __init__(self, name, levels, steps, state="key.state", option=None, files=None):
+        self.name, self.levels, self.steps, self.state, self.option = name, levels, steps, state, option or state
+        self.files = {"text": MESSAGE, **(files or {})}
+        # The counter and the openings of each state image.
+        self.numbers = {}
+
+    def levels_text(self):
+        """The levels as the program prints them."""
+        return ",".join(f"{height}/{width}" for height, width in self.levels)
+
+    def capacity(self):
+        """How many indices the key has."""
+        return 2 ** sum(height for height, _ in self.levels)
+
+    def lay(self, folder, files):
+        """Puts files into a folder, with the name by which the program finds the state."""
+        lay(folder, files)
+        os.makedirs(os.path.dirname(f"{folder}/{self.state}"), exist_ok=True)
+        if self.option != self.state:
+            os.symlink(self.state, f"{folder}/{self.option}")
+
+    def image(self, counter, openings, version=2):
+        """A state image of the key, whose numbers are noted."""
+        contents = image(self.levels, counter, openings, version=version)
+        self.numbers[contents] = counter, openings
+        return contents
+
+    def makes(self, folder):
+        """Runs `keygen`."""
+        made = Run(self, "keygen", None, self.image(0, 0), (0, 0))
+        said = made.record(folder, keygen(self.levels_text(), state=self.option))
+        holds(said == b"capacity %d\n" % self.capacity(), "keygen printed something else")
+        has(f"{folder}/key.pub", public_of(self.levels))
+        return made
+
+    def signs(self, folder, before):
+        """Runs `sign` on a state."""
+        counter, openings = self.numbers[before]
+        made = Run(self, f"sign {counter}", before, self.image(counter + 1, openings + 1), (counter, counter + 1))
+        holds(made.record(folder, sign(state=self.option)) == b"index %d\n" % counter, f"sign {counter} printed something else")
+        has(f"{folder}/text.sig", signature_of(self.levels, counter, MESSAGE))
+        return made
+
+    def answers(self, folder, before, jobs):
+        """Runs `batch` on a state, with so many jobs."""
+        counter, openings = self.numbers[before]
+        after = self.image(counter + jobs, openings + 1)
+        made = Run(self, f"batch {counter} to {counter + jobs - 1}", before, after, (counter, counter + jobs))
+        said = "".join(f"{it} {signature_of(self.levels, it, MESSAGE).hex()}\n" for it in range(counter, counter + jobs))
+        printed_now = made.record(folder, ["batch", "--state", self.option, "--workers", "2"], job_lines(*[MESSAGE] * jobs))
+        holds(printed_now == said.encode(), f"batch {counter} printed something else")
+        return made
+
+    @functools.lru_cache(maxsize=None)
+    def runs(self):
+        """All runs, one after another, once they are made."""
+        folder = os.path.realpath(tempfile.mkdtemp())
+        self.lay(folder, {name: (name, contents) for name, contents in self.files.items()})
+        before, made = self.files.get(self.state), []
+        for step in self.steps:
+            if step == "keygen":
+                made.append(self.makes(folder))
+            else:
+                made.append(self.signs(folder, before) if step == "sign" else self.answers(folder, before, step))
+            before = made[-1].after
+        return made
+
+    def goes_on(self, left, least):
+        """Goes on from what a loss of power left, where all indices below one may have been given.
+        Lines on what is wrong where power is lost again; what is wrong before is raised."""
+        with tempfile.TemporaryDirectory() as folder:
+            self.lay(folder, left)
+            before, made = left.get(self.state, (0, None))[1], []
+            if before is None:
+                self.describes(folder, 3, "", "error: cannot read state\n")
+                made.append(self.makes(folder))
+                before = made[0].after
+            counter, openings = self.numbers.get(before, (0, 0))
+            capacity = self.capacity()
+            numbers = f"counter {counter}\ncapacity {capacity}\nleft {capacity - counter}\nopenings {openings}\nburnt 0\n"
+            self.describes(folder, 0, f"levels {self.levels_text()}\n{numbers}")
+            holds(before in self.numbers, "info describes a state that is none")
+            made.append(self.signs(folder, before))
+            holds(counter >= least, f"index {counter} is given again")
+            holds(f"{self.state}.new" not in found_in(folder), "a draft of the state is left")
+            return [f"with power back, {line}" for it in made for line in it.faults()]
+
+    def describes(self, folder, status, output, errors=""):
+        """`info` ends so."""
+        ends(["info", "--state", self.option], status, output, errors, cwd=folder)
+
+
+PLAIN = Key("5/8", ONE, ["keygen", "sign", "sign", 3])
+# (Indices 31 and 32 go through two trees.)
+APART = Key("5/4,5/4 in another folder", TWO, ["keygen", "sign", "sign", 29, "sign", "sign", 2], "keys/key.state")
+# Version 1 wrote this state, and a crash left drafts beside it.
+OLD = image(TWO, 31, version=1)
+CRASHED = Key("5/4,5/4 by a link", TWO, ["sign", "sign", 2], "keys/state", "key.state", {
+    "keys/state": OLD, "keys/state.new": OLD[:50], "keys/state.nodes": kept(TWO, 0), "keys/state.nodes.new": OLD, "text.sig": bytes(30000),
+})
+CRASHED.numbers[OLD] = 31, 0
+KEYS = [PLAIN, APART, CRASHED]
+
+
+def say(lines, count):
+    """Prints the first lines on so many faults, and how many more there are, and fails where there
+    is one."""
+    for line in lines[:MOST_LINES]:
+        print(line)
+    if count > MOST_LINES:
+        print(f"and {count - MOST_LINES} more")
+    holds(not count, f"{count} faults, or more")
+
+
+@functools.lru_cache(maxsize=None)
+def cuts(key):
+    """Loses power in each run on a key: how many faults there are, lines on the first ones, and of
+    each run the states to go on from that differ in the state's file or those beside it."""
+    ignored, total, lines, cases = asked().ignore, 0, [], []
+    disk = key.runs()[0].disk()
+    for made in key.runs():
+        # (Without flushes all that the runs before left is lost, and so each run has a disk of its
+        # own then.)
+        disk = made.disk(ignored) if ignored else disk
+        disk.begin()
+        found = {}
+        for left, least, fault, where in made.cuts(disk):
+            total += fault is not None
+            if fault and len(lines) < MOST_LINES:
+                lines.append(f"{where()}; found: {fault[1]}")
+            elif not fault and (by := (least, differs_by(left, key.state))) not in found:
+                found[by] = left, least, where()
+        cases.append(list(found.values()))
+    return total, lines, cases
+
+
+def loses_power(key):
+    """Loses power in each run on a key."""
+    total, lines, _ = cuts(key)
+    say(lines, total)
+
+
+def spread(cases):
+    """As many of a run's cases as the program goes on from."""
+    most = len(cases) if asked().all else min(len(cases), MOST_CASES)
+    return [cases[at * (len(cases) - 1) // max(1, most - 1)] for at in range(most)]
+
+
+def goes_on(key):
+    """Goes on from what is left of the runs on a key."""
+    chosen, lines = [case for cases in cuts(key)[2] for case in spread(cases)], []
+    with concurrent.futures.ThreadPoolExecutor(len(os.sched_getaffinity(0))) as pool:
+        try:
+            for found in pool.map(lambda case: goes_on_from(key, *case), chosen):
+                lines += found
+        except BaseException:
+            # (Interrupted, it does not go on from the others.)
+            pool.shutdown(cancel_futures=True)
+            raise
+    say(lines, len(lines))
+
+
+def goes_on_from(key, left, least, where):
+    """Lines on what is wrong where the program goes on from there."""
+    try:
+        return [f"{where}; {line}" for line in key.goes_on(left, least)]
+    except Exception as why:  # pylint: disable=broad-except
+        return [f"{where}; found: {why}"]
+
+
+def finds(ignored, word):
+    """Of each run a model with flushes that do nothing finds this fault, and no other, and the
+    program does not go on well from the first."""
+    for key in KEYS:
+        for made in key.runs():
+            first = None
+            for left, least, fault, where in made.cuts(made.disk(ignored)):
+                if fault:
+                    first = first or (left, least, where())
+                    holds(fault[0] == word, f"{where()}; found: {fault[1]}")
+            holds(first, f"{key.name}, {made.name}: no fault is found")
+            # (A key without a state is made again, since no index of it was given.)
+            if key.state in first[0]:
+                is_refused(key, *first)
+
+
+def is_refused(key, left, least, where):
+    """The program does not go on well from there."""
+    try:
+        key.goes_on(left, least)
+    except Wrong:
+        return
+    raise Wrong(f"it goes on well: {where}")
+
+
+for at, one in zip(["in one folder", "in another folder", "by a link"], KEYS):
+    add_test(f"loses power {at}", loses_power, one)
+for at, one in zip(["in one folder", "in another folder", "by a link"], KEYS):
+    add_test(f"goes on {at}", goes_on, one)
+if not asked().ignore:
+    add_test("finds flushes of files that do nothing", finds, "files", "torn")
+    add_test("finds flushes of folders that do nothing", finds, "folders", "older")

@@ -1,0 +1,39 @@
+"""The rounds of README.md as they are there, of one signature and of a batch, by the program. They
+need openssl and basenc."""
+
+import os
+import subprocess
+
+from tests.harness import TOP, holds, test
+from tests.program import PROGRAM, put
+
+
+def blocks(text):
+    """The blocks of commands that run the program, one after the other."""
+    found, block, is_inside = [], "", False
+    for line in text.splitlines(keepends=True):
+        if line.startswith("```"):
+            found += [block] if "./lms_tool " in block else []
+            block, is_inside = "", not is_inside
+        elif is_inside:
+            block += line
+    return "".join(found)
+
+
+@test
+def each_signature_of_the_rounds_is_valid():
+    put("commands", blocks((TOP / "README.md").read_text(encoding="utf-8")).encode())
+    os.symlink(PROGRAM, "lms_tool")
+    os.symlink(TOP / "examples", "examples")
+    os.mkdir("home")
+    how = {"stdin": subprocess.DEVNULL, "stdout": subprocess.PIPE, "stderr": subprocess.STDOUT, "text": True}
+    ran = subprocess.run(["sh", "-eu", "commands"], env={**os.environ, "HOME": os.path.abspath("home")}, check=False, **how)
+    said = f"\n{ran.stdout}"
+    holds(ran.returncode == 0, f"ended with {ran.returncode}{said}")
+    lines = ran.stdout.splitlines()
+    holds("capacity 1048576" in lines, f"no key{said}")
+    holds("index 0" in lines, f"no signature by index 0{said}")
+    files = len(list((TOP / "examples").glob("*.*")))
+    with open("home/keys/answers", "rb") as answers:
+        holds(len(answers.readlines()) == files, f"not an answer for each file{said}")
+    holds(lines.count("valid") == files + 2, f"not each signature is valid{said}")

@@ -1,0 +1,273 @@
+"""Packs what is built twice, by ./release --built, and tries the packages as a new user would: with
+no toolchain on the PATH, in folders of their own. Nothing is proved or built. Where something is
+not built, by `./lms_tool build both`, `./lms_c` and `examples/web/build`, all is skipped."""
+
+import os
+import pathlib
+import re
+import shutil
+import stat
+import subprocess
+import tarfile
+import time
+
+from tests.harness import TOP, Skipped, checks, holds
+from tests.program import job_lines, keygen, put, sign, verify
+
+VERSION = (TOP / "VERSION").read_text(encoding="utf-8").strip()
+NAME, DEBIAN = f"lms_tool-{VERSION}-x86_64", f"lms-tool_{VERSION}_amd64.deb"
+PACKED = [f"{NAME}.tar.gz", DEBIAN, "lms_verify.html", "SHA256SUMS"]
+COMMANDS = ["keygen", "sign", "batch", "verify", "info"]
+TOOLS = ["tar", "gzip", "strip", "sha256sum", "md5sum", "dpkg-deb", "dpkg", "basenc"]
+OUTPUTS = [
+    "crates/lms_tool/out/lms_tool",
+    "crates/lms_tool/out/avx2/lms_tool",
+    "crates/lms_c/out/liblms_c.a",
+    "examples/web/out/lms_verify.html",
+]
+# What the launcher asks of a processor before it takes the program for AVX2.
+FLAGS = ["avx", "avx2", "bmi1", "bmi2", "f16c", "fma", "abm", "movbe"]
+LEVELS = ["x86-64-v2", "x86-64-v3"]
+# 2001-09-09, 01:46:40.
+SECONDS = 1000000000
+# `dpkg` is there for root.
+ALL_TOOLS = f"{os.environ.get('PATH', '')}:/usr/sbin:/sbin"
+# What follows this is the first block of commands of a document.
+FENCE = re.compile(r"(?ms)^```[^\n]*\n(.*?)^```")
+
+
+def sources():
+    """The files that what is built was built from."""
+    folders = [it for kind in ("src", "specs", "proofs") for it in (TOP / "crates").glob(f"*/{kind}")]
+    return [TOP / "crates.txt", *(file for folder in folders for file in folder.rglob("*") if file.is_file())]
+
+
+def skip_where_something_is_missing():
+    """All is skipped where a tool is not there, or something is not built."""
+    for tool in TOOLS:
+        if not shutil.which(tool, path=ALL_TOOLS):
+            raise Skipped(f"there is no {tool}")
+    newest = max(file.stat().st_mtime_ns for file in sources())
+    for output in OUTPUTS:
+        if not (TOP / output).is_file():
+            raise Skipped(f"{output} is not built")
+        if (TOP / output).stat().st_mtime_ns < newest:
+            raise Skipped(f"{output} is older than a source")
+
+
+def said_by(*words, **how):
+    """What a command prints, which must end well."""
+    how = {"input": "", "stdout": subprocess.PIPE, "stderr": subprocess.PIPE, "text": True, "errors": "replace", **how}
+    ran = subprocess.run(words, check=False, **how)
+    holds(ran.returncode == 0, f"{words[0]} ended with {ran.returncode}\n{ran.stdout}{ran.stderr}")
+    return ran.stdout
+
+
+def alone(*words, **how):
+    """The same, as on a machine with nothing but the system's own programs."""
+    return said_by(*words, env={"PATH": "/usr/bin:/bin", "HOME": os.getcwd(), **how.pop("more", {})}, **how)
+
+
+def prints(wanted, said):
+    """A command printed this line, or these."""
+    holds(said == f"{wanted}\n", f"it printed {said!r}, not {wanted!r}")
+
+
+def copy_sources(folder):
+    """A folder with all that `release` reads, and nothing else."""
+    for part in ("src", "specs", "proofs"):
+        os.makedirs(f"{folder}/crates/lms_c/{part}", exist_ok=True)
+    for name in ("docs", "include", "examples/c"):
+        shutil.copytree(TOP / name, f"{folder}/{name}")
+    plain = [it.relative_to(TOP) for it in (TOP / "examples").glob("*.*")]
+    for name in ("release", "VERSION", "README.md", "crates.txt", *plain, *OUTPUTS):
+        os.makedirs(os.path.dirname(f"{folder}/{name}"), exist_ok=True)
+        shutil.copy2(TOP / name, f"{folder}/{name}")
+
+
+def packs():
+    """Two packings in two folders are the same bytes. The copies are in no repository."""
+    copy_sources("here")
+    copy_sources("a folder elsewhere")
+    for file in pathlib.Path("a folder elsewhere/docs").iterdir():
+        then = time.time() - 3 * 86400
+        os.utime(file, (then, then))
+    both = {**os.environ, "SOURCE_DATE_EPOCH": str(SECONDS), "MAINTAINER": "No One <no-one@debian.org>"}
+    said_by("here/release", "--built", "packed", env=both)
+    os.mkdir("temporary")
+    os.chmod("temporary", 0o2777)
+    other = {"TZ": "Asia/Tokyo", "LC_ALL": "C.UTF-8", "TMPDIR": os.path.abspath("temporary")}
+    more = {"TAR_OPTIONS": "--mtime=now", "DPKG_DEB_COMPRESSOR_LEVEL": "1"}
+    masked = ["sh", "-c", 'umask 077 && exec "$0" "$@"']
+    said_by(*masked, "a folder elsewhere/release", "--built", "packed again", env={**both, **other, **more})
+    for file in PACKED:
+        holds(pathlib.Path("packed", file).read_bytes() == pathlib.Path("packed again", file).read_bytes(), f"{file} has other bytes")
+    holds(not os.listdir("temporary"), "temporary files are left")
+    with tarfile.open(f"packed/{NAME}.tar.gz") as packed:
+        for it in packed:
+            holds((it.uid, it.gid, it.mtime) == (0, 0, SECONDS), f"{it.name} has another owner or time")
+
+
+def sums():
+    """The checksums are those of all that was packed."""
+    said_by("sha256sum", "-c", "SHA256SUMS", cwd="packed")
+    holds(len(pathlib.Path("packed/SHA256SUMS").read_text().splitlines()) == 3, "not three sums")
+
+
+def goes_round(program, package):
+    """A whole round by a program, with the examples of a package."""
+    program, examples = os.path.abspath(program), os.path.abspath(f"{package}/share/doc/lms-tool/examples")
+    message, number = f"{examples}/firmware.bin", "{:064d}".format
+    shutil.rmtree("keys", ignore_errors=True)
+    os.mkdir("keys")
+
+    def said(*words, **how):
+        return alone(program, *words, cwd="keys", **how)
+
+    prints("valid", said(*verify(message, f"{examples}/firmware.sig", f"{examples}/release.pub")))
+    prints("capacity 1024", said(*keygen("5/8,5/8", number(1), f"{2:032d}")))
+    prints("index 0", said(*sign(message, "sig", number(3))))
+    holds("counter 1" in said("info", "--state", "key.state").splitlines(), "another counter")
+    job = job_lines(b"abc", randomizer=bytes.fromhex(number(4))).decode()
+    index, digits = said("batch", "--state", "key.state", "--workers", "1", input=job).split()
+    holds(index == "1", f"index {index}")
+    put("keys/abc", b"abc")
+    put("keys/abc.sig", bytes.fromhex(digits))
+    prints("valid", said(*verify("abc", "abc.sig")))
+    prints("valid", said(*verify(message, "sig")))
+
+
+def follows_readme():
+    """The first block of commands of README.md, as it is there, in a folder with the tarball."""
+    put("block", FENCE.search((TOP / "README.md").read_text(encoding="utf-8"))[1].encode())
+    os.mkdir("user")
+    for name in (f"{NAME}.tar.gz", "SHA256SUMS"):
+        shutil.copy(f"packed/{name}", "user")
+    prints(f"{NAME}.tar.gz: OK\nvalid", alone("sh", "-eu", os.path.abspath("block"), cwd="user"))
+
+
+def script(file, text):
+    """Writes a script."""
+    put(file, f"#!/bin/sh\n{text}\n".encode())
+    os.chmod(file, 0o755)
+
+
+def chooses(package):
+    """The launcher takes the program for AVX2 on a processor with all flags that it asks for, and
+    else the common one. Its /proc/cpuinfo is read by a stand-in for sed here."""
+    shutil.rmtree("other", ignore_errors=True)
+    for folder in ("bin", "path", *(f"lib/lms_tool/{level}" for level in LEVELS)):
+        os.makedirs(f"other/{folder}")
+    shutil.copy(f"{package}/bin/lms_tool", "other/bin")
+    for level in LEVELS:
+        script(f"other/lib/lms_tool/{level}/lms_tool", f'echo {level} "$@"')
+    for missing in (None, *FLAGS):
+        flags = " ".join(it for it in ("fpu", *FLAGS, "sse2") if it != missing)
+        script("other/path/sed", f'echo "{flags}"')
+        level = LEVELS[missing is None]
+        said = alone("other/bin/lms_tool", "a b", more={"PATH": f"{os.path.abspath('other/path')}:/usr/bin:/bin"})
+        holds(said == f"{level} a b\n", f"without {missing}: {said!r}")
+
+
+def launches(package):
+    """The launcher starts a program, through a link, too."""
+    launcher = os.path.abspath(f"{package}/bin/lms_tool")
+    goes_round(launcher, package)
+    os.symlink(launcher, "link")
+    holds(alone(launcher, "--help") == alone("./link", "--help"), "another text by a link")
+    os.remove("link")
+
+
+def compiles(package, library):
+    """examples/c/verify.c, with header and library of a package, and with the flags that its
+    pkg-config file says."""
+    package = os.path.abspath(package)
+    examples = f"{package}/share/doc/lms-tool/examples"
+    flags = [f"-I{package}/include", f"{package}/{library}/liblms_c.a"]
+    if shutil.which("pkg-config"):
+        named = {**os.environ, "PKG_CONFIG_PATH": f"{package}/{library}/pkgconfig"}
+        flags = said_by("pkg-config", "--cflags", "--libs", "lms", env=named).split()
+    said_by("cc", "-O2", f"{examples}/verify.c", "-o", "verify", *flags)
+    prints("valid", said_by("./verify", *(f"{examples}/{name}" for name in ("release.pub", "firmware.bin", "firmware.sig"))))
+
+
+def manual_shows(package, command):
+    """A page of the manual shows each option that the command's help names, and no line is lost."""
+    page = f"{package}/share/man/man1/lms_tool{'-' * bool(command)}{command}.1.gz"
+    shown = alone("man", "-l", page, more={"MANWIDTH": "200"}).replace("\b", "")
+    lines = alone(f"{package}/bin/lms_tool", *[command] * bool(command), "--help").splitlines()
+    holds(any(lines), "there is no help")
+    for line in lines:
+        holds(line.lstrip(" ") in shown, f"the page has no: {line}")
+
+
+def installs():
+    """The package can be installed and removed, below a folder."""
+    below = os.path.abspath("installed")
+    for folder in ("info", "updates"):
+        os.makedirs(f"{below}/var/lib/dpkg/{folder}")
+    put(f"{below}/var/lib/dpkg/status", b"")
+    dpkg = ["dpkg", f"--root={below}", f"--log={os.path.abspath('log')}"]
+    how = {"env": {**os.environ, "PATH": ALL_TOOLS}}
+    said_by(*dpkg, "--force-depends", "--force-not-root", "-i", f"packed/{DEBIAN}", **how)
+    status = said_by("dpkg", f"--root={below}", "-s", "lms-tool", **how).splitlines()
+    holds([it for it in status if it.startswith("Status")] == ["Status: install ok installed"], f"{status}")
+    goes_round(f"{below}/usr/bin/lms_tool", f"{below}/usr")
+    said_by(*dpkg, "--force-not-root", "-r", "lms-tool", **how)
+    holds(not os.path.lexists(f"{below}/usr/bin/lms_tool"), "the program is left")
+
+
+def is_whole():
+    """The package names each of its files but those of its own, with their sums."""
+    said_by("md5sum", "-c", "--quiet", "DEBIAN/md5sums", cwd="debian")
+    files = [it for it in pathlib.Path("debian/usr").rglob("*") if stat.S_ISREG(it.lstat().st_mode)]
+    holds(len(pathlib.Path("debian/DEBIAN/md5sums").read_text().splitlines()) == len(files), "not each file has a sum")
+
+
+def names_the_version():
+    """include/lms.pc has the line of this version."""
+    lines = (TOP / "include/lms.pc").read_text(encoding="utf-8").splitlines()
+    holds(f"Version: {VERSION}" in lines, "it has another one")
+
+
+def tries(counter, package, library):
+    """Tries the programs, the launcher, the library and the manual of a package."""
+    counter.check(f"the common program of {package}", goes_round, f"{package}/lib/lms_tool/x86-64-v2/lms_tool", package)
+    name = f"the program for AVX2 of {package}"
+    if re.search(r"(?m)^flags.* avx2", pathlib.Path("/proc/cpuinfo").read_text()):
+        counter.check(name, goes_round, f"{package}/lib/lms_tool/x86-64-v3/lms_tool", package)
+    else:
+        counter.skip(name, "this processor has no AVX2")
+    counter.check(f"the launcher of {package}", launches, package)
+    counter.check(f"the program that it takes, of {package}", chooses, package)
+    name = f"examples/c/verify.c with {package}"
+    if shutil.which("cc"):
+        counter.check(name, compiles, package, library)
+    else:
+        counter.skip(name, "there is no cc")
+    for command in ("", *COMMANDS):
+        name = f"the manual's page of {command or 'the program'} of {package}"
+        if shutil.which("man"):
+            counter.check(name, manual_shows, package, command)
+        else:
+            counter.skip(name, "there is no man")
+
+
+@checks
+def the_packages(counter):
+    skip_where_something_is_missing()
+    if not (counter.check("two packings in two folders are the same bytes", packs) & counter.check("SHA256SUMS", sums)):
+        return
+    said_by("tar", "-xzf", f"packed/{NAME}.tar.gz")
+    said_by("dpkg-deb", "-R", f"packed/{DEBIAN}", "debian")
+    tries(counter, NAME, "lib")
+    tries(counter, "debian/usr", "lib/x86_64-linux-gnu")
+    counter.check("README's first block", follows_readme)
+    counter.check("the package's files", is_whole)
+    counter.check("the package is installed and removed", installs)
+    if shutil.which("lintian"):
+        words = ["--allow-root", "--fail-on", "error", "--tag-display-limit", "0"]
+        counter.check("lintian finds no error", said_by, "lintian", *words, f"packed/{DEBIAN}")
+    else:
+        counter.skip("lintian finds no error", "there is no lintian")
+    counter.check("include/lms.pc names the version", names_the_version)

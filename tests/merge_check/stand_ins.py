@@ -1,0 +1,189 @@
+"""Stand-ins for the toolchain and for the programs that it builds, over which the script `lms_tool`
+is tested."""
+
+import os
+import pathlib
+import select
+import shutil
+import signal
+import subprocess
+import time
+
+from tests.harness import TOP, Wrong
+
+# Both programs are in out/ of this crate.
+OUT = "crates/lms_tool/out"
+CRATES = """\
+lms_tool may_wait=1: lms_world lms_lines # and not bench_keys
+bench_keys: lms_lines sha2
+lms_world: lms_lines lms_blocks
+lms_lines may_wait=2: lms_spec lms_blocks hex
+lms_spec: sha2
+lms_blocks:
+"""
+NAMES = ["lms_tool", "bench_keys", "lms_world", "lms_lines", "lms_spec", "lms_blocks"]
+# How the libraries are asked for: first those that use no other, in any order.
+LIBRARIES = ["lms_blocks lib", "lms_spec lib", "lms_lines lib", "lms_world lib"]
+FAST, COMMON = "run --cpu=x86-64-v3 -- --help", "run -- --help"
+SECONDS = 40
+# What the script says before a trial run.
+IS_TRIAL = (
+    "lms_tool: this is a trial run, which takes about a minute and proves nothing; ./lms_tool build proves and builds the program in some "
+    "twenty minutes on four processors\n"
+)
+
+
+class StandIns:
+    """The script `lms_tool` in the current folder, with crates that have nothing in them, and in
+    bin/ short scripts that stand in for `rt`, which notes what it is asked, and for what tells
+    whether the processor has AVX2. Others stand in for the programs that `rt` makes. Where nothing
+    else is said, both are there, built after the sources were last changed. At the end no temporary
+    file may be left."""
+
+    def __init__(self, is_built=True, has_avx2=True):
+        self.top = os.getcwd()
+        self.common, self.fast = f"{self.top}/{OUT}/lms_tool", f"{self.top}/{OUT}/avx2/lms_tool"
+        self.best, self.build = ("fast", FAST) if has_avx2 else ("common", COMMON)
+        self.status, self.output, self.errors = None, "", ""
+        for folder in ("bin", "files", os.path.dirname(self.fast)):
+            os.makedirs(folder)
+        shutil.copy(TOP / "lms_tool", ".")
+        self.write("crates.txt", CRATES)
+        for crate in NAMES:
+            for folder in ("src", "specs", "proofs"):
+                os.makedirs(f"crates/{crate}/{folder}")
+                self.write(f"crates/{crate}/{folder}/file", "")
+                self.age(f"crates/{crate}/{folder}/file", 2)
+        self.age("crates.txt", 2)
+        self.write("cpuinfo", f"flags : sse2 avx {'avx2 ' * has_avx2}bmi2\n")
+        self.make_tools()
+        self.stand_in("common", "common")
+        self.stand_in("fast", "fast")
+        if is_built:
+            self.stand_in(self.common, "old_common")
+            self.stand_in(self.fast, "old_fast")
+        self.on("lib", "")
+        fast = f'*--cpu=x86-64-v3*) cp "{self.top}/fast" "{self.common}" ;;'
+        self.on("run", f'case $* in {fast} *) cp "{self.top}/common" "{self.common}" ;; esac\n')
+        self.forget()
+
+    def __enter__(self):
+        return self
+
+    def __exit__(self, kind, *_):
+        if kind is None:
+            self.holds(not os.listdir(f"{self.top}/files"), "files are left behind")
+
+    def make_tools(self):
+        """What stands in for `grep` and for `rt`."""
+        top = self.top
+        grep = f'[ "$3" != /proc/cpuinfo ] || set -- "$1" "$2" "{top}/cpuinfo"\nexec {shutil.which("grep")} "$@"\n'
+        self.script("bin/grep", grep)
+        notes = f'[ "$1" = try ] || echo "${{PWD##*/}} $*" >>"{top}/builds"\ncat >"{top}/nothing"\n'
+        self.script("bin/rt", f'{notes}[ "$1" = try ] || echo "a line of rt $1"\n. "{top}/on_$1"\n')
+
+    def write(self, name, text):
+        """Writes a file."""
+        pathlib.Path(self.top, name).write_bytes(os.fsencode(text))
+
+    def has(self, name):
+        """What a file has, or nothing where there is none."""
+        file = pathlib.Path(self.top, name)
+        return os.fsdecode(file.read_bytes()) if file.exists() else ""
+
+    def age(self, name, hours):
+        """A file was last changed so many hours ago."""
+        then = time.time() - 3600 * hours
+        os.utime(pathlib.Path(self.top, name), (then, then))
+
+    def script(self, name, text):
+        """Writes a script."""
+        self.write(name, f"#!/bin/sh\n{text}")
+        os.chmod(pathlib.Path(self.top, name), 0o755)
+
+    def stand_in(self, file, name):
+        """Makes a program that prints this name, its arguments, a line each, and its input, and
+        ends with 3. Where it is asked for help it reads its input, too, and ends with 0."""
+        asked = f'[ "$*" = --help ] && cat >"{self.top}/nothing" && exit\n'
+        self.script(file, f"{asked}printf '%s\\n' {name} \"$@\"\ncat\nexit 3\n")
+
+    def on(self, verb, text):
+        """What `rt` does where its first argument is this one."""
+        self.write(f"on_{verb}", text)
+
+    def forget(self):
+        """Forgets what the toolchain was asked."""
+        self.write("builds", "")
+
+    def begin(self, arguments, by, cwd, **how):
+        """Starts the script with these arguments, by these words before it, and with these
+        streams."""
+        environment = {**os.environ, "PATH": f"{self.top}/bin:{os.environ['PATH']}", "TMPDIR": f"{self.top}/files"}
+        return subprocess.Popen([*by, f"{self.top}/lms_tool", *arguments], cwd=cwd, env=environment, **how)
+
+    def start(self, *arguments, by=(), cwd=None):
+        """Runs the script with these arguments and an input, and with a stream that nobody may hold
+        open after its end."""
+        reader, writer = os.pipe()
+        self.write("input", "input\n")
+        files = [open(f"{self.top}/{name}", mode) for name, mode in (("input", "rb"), ("output", "wb"), ("errors", "wb"))]
+        with files[0] as given, files[1] as output, files[2] as errors:
+            running = self.begin(arguments, by, cwd, stdin=given, stdout=output, stderr=errors, pass_fds=[writer])
+            os.close(writer)
+            with running, os.fdopen(reader, "rb", 0) as stream:
+                try:
+                    self.status = running.wait(SECONDS)
+                    is_closed = bool(select.select([stream], [], [], SECONDS)[0])
+                finally:
+                    running.kill()
+        self.output, self.errors = self.has("output"), self.has("errors")
+        self.holds(is_closed, "a stream is held open")
+
+    def interrupt(self, number, *arguments, cwd=None):
+        """Starts the script with these arguments, sends it this signal once `rt` has written its
+        number, and sees both end."""
+        pathlib.Path(self.top, "number").unlink(missing_ok=True)
+        with open(f"{self.top}/output", "wb") as output, open(f"{self.top}/errors", "wb") as errors:
+            running = self.begin(arguments, (), cwd, stdin=subprocess.DEVNULL, stdout=output, stderr=errors)
+            with running:
+                try:
+                    for _ in range(100):
+                        if self.has("number"):
+                            break
+                        time.sleep(0.1)
+                    running.send_signal(number)
+                    self.status = running.wait(SECONDS)
+                finally:
+                    running.kill()
+        self.output, self.errors = self.has("output"), self.has("errors")
+        name = signal.Signals(number).name
+        self.holds(self.status == 130, f"another status after {name}")
+        try:
+            os.kill(int(self.has("number")), 0)
+        except ProcessLookupError:
+            return
+        self.holds(False, f"the toolchain goes on after {name}")
+
+    def holds(self, is_so, what):
+        """Fails the check where this is not so, with all that was printed and asked."""
+        if not is_so:
+            said = "\n".join([self.has("builds"), self.output, self.errors])
+            raise Wrong(f"{what}; ended with {self.status}\n{said}".encode(errors="backslashreplace").decode())
+
+    def ran(self, name, *arguments):
+        """The program of this name ran, with these arguments and the input."""
+        wanted = "".join(f"{it}\n" for it in (name, *arguments, "input"))
+        self.holds((self.status, self.output) == (3, wanted), f"not as {name} does")
+
+    def is_quiet(self):
+        """Nothing was asked of the toolchain, and nothing said."""
+        self.holds(not self.has("builds") and not self.errors, "not quiet")
+
+    def asked_to_build(self, *words):
+        """The toolchain was asked for the libraries, and then for programs by these words."""
+        builds = self.has("builds").splitlines()
+        self.holds(sorted(builds[:2]) + builds[2:] == [*LIBRARIES, *(f"lms_tool {it}" for it in words)], "other builds")
+
+    def tells(self, line):
+        """This line was printed to standard error."""
+        self.holds(f"lms_tool: {line}" in self.errors.split("\n"), f"does not tell: {line}")

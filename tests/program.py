@@ -1,0 +1,170 @@
+"""How tests run the program: its commands, what it is to print, its files, and what is loaded
+before it."""
+
+import fcntl
+import os
+import pathlib
+import shutil
+import stat
+import subprocess
+import tempfile
+
+from tests.harness import TOP, Skipped, Wrong, holds
+from tests.reference import CHAINS, IDENTIFIER, RANDOMIZER, SEED, kept, signature_by, way_of
+
+PROGRAM = str(TOP / "crates/lms_tool/out/lms_tool")
+# Who may not do what the tests want refused, where the user of the tests may do all.
+NOBODY = 65534
+NODES, DRAFT = "key.state.nodes", "key.state.nodes.new"
+INFO = ["info", "--state", "key.state"]
+BATCH = ["batch", "--state", "key.state", "--workers", "2"]
+VERIFY = ["verify", "--public", "key.pub", "--message", "text", "--signature", "text.sig"]
+
+
+def build_where_missing():
+    """Builds the program where there is none."""
+    if not os.path.exists(PROGRAM):
+        how = {"stdin": subprocess.DEVNULL, "stdout": subprocess.DEVNULL, "check": True}
+        subprocess.run(["rt", "run", "--", "--help"], cwd=TOP / "crates/lms_tool", **how)
+
+
+def keygen(levels="5/8", seed=SEED.hex(), identifier=IDENTIFIER.hex(), state="key.state", public="key.pub"):
+    """The arguments of a `keygen`."""
+    return ["keygen", "--levels", levels, "--seed", seed, "--id", identifier, "--state", state, "--public", public]
+
+
+def sign(message="text", out="text.sig", randomizer=RANDOMIZER.hex(), state="key.state"):
+    """The arguments of a `sign`."""
+    return ["sign", "--state", state, "--random", randomizer, "--message", message, "--out", out]
+
+
+def verify(message="text", signature="text.sig", public="key.pub"):
+    """The arguments of a `verify`."""
+    return ["verify", "--public", public, "--message", message, "--signature", signature]
+
+
+def job_lines(*messages, randomizer=RANDOMIZER):
+    """Job lines of these messages."""
+    return b"".join(b"%s %s\n" % (randomizer.hex().encode(), it.hex().encode()) for it in messages)
+
+
+def index_in(signature, levels):
+    """The index that a signature by these levels uses, or None where it is too short to tell."""
+    index, at = 0, 4
+    for level, (height, width) in enumerate(levels):
+        # (Each signature but the last is followed by the public key that it signs.)
+        at += 0 if level == 0 else 12 + 32 * (CHAINS[levels[level - 1][1]][1] + 1 + levels[level - 1][0]) + 56
+        if len(signature) < at + 4:
+            return None
+        index = index << height | int.from_bytes(signature[at : at + 4], "big")
+    return index
+
+
+def read(name):
+    """The bytes of a file."""
+    return pathlib.Path(name).read_bytes()
+
+
+def put(name, contents):
+    """Writes a file."""
+    pathlib.Path(name).write_bytes(contents)
+
+
+def has(name, contents):
+    """A file has these bytes."""
+    holds(read(name) == contents, f"{name} has other bytes")
+
+
+def run(arguments, program=PROGRAM, **how):
+    """Runs the program, with no input where none is given. What it ended with and printed, as text
+    where nothing else is said."""
+    how = {"timeout": 600, "capture_output": True, "text": True, **how}
+    if "input" not in how:
+        how.setdefault("stdin", subprocess.DEVNULL)
+    return subprocess.run([program, *arguments], check=False, **how)
+
+
+def ends(arguments, status, output="", errors="", **how):
+    """The program ends with this status, and prints this output and these errors."""
+    ran = run(arguments, **how)
+    said = f"{' '.join(map(str, arguments))}: {ran.returncode} {ran.stdout!r} {ran.stderr!r}"
+    holds((ran.returncode, ran.stdout, ran.stderr) == (status, output, errors), f"{said}, not {status} {output!r} {errors!r}")
+
+
+def fails(arguments, status, line, **how):
+    """The program ends with this status and this line on standard error, and prints nothing."""
+    ends(arguments, status, errors=f"error: {line}\n", **how)
+
+
+def described(levels, counter, capacity, openings, burnt):
+    """`info` says this of the state."""
+    numbers = {"counter": counter, "capacity": capacity, "left": capacity - counter, "openings": openings, "burnt": burnt}
+    lines = "".join(f"{name} {value}\n" for name, value in numbers.items())
+    ends(INFO, 0, f"levels {levels}\n{lines}")
+
+
+def signs(levels, index, way=None, state="key.state", **how):
+    """This index is given, and its signature is right, by the key's way or this one. It takes the
+    place of a longer file."""
+    put("text.sig", bytes(30000))
+    ends(sign(state=state), 0, f"index {index}\n", **how)
+    has("text.sig", signature_by(way or way_of(levels, index), b"abc"))
+
+
+def keeps(levels, at, held=None):
+    """The kept nodes are right and were written at this index, in a plain file for its owner alone.
+    No draft of it is left."""
+    has(NODES, kept(levels, at, held))
+    holds(os.lstat(NODES).st_mode == stat.S_IFREG | 0o600, "the nodes are in no plain file for their owner alone")
+    holds(not os.path.lexists(DRAFT), "a draft of the nodes is left")
+
+
+class Lock:
+    """The lock on the state, as another program has it."""
+
+    def __enter__(self):
+        self.file = open("key.state.lock", "wb")
+        fcntl.flock(self.file, fcntl.LOCK_EX | fcntl.LOCK_NB)
+
+    def __exit__(self, *_):
+        self.file.close()
+
+
+def is_lock_free():
+    """Whether the lock on the state can be acquired. It is dropped at once."""
+    try:
+        with Lock():
+            return True
+    except BlockingIOError:
+        return False
+
+
+def as_who_may_not():
+    """How to run the program as a user to whom something can be refused: arguments for `ends` and
+    the others. The folder becomes that user's, with its files and a copy of the program, and has a
+    state that is described."""
+    if os.geteuid():
+        return {}
+    shutil.copy(PROGRAM, "lms_tool")
+    how = {"user": NOBODY, "group": NOBODY, "extra_groups": []}
+    try:
+        for name in [".", *os.listdir(".")]:
+            os.chown(name, NOBODY, NOBODY)
+        subprocess.run(["./lms_tool", *INFO], stdout=subprocess.DEVNULL, stderr=subprocess.DEVNULL, check=True, **how)
+    except (OSError, subprocess.SubprocessError) as why:
+        raise Skipped(f"user {NOBODY} can't run the program here: {why}") from why
+    return {"program": "./lms_tool", **how}
+
+
+def preload(*names, **settings):
+    """The environment in which libraries of preload/ are loaded before a program, with these
+    settings for them. They are made once."""
+    libraries = [f"{tempfile.gettempdir()}/{name}.so" for name in names]
+    for name, library in zip(names, libraries):
+        if os.path.exists(library):
+            continue
+        if not shutil.which("cc"):
+            raise Wrong(f"tests/preload/{name}.c needs a C compiler, and there is no cc here")
+        command = ["cc", "-shared", "-fPIC", "-O1", "-o", library, TOP / f"tests/preload/{name}.c", "-ldl"]
+        subprocess.run(command, check=True)
+    return {**os.environ, "LD_PRELOAD": " ".join(libraries), **{name: str(value) for name, value in settings.items()}}
