@@ -38,6 +38,7 @@ TYPES = {
             lms_book: pub fn reserve(&mut self, n: u64) -> Result<Lease, BookFault>
             lms_book: Ok(Lease
             lms_book: pub fn give_back(&self, lease: Lease)
+            lms_book: use crate::book::Lease;
             lms_book: pub fn knows(&self, lease: &Lease) -> bool
             lms_pool: use lms_book::Lease;
             lms_pool: pub fn over( alloc: Global, lease: Lease, seats: usize, ) -> Result<(Self, Vec<DrawSeat>), (OutOfMemory, Lease)>
@@ -68,7 +69,7 @@ TYPES = {
                 pool.claim(seat)
             }""",
         "places": """
-            lms_pool: pub use crate::pass::{Ended, IndexPass};
+            lms_pool: pub use crate::pass::IndexPass;
             lms_pool: pub struct IndexPass { pub(crate) pool: Snapshot<IndexPool>, pub(crate) place: u64, pub(crate) index: u64, }
             lms_pool: impl Model for IndexPass
             lms_pool: impl IndexPass
@@ -76,7 +77,7 @@ TYPES = {
             lms_pool: impl IndexPass: pub fn index(&self) -> u64
             lms_pool: impl IndexPass: pub fn burn(self)
             lms_pool: let IndexPass
-            lms_pool: use crate::pass::{Ended, IndexPass};
+            lms_pool: use crate::pass::IndexPass;
             lms_pool: pub fn claim(&self, me: &mut DrawSeat) -> Result<IndexPass, Ended>
             lms_pool: Ok(IndexPass
             """,
