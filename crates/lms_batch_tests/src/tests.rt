@@ -143,8 +143,7 @@ fn signs_twice(
     Ok(is_at(alloc, &first, job, 0, start)? && is_at(alloc, &second, job, 1, start + 1)?)
 }
 
-/// Ends a lease whose one seat is there, and answers how many places were claimed, stopped and
-/// left.
+/// Ends a lease whose one seat is there: how many places were claimed, stopped and left.
 fn finished(alloc: Global, lease: OpenLease, seat: DrawSeat) -> Result<(u64, u64, u64), Fail>
     requires { seat.pool ≡ lease }
 {
@@ -214,8 +213,7 @@ fn after_claims(lease: &OpenLease, seat: DrawSeat, claims: u64) -> DrawSeat
     seat
 }
 
-/// The receipt of a job that another book of a key of this seed signed, at a place of a lease from
-/// `start` on.
+/// The receipt of a job of another book of this seed, at a place of a lease from `start` on.
 fn receipt_of_another<'j>(
     rt: &(impl AllocGlobal + Threads + Sync),
     seed: u8,
@@ -231,8 +229,7 @@ fn receipt_of_another<'j>(
     signed(&lease, &mut seat, job)
 }
 
-/// A receipt of another book: the seed of its key, where its lease begins, the place of the lease,
-/// which of two jobs, and why it is not taken.
+/// A receipt of another book: its key's seed, its lease's start, place, job, why it is not taken.
 type Row = (u8, u64, u64, usize, Option<TakeFault>);
 
 /// Receipts of another book, one after another.
@@ -306,8 +303,7 @@ fn is_signed_so(
     Ok(signature == slow.as_slice() && verify(public, &job.message, signature))
 }
 
-/// Whether a batch is complete, from this index on, with the slow signer's signatures of these
-/// jobs, which the verifier accepts.
+/// Whether a batch is complete from this index on, with the slow signer's valid signatures.
 pub(crate) fn is_complete(
     rt: &(impl AllocGlobal + Threads + Sync),
     batch: &Batch,
@@ -368,8 +364,7 @@ fn is_of(receipt: &Receipt, place: u64, index: u64) -> bool {
     receipt.place() == place && receipt.index() == index
 }
 
-/// Whether a collector takes receipts of its two jobs, by indices 5 and 6 of 5/2,5/2, where any
-/// request for memory may be refused.
+/// Whether a collector takes two receipts of 5/2,5/2 where any request for memory may be refused.
 fn takes_at_last<'j>(
     rt: &(impl AllocGlobal + Threads + Sync),
     collector: &mut Collector<'j>,

@@ -100,8 +100,7 @@ fn decides_on_a_signature(rt: HostRuntime) -> Result<(), Fail> {
     Ok(())
 }
 
-/// A signature of `abc` is refused at each shorter length, and under a public key that lacks its
-/// last byte.
+/// A signature of `abc` is refused at each shorter length, and under a key without its last byte.
 fn check_cuts(rt: &impl Abort, public: &[u8], signature: &[u8]) {
     for length in 0..1296 {
         let cut = signature.get(..length).unwrap_or(&[]);
@@ -254,8 +253,7 @@ fn check_signatures(
     Ok(())
 }
 
-/// A signature of another implementation's is accepted, and refused with a changed byte in any of
-/// the three texts.
+/// A signature of another implementation is accepted; with a byte changed anywhere it is refused.
 fn check_vector(rt: &(impl Abort + AllocGlobal), vector: Vector) -> Result<(), Fail> {
     let public = hex::decode(rt.alloc(), vector.public)?;
     let signature = hex::decode(rt.alloc(), vector.signature)?;
