@@ -8,7 +8,7 @@
  *   is read;
  * - takes a null pointer where the length beside it is 0 (but in a struct lms_piece), and nowhere else;
  * - allocates nothing, keeps nothing between calls, takes no lock and writes nothing but its answer, so threads may call
- *   at once. What interrupts and boot loaders have to provide stands in docs/C.md, "What a loader provides";
+ *   at once. What interrupts and boot loaders have to provide is in docs/C.md, "What a loader provides";
  * - reads a public key and a signature more than once. So nobody may change what it is given until it has returned: keep
  *   key, signature and message in memory that nothing else can write, and run the bytes that were verified, not those
  *   that a device gives when it is asked again.

@@ -10,7 +10,7 @@
 
 /* The lowest bytes of the painted stack are there to be found written over, before a call writes
    below them. */
-enum { PAINT = 0xa5, LOWEST = 1 << 16, ROOM = LOWEST + (1 << 18) };
+enum { PAINT = 0xa5, LOWEST = 1 << 16, AREA = LOWEST + (1 << 18) };
 
 static uint8_t texts[3][1 << 17], head[LMS_MESSAGE_HEAD_LEN], hash[LMS_HASH_LEN];
 static size_t lens[3];
@@ -41,7 +41,7 @@ static void stop(const char *why) {
 }
 
 static size_t used(void (*call)(void)) {
-    static uint8_t stack[ROOM];
+    static uint8_t stack[AREA];
     ucontext_t here, there;
     /* once outside, so that no loader works on the painted stack to find the functions that the
        call asks for */
@@ -56,9 +56,9 @@ static size_t used(void (*call)(void)) {
     if (swapcontext(&here, &there) != 0) stop("no switch of contexts");
     if (!answer) stop("a call did not answer true");
     size_t left = 0;
-    while (left < ROOM && stack[left] == PAINT) left++;
-    if (left < LOWEST) stop("the painted area is used up: enlarge ROOM");
-    return ROOM - left;
+    while (left < AREA && stack[left] == PAINT) left++;
+    if (left < LOWEST) stop("the painted area is used up: enlarge AREA");
+    return AREA - left;
 }
 
 static void read_texts(char **names) {

@@ -33,7 +33,7 @@ static unsigned bytes_at(pid_t child, unsigned long long address) {
     return errno ? 0 : word & 0xffff;
 }
 
-// Has the program, which stands at its first instruction, make the call that lets CPUID stop it.
+// Has the program, which is at its first instruction, make the call that lets CPUID stop it.
 static void stop_at_cpuid(pid_t child) {
     struct user_regs_struct saved, call;
     check(ptrace(PTRACE_GETREGS, child, 0, &saved), "registers");
@@ -64,7 +64,7 @@ static void stop_at_cpuid(pid_t child) {
     check(ptrace(PTRACE_SETREGS, child, 0, &saved), "registers");
 }
 
-// Whether the program stands at a CPUID, which is answered then.
+// Whether the program is at a CPUID, which is answered then.
 static int answered(pid_t child) {
     struct user_regs_struct regs;
     check(ptrace(PTRACE_GETREGS, child, 0, &regs), "registers");

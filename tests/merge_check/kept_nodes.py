@@ -216,8 +216,8 @@ def meets_a_full_file_system():
     without these."""
     levels = ((10, 1),)
     put("key.state", image(levels, 5))
-    os.mkdir("room")
-    script = 'mount -t tmpfs -o size=32k room room && cd room && cp ../key.state ../text . && "$@" && ls && mv key.state text.sig ..'
+    os.mkdir("disk")
+    script = 'mount -t tmpfs -o size=32k disk disk && cd disk && cp ../key.state ../text . && "$@" && ls && mv key.state text.sig ..'
     words = ["-rm" if os.geteuid() else "-m", "sh", "-c", script, "sh"]
     try:
         subprocess.run(["unshare", *words, "touch", "text.sig"], capture_output=True, check=True)

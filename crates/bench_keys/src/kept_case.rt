@@ -35,7 +35,7 @@ impl KeptBench {
         alloc: Global,
         hierarchy: Hierarchy,
     ) -> Result<Self, Fault> {
-        let trees = KeptTrees::work_out(rt, alloc, hierarchy.key()?, INDEX - 1, &Unwatched)?;
+        let trees = KeptTrees::compute(rt, alloc, hierarchy.key()?, INDEX - 1, &Unwatched)?;
         let text = trees.text(alloc)?;
         let signature = signature(alloc, &trees)?;
         Ok(KeptBench {

@@ -58,10 +58,10 @@ pub record IsSameBatch (old new : Collected) : Type 0 where
 -- what a collector keeps: each slot is empty or holds the signature of its job, which is accepted,
 -- and there is capacity to list all
 pub record IsCollecting (collected : Collected) (slots : ℕ) (listed : List (Vec ℕ Global))
-    (room : ℕ) : Type 0 where
+    (capacity : ℕ) : Type 0 where
   pub holds : HoldsOnly (batch_of collected.key collected.start collected.jobs) collected.slots
   pub accepted : AreAccepted
       (hss_public_key (hss_key_of collected.key)) collected.jobs collected.slots
   pub one_each : slots ≡ length collected.jobs
   pub none_listed : listed ≡ []
-  pub fits : slots ≤ room
+  pub fits : slots ≤ capacity

@@ -23,11 +23,11 @@ use std::thread::{self, Threads};
 struct Crew<'a> {
     collector: Collector<'a>,
     jobs: &'a [Job],
-    rooms: Vec<Vec<Receipt<'a>>>,
+    lists: Vec<Vec<Receipt<'a>>>,
     workers: Vec<Worker<'a>>,
-    ghost room: { All (λ room.
-        (vec_len room ≡ 0) × (length jobs.now ≤ vec_capacity room)) rooms.items },
-    ghost fits: { vec_len workers + vec_len rooms ≤ vec_capacity workers },
+    ghost capacity: { All (λ list.
+        (vec_len list ≡ 0) × (length jobs.now ≤ vec_capacity list)) lists.items },
+    ghost fits: { vec_len workers + vec_len lists ≤ vec_capacity workers },
 }
 
 impl<'a> Crew<'a> {
@@ -42,18 +42,18 @@ impl<'a> Crew<'a> {
         ensures batch { IfOk result (λ crew.
             crew.collector ≡ none_of key start (texts_of jobs.now)) }
         ensures jobs { IfOk result (λ crew. crew.jobs.now ≡ jobs.now) }
-        ensures rooms { IfOk result (λ crew. vec_len crew.rooms ≡ workers) }
+        ensures lists { IfOk result (λ crew. vec_len crew.lists ≡ workers) }
         ensures none { IfOk result (λ crew. vec_len crew.workers ≡ 0) }
     {
         let collector = Collector::new(alloc, key, start, jobs)?;
-        let mut rooms = Vec::with_capacity(alloc, workers)?;
+        let mut lists = Vec::with_capacity(alloc, workers)?;
         for _ in 0..workers {
-            rooms.push(Vec::with_capacity(alloc, jobs.len())?)?;
+            lists.push(Vec::with_capacity(alloc, jobs.len())?)?;
         }
         Ok(Crew {
             collector,
             jobs,
-            rooms,
+            lists,
             workers: Vec::with_capacity(alloc, workers)?,
         })
     }
@@ -62,7 +62,7 @@ impl<'a> Crew<'a> {
     fn seated(self, lease: &'a OpenLease, seats: Vec<DrawSeat>) -> (Collector<'a>, Vec<Worker<'a>>)
         requires places { lease.now.len ≡ length self.jobs.now }
         requires own { All (λ seat. seat.pool ≡ lease.now) seats.items }
-        requires rooms { vec_len self.rooms ≡ vec_len seats }
+        requires lists { vec_len self.lists ≡ vec_len seats }
         requires none { vec_len self.workers ≡ 0 }
         ensures collector { result.0 ≡ self.entry.collector }
         ensures workers { vec_len result.1 ≡ vec_len seats }
@@ -70,15 +70,15 @@ impl<'a> Crew<'a> {
         let Crew {
             collector,
             jobs,
-            mut rooms,
+            mut lists,
             mut workers,
         } = self;
         let mut seats = seats;
-        while let Some(room) = rooms.pop() {
+        while let Some(list) = lists.pop() {
             let Some(seat) = seats.pop() else {
                 unreachable!()
             };
-            workers.push_reserved(Worker::new(lease, jobs, seat, room));
+            workers.push_reserved(Worker::new(lease, jobs, seat, list));
         }
         (collector, workers)
     }

@@ -23,7 +23,7 @@ pub(crate) struct Worker<'a> {
     ghost own: { seat.pool ≡ lease.now },
     ghost places: { lease.now.len ≡ length jobs.now },
     ghost ahead: { lease.now.len ≤ seen seat + to_sign },
-    ghost room: { vec_len receipts + to_sign ≤ vec_capacity receipts },
+    ghost capacity: { vec_len receipts + to_sign ≤ vec_capacity receipts },
 }
 
 impl<'a> Worker<'a> {
@@ -33,19 +33,19 @@ impl<'a> Worker<'a> {
         lease: &'a OpenLease,
         jobs: &'a [Job],
         seat: DrawSeat,
-        room: Vec<Receipt<'a>>,
+        list: Vec<Receipt<'a>>,
     ) -> Worker<'a>
         requires own { seat.pool ≡ lease.now }
         requires places { lease.now.len ≡ length jobs.now }
-        requires empty { vec_len room ≡ 0 }
-        requires room { length jobs.now ≤ vec_capacity room }
+        requires empty { vec_len list ≡ 0 }
+        requires capacity { length jobs.now ≤ vec_capacity list }
     {
         Worker {
             lease,
             jobs,
             seat,
             to_sign: jobs.len(),
-            receipts: room,
+            receipts: list,
         }
     }
 

@@ -56,7 +56,7 @@ fn an_interrupted_read_is_tried_again(rt: HostRuntime) -> Result<(), Fail> {
 }
 
 #[test]
-fn another_fault_is_told(rt: HostRuntime) -> Result<(), Fail> {
+fn another_fault_is_reported(rt: HostRuntime) -> Result<(), Fail> {
     let mut reader = Halting {
         left: b"a",
         was_interrupted: false,

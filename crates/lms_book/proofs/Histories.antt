@@ -54,8 +54,8 @@ recount key m o b n o' b' is within low few = record {
 
 -- the image that counts n indices more
 pub next_counted : (key : KeyOfCode) (m o b n : ℕ) → HasImage key m o b → 1 ≤ n → m + n ≤ capacity_of (hss_key_of key) → HasImage key (m + n) (o + 1) b
-next_counted key m o b n is some room =
-    recount key m o b (m + n) (o + 1) b is room (omega (arith, is.openings_within, some)) (omega (arith, is.burnt_within))
+next_counted key m o b n is some enough =
+    recount key m o b (m + n) (o + 1) b is enough (omega (arith, is.openings_within, some)) (omega (arith, is.burnt_within))
 
 lower : (key : KeyOfCode) (number floor top : ℕ) (left : List ℕ) → floor ≤ top → IsImageFrom key number top left → IsImageFrom key number floor left
 lower key number floor top left le from =
@@ -87,7 +87,7 @@ ends [] some = absurd (omega (arith, some))
 ends (x ∷ []) some = ([], x, refl)
 ends (x ∷ y ∷ es) some = let rest = ends (y ∷ es) (omega arith) in (x ∷ rest.0, rest.1, ap (λ (l : List Entry). x ∷ l) rest.2)
 
--- and it stands in the last place
+-- and it is in the last place
 last-at : (es front : List Entry) (e other : Entry) (i : ℕ) → i + 1 ≡ length es → es ≡ front ++ e ∷ [] → slice_index_or es i other ≡ e
 last-at es front e other i at is =
     let long : length es ≡ length front + 1 = ap length is ∙ length-append front (e ∷ []) in
@@ -110,11 +110,11 @@ with_history r history = record { key = r.key; base = r.base; openings = r.openi
 
 pub kept_burnt : (r : ReservationsState) (counter stored burnt n : ℕ) → IsKept r counter stored burnt
     → counter + n ≤ capacity_of (hss_key_of r.key) → IsKept (with_history r (r.history ++ Burnt n ∷ [])) (counter + n) stored (burnt + n)
-kept_burnt r counter stored burnt n kept room = record {
+kept_burnt r counter stored burnt n kept enough = record {
   counter_is = omega (arith, counter-push r.base r.history (Burnt n), kept.counter_is);
   stored_is = kept.stored_is ∙ sym (ap (last_end r.base) (leases-push_burnt r.base n r.history));
   burnt_is = omega (arith, burnt-push r.burnt r.history (Burnt n), kept.burnt_is);
-  counted = recount r.key counter r.openings burnt (counter + n) r.openings (burnt + n) kept.counted room
+  counted = recount r.key counter r.openings burnt (counter + n) r.openings (burnt + n) kept.counted enough
       (omega (arith, kept.counted.openings_within)) (omega (arith, kept.counted.burnt_within));
 }
 

@@ -48,24 +48,24 @@ with_history old new history same h =
 
 pub order_stays : (n : ℕ) (old : BookState) (answer : Result LeaseState BookFault) (new : BookState) → 1 ≤ n
     → IsSameOpening old new → IsInOrder old → Reserves n old answer new → IsInOrder new
-order_stays n old (Ok lease) new some opening order (room, is, history, wrote) =
+order_stays n old (Ok lease) new some opening order (enough, is, history, wrote) =
     let r = reservations_of old in
-    let counted = next_counted old.key (counter old) old.openings (burnt_now old) n order.counted some room in
+    let counted = next_counted old.key (counter old) old.openings (burnt_now old) n order.counted some enough in
     order_of new _ (with_history old new (old.history ++ Given n ∷ []) opening history) (record {
       counted = recount old.key (counter old) old.openings (burnt_now old) _ old.openings _ order.counted
-          (omega (arith, room, counter-push old.base old.history (Given n)))
+          (omega (arith, enough, counter-push old.base old.history (Given n)))
           (omega (arith, order.counted.openings_within, counter-push old.base old.history (Given n)))
           (omega (arith, order.counted.burnt_within, counter-push old.base old.history (Given n), burnt-push old.burnt old.history (Given n)));
       safe = safe_given r n old.store new.store counted (leaves_written _ old.store new.store wrote);
     })
 order_stays n old (Err (Exhausted left)) new some opening order (full, is, same) = subst (λ (book : BookState). IsInOrder book) (sym same) order
-order_stays n old (Err OutOfMemory) new some opening order (room, same) = subst (λ (book : BookState). IsInOrder book) (sym same) order
-order_stays n old (Err (Store start len)) new some opening order (room, s, l, history, failed) =
+order_stays n old (Err OutOfMemory) new some opening order (enough, same) = subst (λ (book : BookState). IsInOrder book) (sym same) order
+order_stays n old (Err (Store start len)) new some opening order (enough, s, l, history, failed) =
     let r = reservations_of old in
-    let counted = next_counted old.key (counter old) old.openings (burnt_now old) n order.counted some room in
+    let counted = next_counted old.key (counter old) old.openings (burnt_now old) n order.counted some enough in
     order_of new _ (with_history old new (old.history ++ Burnt n ∷ []) opening history) (record {
       counted = recount old.key (counter old) old.openings (burnt_now old) _ old.openings _ order.counted
-          (omega (arith, room, counter-push old.base old.history (Burnt n)))
+          (omega (arith, enough, counter-push old.base old.history (Burnt n)))
           (omega (arith, order.counted.openings_within, counter-push old.base old.history (Burnt n)))
           (omega (arith, order.counted.burnt_within, counter-push old.base old.history (Burnt n), burnt-push old.burnt old.history (Burnt n)));
       safe = safe_burnt r n old.store new.store counted order.safe (leaves_failed _ old.store new.store failed);

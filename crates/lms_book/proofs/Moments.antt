@@ -43,10 +43,10 @@ failing old new image text (inr (texts, by, is)) within =
 
 pub no_third_text : (n : ℕ) (old : BookState) (answer : Result LeaseState BookFault) (new : BookState) → Reserves n old answer new
     → (text : List ℕ) → LeavesWithin old.store new.store text → MayLeave old.store text ⊎ (text ≡ next_image n old)
-no_third_text n old (Ok lease) new (room, is, history, wrote) text within =
+no_third_text n old (Ok lease) new (enough, is, history, wrote) text within =
     let image = next_image n old in
     ⊎_elim (λ was. inl was) (λ now. inr (among_only image text now))
     (moved_once old.store (only image) old.store.failures text (subst (λ (s : StoreView). LeavesWithin old.store s text) wrote within))
 no_third_text n old (Err (Exhausted left)) new (full, is, same) text within = inl (same_store old.store new.store text (ap (λ (b : BookState). b.store) same) within)
-no_third_text n old (Err OutOfMemory) new (room, same) text within = inl (same_store old.store new.store text (ap (λ (b : BookState). b.store) same) within)
-no_third_text n old (Err (Store start len)) new (room, s, l, history, failed) text within = failing old.store new.store _ text failed within
+no_third_text n old (Err OutOfMemory) new (enough, same) text within = inl (same_store old.store new.store text (ap (λ (b : BookState). b.store) same) within)
+no_third_text n old (Err (Store start len)) new (enough, s, l, history, failed) text within = failing old.store new.store _ text failed within

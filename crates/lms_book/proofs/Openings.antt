@@ -61,17 +61,17 @@ burnt_leaves key number at lost n (Burnt len ∷ es) texts text either =
 
 module _ (held : Texts) (r : ReservationsState) (n : ℕ) (old new : StoreView)
     (is_opened : IsOpened (opening_of held r.key r.base r.openings r.burnt r.history) old.now)
-    (room : counter_of r.base r.history + n ≤ capacity_of (hss_key_of r.key)) where
+    (enough : counter_of r.base r.history + n ≤ capacity_of (hss_key_of r.key)) where
   pub opened_given : ((text : List ℕ) → MayLeave new text → text ≡ text_after r n)
       → IsOpened (opening_of held r.key r.base r.openings r.burnt (r.history ++ Given n ∷ [])) new.now
   opened_given only = record {
-    lawful = record { counted = is_opened.lawful.counted; found = is_opened.lawful.found; within = omega (arith, counter-push r.base r.history (Given n), room) };
+    lawful = record { counted = is_opened.lawful.counted; found = is_opened.lawful.found; within = omega (arith, counter-push r.base r.history (Given n), enough) };
     left = λ text now. given_leaves r.key (r.openings + 1) r.base r.burnt n r.history held text (only text now);
   }
 
   pub opened_burnt : ((text : List ℕ) → MayLeave new text → MayLeave old text ⊎ (text ≡ text_after r n))
       → IsOpened (opening_of held r.key r.base r.openings r.burnt (r.history ++ Burnt n ∷ [])) new.now
   opened_burnt only = record {
-    lawful = record { counted = is_opened.lawful.counted; found = is_opened.lawful.found; within = omega (arith, counter-push r.base r.history (Burnt n), room) };
+    lawful = record { counted = is_opened.lawful.counted; found = is_opened.lawful.found; within = omega (arith, counter-push r.base r.history (Burnt n), enough) };
     left = λ text now. burnt_leaves r.key (r.openings + 1) r.base r.burnt n r.history held text (⊎_elim (λ was. inl (is_opened.left text was)) inr (only text now));
   }

@@ -55,7 +55,7 @@ pairs_cons R x xs first rest zero (suc j) d lt long = All-from_recursion (R x) x
 pairs_cons R x xs first rest (suc i) zero d lt long = absurd (omega arith)
 pairs_cons R x xs first rest (suc i) (suc j) d lt long = rest i j d (omega arith) (omega arith)
 
--- behind a reservation come the others of its opening, and the next openings
+-- after a reservation come the others of its opening, and the next openings
 within_opening : (key : KeyOfCode) (number counter burnt : ℕ) (history : List Entry) (texts : Texts) (life : List Opening) → AreSpelt key number
     → counter_of counter history ≤ capacity_of (hss_key_of key) → burnt ≤ counter
     → IsNext (texts_after key number counter burnt history texts) life → IsLife life → AllPairs IsPast (all_leases life)

@@ -17,7 +17,7 @@ pub record MemoryState : Type 0 where
   -- what the last read gave, none before one
   pub given : Option (List ℕ)
   -- its capacity for writes
-  pub room : ℕ
+  pub capacity : ℕ
   pub failures : ℕ
   -- how the next writes are to fail, and whether the next reads are, eight each
   pub writes : List (Option Plan)
@@ -42,10 +42,10 @@ view_of store =
     }
 
 -- nothing recorded, given, counted or planned
-pub record IsFresh (room : ℕ) (store : MemoryState) : Type 0 where
+pub record IsFresh (capacity : ℕ) (store : MemoryState) : Type 0 where
   pub past : store.past ≡ []
   pub given : store.given ≡ None
-  pub room_is : store.room ≡ room
+  pub capacity_is : store.capacity ≡ capacity
   pub failures : store.failures ≡ 0
   pub writes : store.writes ≡ replicate 8 None
   pub reads : store.reads ≡ replicate 8 false
@@ -96,7 +96,7 @@ past_read store = record store { reads = drop 1 store.reads ++ false ∷ [] }
 -- the store can take a write of this text
 pub record Takes (store : MemoryState) (text : List ℕ) : Type 0 where
   pub running : store.stopped ≡ false
-  pub room_left : length store.past < store.room
+  pub capacity_left : length store.past < store.capacity
   pub short : length text ≤ longest_text
 
 -- what a failed write leaves

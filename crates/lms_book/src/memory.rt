@@ -22,7 +22,7 @@ pub struct MemoryStore {
     past: Vec<Option<StoredBytes>>,
     text: Option<StoredBytes>,
     given: LastRead,
-    room: usize,
+    capacity: usize,
     failures: u64,
     writes: [Option<Plan>; 8],
     reads: [bool; 8],
@@ -39,7 +39,7 @@ impl Model for MemoryStore {
       past = store.past.items;
       text = store.text;
       given = store.given;
-      room = store.room;
+      capacity = store.capacity;
       failures = store.failures;
       writes = store.writes;
       reads = store.reads;
@@ -47,24 +47,24 @@ impl Model for MemoryStore {
     } };
 
     ghost invariant = { λ store.
-        (vec_len store.past ≤ store.room) × (store.room ≤ vec_capacity store.past) };
+        (vec_len store.past ≤ store.capacity) × (store.capacity ≤ vec_capacity store.past) };
 }
 
 impl MemoryStore {
     /// A store that holds these bytes, at most 256, or nothing where `text` is `None`. All memory
-    /// is taken here, for a record of `room` writes; `OutOfMemory` where it is refused.
-    pub fn new(alloc: Global, text: Option<&[u8]>, room: usize) -> Result<Self, OutOfMemory>
+    /// is taken here, for a record of `capacity` writes; `OutOfMemory` where it is refused.
+    pub fn new(alloc: Global, text: Option<&[u8]>, capacity: usize) -> Result<Self, OutOfMemory>
         requires { MatchOption text (Unit {0}) (λ text. length text.now ≤ longest_text) }
-        ensures fresh { IfOk result (IsFresh room) }
+        ensures fresh { IfOk result (IsFresh capacity) }
         ensures text { IfOk result (λ store.
             MatchOption text.entry (store.text ≡ None) (λ text. store.text ≡ Some text.now)) }
     {
-        let past = Vec::with_capacity(alloc, room)?;
+        let past = Vec::with_capacity(alloc, capacity)?;
         Ok(MemoryStore {
             past,
             text: text.map(|text| short_text(text)),
             given: LastRead::none(),
-            room,
+            capacity,
             failures: 0,
             writes: [None; PLANS],
             reads: [false; PLANS],
@@ -116,13 +116,13 @@ impl MemoryStore {
     /// empty record, nothing given or planned, and no failure counted.
     pub fn restart(self) -> Self
         ensures text { result.text ≡ self.text }
-        ensures fresh { IsFresh self.room result }
+        ensures fresh { IsFresh self.capacity result }
     {
         let MemoryStore {
             past,
             text,
             given: _,
-            room,
+            capacity,
             failures: _,
             writes: _,
             reads: _,
@@ -134,7 +134,7 @@ impl MemoryStore {
             past,
             text,
             given: LastRead::none(),
-            room,
+            capacity,
             failures: 0,
             writes: [None; PLANS],
             reads: [false; PLANS],
@@ -146,7 +146,7 @@ impl MemoryStore {
     fn takes(&self, text: &[u8]) -> bool
         ensures { IsTrue result ↔ Takes self.now text.now }
     {
-        !self.stopped && self.past.len() < self.room && text.len() <= MOST_BYTES
+        !self.stopped && self.past.len() < self.capacity && text.len() <= MOST_BYTES
     }
 
     /// How the next write is to fail, if it is. The plans for the others move one place forward.
@@ -171,7 +171,7 @@ impl MemoryStore {
 
     /// Holds these bytes from now on, and records those before.
     fn hold(&mut self, text: &[u8])
-        requires room { length self.old.past < self.old.room }
+        requires capacity { length self.old.past < self.old.capacity }
         requires short { length text.now ≤ longest_text }
         ensures { self.new ≡ holding self.old text.now }
     {

@@ -133,7 +133,7 @@ impl Reservations {
     /// burnt so far.
     pub(crate) fn next_image(&self, n: u64) -> Image
         requires some { 1 ≤ n }
-        requires room { counter_of self.now.base self.now.history + n
+        requires enough { counter_of self.now.base self.now.history + n
             ≤ capacity_of (hss_key_of self.now.key) }
         ensures { IsNextOf self.now n result }
     {

@@ -25,14 +25,14 @@ length_known len log pool (s ∷ ss) full fits own =
 -- the call log that all seats know, as `finish` finds it
 pub ending : (pool : PoolState) (x : Places) (v w : View) (here joined : List SeatState) → found v x x w → v ≡ Some (known pool.seats (hands_of joined))
     → pool.seats ≤ length (here ++ joined) → length here ≡ 0 → 1 ≤ pool.seats → All (λ (s : SeatState). s.pool ≡ pool) (here ++ joined) → Whole pool.len x.taken joined
-ending pool x v w here joined told is many none one own =
-    let views = told.0 in
-    let id = told.1 in
-    let F = is_filled x views id _ (told.2 ∙ ap some is) told.3 in
-    let there = at_map hands_in views id v told.2 ∙ ap (λ (w : View). some (hands_in w)) is in
+ending pool x v w here joined end is many none one own =
+    let views = end.0 in
+    let id = end.1 in
+    let F = is_filled x views id _ (end.2 ∙ ap some is) end.3 in
+    let there = at_map hands_in views id v end.2 ∙ ap (λ (w : View). some (hands_in w)) is in
     let enough : pool.seats ≤ length joined = omega (arith, many, none, length-append here joined) in
     let hands : length (hands_in v) ≡ length joined = ap (λ (w : View). length (hands_in w)) is ∙ hands_length joined in
-    let seats : pool.seats ≡ x.seats = sym (ap seats_in is) ∙ F.count_known id v told.2 (omega (arith, hands, enough, one)) in
+    let seats : pool.seats ≡ x.seats = sym (ap seats_in is) ∙ F.count_known id v end.2 (omega (arith, hands, enough, one)) in
     let r = whole x.len x.seats x.taken (map hands_in views) F.agree id joined there (omega (arith, seats, enough)) (omega (arith, seats, one)) in
     let long = length_known x.len F.agree.log pool joined (omega (arith, enough, one)) (F.agree.fits id (hands_of joined) there)
     (subst (All (λ (s : SeatState). s.pool ≡ pool)) (nothing_before here joined none) own) in

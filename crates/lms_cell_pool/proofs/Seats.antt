@@ -57,8 +57,8 @@ module _ (me : Inside) (seat : IsWell me) where
   -- the load of a call that found places left its hand
   pub still : (c : Call) (x : Places) (w : View) → peeked c (cell_view me.token) x x w → x.taken < me.pool.value.len
       → w ≡ Some (known me.pool.value.seats (own_hand me ∷ []))
-  still c x w told low =
-      let t = told me.pool.value.seats (own_hand me) seat.alone in
+  still c x w peek low =
+      let t = peek me.pool.value.seats (own_hand me) seat.alone in
       t.1 ∙ ap (λ (h : Hand). Some (known me.pool.value.seats (h ∷ []))) (t.2.0 low)
 
   -- its hand stayed

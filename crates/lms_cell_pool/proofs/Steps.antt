@@ -49,9 +49,9 @@ stepped x views id n h at F c y e1 e2 effect small =
     let t = made x.len x.seats (map hands_in views) id h.number h.log at' x.taken K c y.taken effect' (inl (omega (arith, long, small))) in (
       t.0,
       inr (record {
-        told = λ j v e. ⊎_elim
+        knows = λ j v e. ⊎_elim
             (λ (s : (j ≡ id) × (Some (known n (t.0 ∷ [])) ≡ v)). subst (λ (w : View). w ≡ Some (known (seats_in w) (hands_in w))) s.1 refl)
-            (λ (s : (j ≢ id) × (get_elem? views j ≡ some v)). F.told j v s.1)
+            (λ (s : (j ≢ id) × (get_elem? views j ≡ some v)). F.knows j v s.1)
             (at_set views id j (Some (known n (t.0 ∷ []))) v e);
         count_known = λ j v e l. ⊎_elim
             (λ (s : (j ≡ id) × (Some (known n (t.0 ∷ [])) ≡ v)). sym (ap seats_in s.1) ∙ F.count_known id (Some (known n (h ∷ []))) at (omega arith) ∙ sym e2)
@@ -139,7 +139,7 @@ fills id v y e none short few x views kept at = (all, ⊎_elim first later kept,
     all = Some (known y.seats (new_hands y.len (below y.seats)))
 
     goes : (j : ℕ) → get_elem? (blank ∷ []) j ≡ some v → CellKept y (set (blank ∷ []) j all)
-    goes zero g = inr (record { told = whole; count_known = every; agree = subst (λ (n : ℕ). Agree y.len y.seats n (map hands_in (all ∷ []))) (sym none) (starts y.len y.seats short few) })
+    goes zero g = inr (record { knows = whole; count_known = every; agree = subst (λ (n : ℕ). Agree y.len y.seats n (map hands_in (all ∷ []))) (sym none) (starts y.len y.seats short few) })
       where
         whole : (j : ℕ) (w : View) → get_elem? (all ∷ []) j ≡ some w → w ≡ Some (known (seats_in w) (hands_in w))
         whole zero w q = subst (λ (z : View). z ≡ Some (known (seats_in z) (hands_in z))) (some-injective _ _ q) refl
@@ -154,7 +154,7 @@ fills id v y e none short few x views kept at = (all, ⊎_elim first later kept,
     first is = subst (λ (vs : List View). CellKept y (set vs id all)) (sym is) (goes id (subst (λ (vs : List View). get_elem? vs id ≡ some v) is at))
 
     later : Filled x views → CellKept y (set views id all)
-    later F = absurd (not_blank (known (seats_in v) (hands_in v)) (sym e ∙ F.told id v at))
+    later F = absurd (not_blank (known (seats_in v) (hands_in v)) (sym e ∙ F.knows id v at))
 
 -- the load that tells the rule
 pub finds : (id : ℕ) (v : View) → Turns CellKept id v (λ x. x) found

@@ -24,10 +24,10 @@ module _ (x : Places) (views : List View) (F : Filled x views) (id : ℕ) (v lef
     (agree : Agree x.len x.seats x.taken (set (map hands_in views) id (hands_in left) ++ hands_in right ∷ [])) where
   cut : Filled x (set views id left ++ right ∷ [])
   cut = record {
-    told = λ j u q. ⊎_elim
+    knows = λ j u q. ⊎_elim
         (λ was. ⊎_elim
         (λ (t : (j ≡ id) × (left ≡ u)). subst IsFull t.1 full_left)
-        (λ (t : (j ≢ id) × (get_elem? views j ≡ some u)). F.told j u t.1)
+        (λ (t : (j ≢ id) × (get_elem? views j ≡ some u)). F.knows j u t.1)
         (at_set views id j left u was))
         (λ (same : right ≡ u). subst IsFull same full_right)
         (at_snoc (set views id left) right u j q);
@@ -71,7 +71,7 @@ hands_over id v k e x views kept at =
     (at_set m id j [] u was))
     (λ (same : hands_in v ≡ u). subst (All (Fits x.len K.log)) same (K.fits id (hands_in v) there))
     (at_snoc (set m id []) (hands_in v) u j q)) in
-    inr (cut x views F id v nobody v at refl (F.told id v at) (λ l. absurd (omega arith)) (F.count_known id v at) now)
+    inr (cut x views F id v nobody v at refl (F.knows id v at) (λ l. absurd (omega arith)) (F.count_known id v at) now)
 
 -- the hands of two tokens may come together
 pub merges : (id : ℕ) (v : View) (other : ℕ) (w : View) (k : Known) → v ≡ Some k → 0 < length (hands_in v) → Merges CellKept id v other w (together v w) nobody
@@ -81,11 +81,11 @@ merges id v other w k e some_hand x views kept at apart there =
     let there' = subst (λ (l : List Hands). get_elem? l other ≡ some (hands_in w)) (map-set hands_in views id (together v w)) (at_map hands_in (set views id (together v w)) other w there) in
     let now = joined x.len x.seats x.taken id (hands_in v) other (hands_in w) m F.agree (at_map hands_in views id v at) apart there' in
     inr (record {
-      told = λ j u q. ⊎_elim
+      knows = λ j u q. ⊎_elim
           (λ (t : (j ≡ other) × (nobody ≡ u)). subst IsFull t.1 refl)
           (λ (t : (j ≢ other) × (get_elem? (set views id (together v w)) j ≡ some u)). ⊎_elim
           (λ (y : (j ≡ id) × (together v w ≡ u)). subst IsFull y.1 refl)
-          (λ (y : (j ≢ id) × (get_elem? views j ≡ some u)). F.told j u y.1)
+          (λ (y : (j ≢ id) × (get_elem? views j ≡ some u)). F.knows j u y.1)
           (at_set views id j (together v w) u t.1))
           (at_set (set views id (together v w)) other j nobody u q);
       count_known = λ j u q l. ⊎_elim

@@ -50,7 +50,7 @@ together v w = Some (known (seats_in v) (hands_in w ++ hands_in v))
 -- so that both pools share their lemmas. No step of this pool does that, but `look` and `finish`
 -- allow for it
 pub record Filled (x : Places) (views : List View) : Type 0 where
-  pub told : (id : ℕ) (v : View) → get_elem? views id ≡ some v
+  pub knows : (id : ℕ) (v : View) → get_elem? views id ≡ some v
       → v ≡ Some (known (seats_in v) (hands_in v))
   pub count_known : (id : ℕ) (v : View) → get_elem? views id ≡ some v → 0 < length (hands_in v)
       → seats_in v ≡ x.seats

@@ -13,7 +13,7 @@ use Rattle.lms_cli.specs.Runs.{AsksToRead, Ends, RunFails, FailsToObey, Moment, 
 use Rattle.lms_cli.specs.declared.command.types.Command.{Command}
 use Rattle.lms_cli.specs.declared.command.types.Command.TheVariants.{Batch, Info, Keygen, Sign, Verify}
 use Rattle.lms_commands.specs.declared.fault.Fault.{Fault}
-use Rattle.lms_commands.specs.declared.fault.Fault.TheVariants.{BadLevels, TooManyLevels, TooTall, BadSeed, BadId, BadRandom, BadWorkers, BadJob, TooManyJobs, StateExists, StateInUse, ReadState, BadState, WriteState, WriteStateBurnt, Exhausted, OutOfMemory, OutOfMemoryBurnt, Partial, Input, Output}
+use Rattle.lms_commands.specs.declared.fault.Fault.TheVariants.{BadLevels, TooManyLevels, TooTall, BadSeed, BadId, BadRandom, BadWorkers, BadJob, TooManyJobs, StateExists, StateInUse, ReadState, BadState, WriteState, WriteStateBurnt, Exhausted, OutOfMemory, OutOfMemoryBurnt, Partial, ReadInput, WriteOutput}
 use Rattle.lms_commands.specs.declared.status.Status.{Status}
 use Rattle.lms_commands.specs.declared.status.Status.TheVariants as status
 use Rattle.lms_commands.specs.declared.status.Status.TheVariants.{Negative}
@@ -51,8 +51,8 @@ command_fails old new words command reads (WriteStateBurnt start len) is silent 
 command_fails old new words command reads (Exhausted left) is silent = (silent tt, (command, reads, is))
 command_fails old new words command reads OutOfMemory is silent = (silent tt, inr (command, reads, is))
 command_fails old new words command reads (OutOfMemoryBurnt count) is silent = (silent tt, (command, reads, is))
-command_fails old new words command reads Input is silent = (silent tt, (command, reads, is))
-command_fails old new words command reads Output is silent = inr (command, reads, is)
+command_fails old new words command reads ReadInput is silent = (silent tt, (command, reads, is))
+command_fails old new words command reads WriteOutput is silent = inr (command, reads, is)
 
 -- a run that fails ends with the fault's status
 pub ends_at : (old new : Moment) (words : List Text) (fault : Fault)
@@ -76,8 +76,8 @@ ends_at old new words (WriteStateBurnt start len) is = (WriteStateBurnt start le
 ends_at old new words (Exhausted left) is = (Exhausted left, refl, is)
 ends_at old new words OutOfMemory is = (OutOfMemory, refl, is)
 ends_at old new words (OutOfMemoryBurnt count) is = (OutOfMemoryBurnt count, refl, is)
-ends_at old new words Input is = (Input, refl, is)
-ends_at old new words Output is = (Output, refl, is)
+ends_at old new words ReadInput is = (ReadInput, refl, is)
+ends_at old new words WriteOutput is = (WriteOutput, refl, is)
 
 -- two facts of an error make a third
 pub both_err : {T E : Type 0} (r : Result T E) (P Q R : E → Type 0) → ((e : E) → P e → Q e → R e) → IfErr r P → IfErr r Q → IfErr r R
@@ -118,13 +118,13 @@ speaks old new words (WriteStateBurnt start len) low is = absurd (omega (arith, 
 speaks old new words (Exhausted left) low is = absurd (omega (arith, low))
 speaks old new words OutOfMemory low is = absurd (omega (arith, low))
 speaks old new words (OutOfMemoryBurnt count) low is = absurd (omega (arith, low))
-speaks old new words Input low is = absurd (omega (arith, low))
-speaks old new words Output low is = absurd (omega (arith, low))
+speaks old new words ReadInput low is = absurd (omega (arith, low))
+speaks old new words WriteOutput low is = absurd (omega (arith, low))
 
 -- a fault with a status from 2 to 5 prints nothing
 pub prints_nothing : (fault : Fault) (P : Type 0) → (PrintsNothing fault → P) → 2 ≤ status_number (status_of fault) → status_number (status_of fault) < 6 → P
 prints_nothing (Partial signed asked) P silent low high = absurd (omega (arith, low))
-prints_nothing Output P silent low high = absurd (omega (arith, high))
+prints_nothing WriteOutput P silent low high = absurd (omega (arith, high))
 prints_nothing BadLevels P silent low high = silent tt
 prints_nothing TooManyLevels P silent low high = silent tt
 prints_nothing TooTall P silent low high = silent tt
@@ -143,7 +143,7 @@ prints_nothing (WriteStateBurnt start len) P silent low high = silent tt
 prints_nothing (Exhausted left) P silent low high = silent tt
 prints_nothing OutOfMemory P silent low high = silent tt
 prints_nothing (OutOfMemoryBurnt count) P silent low high = silent tt
-prints_nothing Input P silent low high = silent tt
+prints_nothing ReadInput P silent low high = silent tt
 
 -- what is printed whole or cut short
 pub any_front : {T E : Type 0} (r : Result T E) (before after : Option (List ℕ)) (text : List ℕ) → OnOk r (Appends before after text)

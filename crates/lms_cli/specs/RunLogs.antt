@@ -15,7 +15,7 @@ use Rattle.lms_commands.specs.Verdicts.{verdict_status}
 use Rattle.lms_cli.specs.declared.command.types.Command.{Command}
 use Rattle.lms_cli.specs.declared.command.types.Command.TheVariants.{Batch, Info, Keygen, Sign, Verify}
 use Rattle.lms_commands.specs.declared.fault.Fault.{Fault}
-use Rattle.lms_commands.specs.declared.fault.Fault.TheVariants.{OutOfMemory, Output}
+use Rattle.lms_commands.specs.declared.fault.Fault.TheVariants.{OutOfMemory, WriteOutput}
 use Rattle.lms_commands.specs.declared.status.Status.{Status}
 use Rattle.lms_commands.specs.declared.status.Status.TheVariants.{Done, Usage}
 use Rattle.lms_commands.specs.declared.verdict.Verdict.{Verdict}
@@ -74,7 +74,7 @@ abbrev pub LogsRefused : List Text → Fault → Option (List ℕ) → Option (L
     → WorldCalls → WorldCalls → Type 0
 LogsRefused words fault input rest before printed old new =
     ((new ≡ old)
-    × (((fault ≡ OutOfMemory) × (printed ≡ before)) ⊎ (AsksForHelp words × (fault ≡ Output))))
+    × (((fault ≡ OutOfMemory) × (printed ≡ before)) ⊎ (AsksForHelp words × (fault ≡ WriteOutput))))
     ⊎ ((command : Command) × AreTakenAs words command
     × LogsFailed command fault input rest before printed old new)
 
@@ -82,7 +82,8 @@ LogsRefused words fault input rest before printed old new =
 -- this was known before and is now
 abbrev pub LogsRun : List Text → Status → Option (List ℕ) → Option (List ℕ) → List ℕ → List ℕ
     → Option (List ℕ) → Option (List ℕ) → WorldCalls → WorldCalls → Type 0
-LogsRun words end input rest before printed told_before told old new =
+LogsRun words end input rest before printed reported_before reported old new =
     LogsAnswered words end input rest before printed old new
-    ⊎ ((fault : Fault) × (end ≡ status_of fault) × AppendsFront told_before told (fault_line fault)
+    ⊎ ((fault : Fault) × (end ≡ status_of fault)
+    × AppendsFront reported_before reported (fault_line fault)
     × LogsRefused words fault input rest before printed old new)

@@ -19,7 +19,7 @@ use Rattle.lms_commands.specs.Verifying.{FailsToJudge, Judges}
 use Rattle.lms_cli.specs.declared.command.types.Command.{Command}
 use Rattle.lms_cli.specs.declared.command.types.Command.TheVariants.{Batch, Info, Keygen, Sign, Verify}
 use Rattle.lms_commands.specs.declared.fault.Fault.{Fault}
-use Rattle.lms_commands.specs.declared.fault.Fault.TheVariants.{OutOfMemory, Output, Partial}
+use Rattle.lms_commands.specs.declared.fault.Fault.TheVariants.{OutOfMemory, WriteOutput, Partial}
 use Rattle.lms_commands.specs.declared.status.Status.{Status}
 use Rattle.lms_commands.specs.declared.status.Status.TheVariants as status
 use Rattle.lms_commands.specs.declared.status.Status.TheVariants.{Done, Usage}
@@ -101,7 +101,7 @@ abbrev pub RunFails : Moment → Moment → List Text → Fault → Type 0
 RunFails old new words OutOfMemory =
     (new.output ≡ old.output)
     × (((state : Text) → Stays old.known new.known state) ⊎ CommandFails old new words OutOfMemory)
-RunFails old new words Output = AsksForHelp words ⊎ CommandFails old new words Output
+RunFails old new words WriteOutput = AsksForHelp words ⊎ CommandFails old new words WriteOutput
 RunFails old new words (Partial signed asked) = CommandFails old new words (Partial signed asked)
 RunFails old new words fault = (new.output ≡ old.output) × CommandFails old new words fault
 
@@ -178,11 +178,11 @@ pub record Setting (W I E : Type 0) : Type 1 where
   pub remaining : Option (List ℕ)
   pub output : List ℕ
   pub errors : E
-  pub told : Option (List ℕ)
+  pub reported : Option (List ℕ)
 
 abbrev pub setting : {W I E : Type 0} → W → Known → WorldCalls → I → Option (List ℕ) → List ℕ → E
     → Option (List ℕ) → Setting W I E
-setting world known calls input remaining output errors told =
+setting world known calls input remaining output errors reported =
     record {
       world = world;
       known = known;
@@ -191,7 +191,7 @@ setting world known calls input remaining output errors told =
       remaining = remaining;
       output = output;
       errors = errors;
-      told = told;
+      reported = reported;
     }
 
 abbrev pub moment_of : {W I E : Type 0} → Setting W I E → Moment
@@ -200,8 +200,8 @@ moment_of at = moment at.known at.remaining (Some at.output)
 -- what a run of the program is: how it ends, all calls that it makes, and what stays as it was
 pub record Runs {W I E : Type 0} (old new : Setting W I E) (words : List Text)
     (end : Status) : Type 0 where
-  pub logged : LogsRun words end old.remaining new.remaining old.output new.output old.told new.told
-      old.calls new.calls
+  pub logged : LogsRun words end old.remaining new.remaining old.output new.output
+      old.reported new.reported old.calls new.calls
   pub ends : Ends (moment_of old) (moment_of new) words end
   pub quiet : status_number end < 2 → (new.errors ≡ old.errors)
       ⊎ ((end ≡ status.Negative) × AsksToRead words)

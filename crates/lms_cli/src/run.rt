@@ -82,7 +82,7 @@ pub fn run_watched<S: AsStr, W: World, I: Read, O: Write, E: Write>(
 /// Prints a fault's line, or a beginning of it, and answers how the program ends.
 pub fn report<E: Write>(fault: Fault, errors: &mut E) -> Status
     ensures status { result ≡ status_of fault }
-    ensures told { AppendsFront (E.contents errors.old) (E.contents errors.new) (fault_line fault) }
+    ensures line { AppendsFront (E.contents errors.old) (E.contents errors.new) (fault_line fault) }
 {
     // Where even the line can't be printed, the exit status alone reports the fault.
     let _ = print_fault(errors, fault);
@@ -116,7 +116,7 @@ fn answer<S: AsStr, W: World, I: Read, O: Write, E: Write>(
         (moment (W.known world.new) (I.remaining input.new) (Some output.new))
         (map S.text words.now)) }
     ensures quiet { IfOk result (λ status. status_number status < 2 → errors.new ≡ errors.old) }
-    ensures untold { OnErr result (errors.new ≡ errors.old) }
+    ensures unreported { OnErr result (errors.new ≡ errors.old) }
     ensures silent { MatchResult result (λ status.
         2 ≤ status_number status → output.new ≡ output.old)
         (λ fault. PrintsNothing fault → output.new ≡ output.old) }
@@ -130,7 +130,7 @@ fn answer<S: AsStr, W: World, I: Read, O: Write, E: Write>(
         Ok(command) => obey(rt, alloc, command, world, log, input, output, progress),
         Err(CommandFault::Help { text }) => match print_text(output, &text) {
             Ok(()) => Ok(Status::Done),
-            Err(_) => Err(Fault::Output),
+            Err(_) => Err(Fault::WriteOutput),
         },
         Err(CommandFault::Usage { text }) => {
             let _ = print_text(errors, &text);

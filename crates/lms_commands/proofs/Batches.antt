@@ -29,7 +29,7 @@ use Rattle.lms_lines.specs.declared.fault.LinesFault.TheVariants as lines
 use Rattle.lms_commands.specs.Batches.{FailsToAnswer, FailsToSignInput, IsUnprinted, SignsAllJobs, SignsAsked, SignsBatch, Streams}
 use Rattle.lms_commands.specs.Faults.{of_lines}
 use Rattle.lms_commands.specs.declared.fault.Fault.{Fault}
-use Rattle.lms_commands.specs.declared.fault.Fault.TheVariants.{BadLevels, TooManyLevels, TooTall, BadSeed, BadId, BadRandom, BadWorkers, BadJob, TooManyJobs, StateExists, StateInUse, ReadState, BadState, WriteState, WriteStateBurnt, Exhausted, OutOfMemory, OutOfMemoryBurnt, Partial, Input, Output}
+use Rattle.lms_commands.specs.declared.fault.Fault.TheVariants.{BadLevels, TooManyLevels, TooTall, BadSeed, BadId, BadRandom, BadWorkers, BadJob, TooManyJobs, StateExists, StateInUse, ReadState, BadState, WriteState, WriteStateBurnt, Exhausted, OutOfMemory, OutOfMemoryBurnt, Partial, ReadInput, WriteOutput}
 use Rattle.lms_commands.specs.BatchLogs.{AnswersJobs, LogsBatch, LogsJobsUnsigned, LogsUnanswered, UsesAll}
 use Rattle.lms_commands.specs.Logs.{LeavesState, WorldCalls, OpensState, StoresUse, TriesUse, state_of}
 use Rattle.lms_world.specs.Events.{PutBack}
@@ -97,7 +97,7 @@ starts_at start n batch could = let found = finds_start start n (Ok batch) could
   where
     go : (new : BookState) (reserved : Result LeaseState BookFault) → Reserves n start reserved new → IsAnswerAfter reserved (Ok batch)
         → start_of batch ≡ counter start
-    go new (Ok lease) (room, is, history, wrote) follows = follows ∙ ap (λ (l : LeaseState). l.start) is
+    go new (Ok lease) (enough, is, history, wrote) follows = follows ∙ ap (λ (l : LeaseState). l.start) is
     go new (Err refused) is follows = absurd follows
 
 -- a refusal is the book's
@@ -344,8 +344,8 @@ unprinted old new state before after signed is OutOfMemory never = absurd never
 unprinted old new state before after signed is (OutOfMemoryBurnt count) never = absurd never
 unprinted old new state before after signed (is, asked) (Partial some all) (differ, signed_is, all_is, printed) =
     (differ, record { batch = signed.batch; made = is; signed_is = signed_is; asked_is = all_is ∙ asked; printed = printed })
-unprinted old new state before after signed is Input never = absurd never
-unprinted old new state before after signed (is, asked) Output printed = record { batch = signed.batch; made = is; printed = printed }
+unprinted old new state before after signed is ReadInput never = absurd never
+unprinted old new state before after signed (is, asked) WriteOutput printed = record { batch = signed.batch; made = is; printed = printed }
 
 -- of an input of which nothing is said
 pub says_nothing : (input : Option (List ℕ)) → IfSome input (λ text. Unit {0})
@@ -375,5 +375,5 @@ log_unprinted input rest before printed signed old new answers asked (Exhausted 
 log_unprinted input rest before printed signed old new answers asked OutOfMemory never = absurd never
 log_unprinted input rest before printed signed old new answers asked (OutOfMemoryBurnt count) never = absurd never
 log_unprinted input rest before printed signed old new answers asked (Partial some all) (differ, some_is, all_is, lines) = (differ, (signed.batch, answers, some_is, all_is ∙ asked, lines))
-log_unprinted input rest before printed signed old new answers asked Input never = absurd never
-log_unprinted input rest before printed signed old new answers asked Output lines = (signed.batch, answers, lines)
+log_unprinted input rest before printed signed old new answers asked ReadInput never = absurd never
+log_unprinted input rest before printed signed old new answers asked WriteOutput lines = (signed.batch, answers, lines)

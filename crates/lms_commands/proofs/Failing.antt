@@ -7,13 +7,12 @@ use Rattle.lms_commands.specs.Keygen.{FailsToMakeKey, MayBeNewKey}
 use Rattle.lms_world.specs.Known.{Known, Stays, Bytes}
 use Rattle.lms_commands.specs.Signing.{FailsToSign, FailsUnder, MayUseIndices, SignsNext}
 use Rattle.lms_commands.specs.Faults.{of_read}
-use Rattle.lms_commands.specs.KeygenLogs.{IsUnpublished}
 use Rattle.lms_commands.specs.Verifying.{MayBeRefusedAt}
 use Rattle.lms_world.specs.declared.fault.WorldFault.{WorldFault}
 use Rattle.lms_world.specs.declared.fault.WorldFault.TheVariants as world
-use Rattle.lms_commands.specs.Logs.{IsReadRefused, WorldCalls}
+use Rattle.lms_commands.specs.Logs.{IsReadRefused, IsUnpublished, WorldCalls}
 use Rattle.lms_commands.specs.declared.fault.Fault.{Fault}
-use Rattle.lms_commands.specs.declared.fault.Fault.TheVariants.{BadLevels, TooManyLevels, TooTall, BadSeed, BadId, BadRandom, BadWorkers, BadJob, TooManyJobs, StateExists, StateInUse, ReadState, BadState, WriteState, WriteStateBurnt, Exhausted, OutOfMemory, OutOfMemoryBurnt, Partial, Input, Output}
+use Rattle.lms_commands.specs.declared.fault.Fault.TheVariants.{BadLevels, TooManyLevels, TooTall, BadSeed, BadId, BadRandom, BadWorkers, BadJob, TooManyJobs, StateExists, StateInUse, ReadState, BadState, WriteState, WriteStateBurnt, Exhausted, OutOfMemory, OutOfMemoryBurnt, Partial, ReadInput, WriteOutput}
 
 -- nothing changed
 pub stays_same : (at : Known) (state : Bytes) → Stays at at state
@@ -80,8 +79,8 @@ not_published old new key state public bytes line before printed then now made (
 not_published old new key state public bytes line before printed then now made OutOfMemory is = inr made
 not_published old new key state public bytes line before printed then now made (OutOfMemoryBurnt count) never = absurd never
 not_published old new key state public bytes line before printed then now made (Partial signed asked) never = absurd never
-not_published old new key state public bytes line before printed then now made Input never = absurd never
-not_published old new key state public bytes line before printed then now made Output is = made
+not_published old new key state public bytes line before printed then now made ReadInput never = absurd never
+not_published old new key state public bytes line before printed then now made WriteOutput is = made
 
 -- why a message that was read was not signed under a lock, or not delivered
 pub failed_under : (old new : Known) (state random message : Bytes) (randomizer text : List ℕ) → (length randomizer ≡ 32) × (decode_of random ≡ Ok randomizer)
@@ -105,8 +104,8 @@ failed_under old new state random message randomizer text read given (Exhausted 
 failed_under old new state random message randomizer text read given OutOfMemory stays = ((randomizer, read.0, read.1), (inr (text, given), stays))
 failed_under old new state random message randomizer text read given (OutOfMemoryBurnt count) is = ((randomizer, read.0, read.1), (text, given), is)
 failed_under old new state random message randomizer text read given (Partial signed asked) is = ((randomizer, read.0, read.1), (text, given), is)
-failed_under old new state random message randomizer text read given Input never = absurd never
-failed_under old new state random message randomizer text read given Output is = record {
+failed_under old new state random message randomizer text read given ReadInput never = absurd never
+failed_under old new state random message randomizer text read given WriteOutput is = record {
   randomizer = randomizer;
   text = text;
   signature = is.0;
@@ -146,5 +145,5 @@ refused_unread at name (Exhausted left) never = absurd never
 refused_unread at name OutOfMemory may = tt
 refused_unread at name (OutOfMemoryBurnt count) never = absurd never
 refused_unread at name (Partial signed asked) never = absurd never
-refused_unread at name Input may = tt
-refused_unread at name Output never = absurd never
+refused_unread at name ReadInput may = tt
+refused_unread at name WriteOutput never = absurd never

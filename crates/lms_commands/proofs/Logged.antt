@@ -14,11 +14,11 @@ use Rattle.lms_world.specs.Known.{Bytes}
 use Rattle.lms_spec.specs.Profile.{hss_public_key}
 use Rattle.lms_hss.specs.Keys.{hss_key_of}
 use Rattle.lms_hss.specs.declared.key.HssKey.{HssKey as KeyOfCode}
-use Rattle.lms_commands.specs.KeygenLogs.{IsUnpublished, LogsUnmade, WritesKey, capacity_line}
+use Rattle.lms_commands.specs.KeygenLogs.{LogsUnmade, WritesKey, capacity_line}
 use Rattle.lms_commands.specs.declared.fault.Fault.{Fault}
-use Rattle.lms_commands.specs.declared.fault.Fault.TheVariants.{BadLevels, TooManyLevels, TooTall, BadSeed, BadId, BadRandom, BadWorkers, BadJob, TooManyJobs, StateExists, StateInUse, ReadState, BadState, WriteState, WriteStateBurnt, Exhausted, OutOfMemory, OutOfMemoryBurnt, Partial, Input, Output}
+use Rattle.lms_commands.specs.declared.fault.Fault.TheVariants.{BadLevels, TooManyLevels, TooTall, BadSeed, BadId, BadRandom, BadWorkers, BadJob, TooManyJobs, StateExists, StateInUse, ReadState, BadState, WriteState, WriteStateBurnt, Exhausted, OutOfMemory, OutOfMemoryBurnt, Partial, ReadInput, WriteOutput}
 use Rattle.lms_commands.specs.Faults.{of_opening, of_signing}
-use Rattle.lms_commands.specs.Logs.{LeavesState, WorldCalls, LogsKeeping, LogsUnopened, LogsUnsigned, OpensState, ReadsState, StoresUse, TriesUse, state_of}
+use Rattle.lms_commands.specs.Logs.{IsUnpublished, LeavesState, WorldCalls, LogsKeeping, LogsUnopened, LogsUnsigned, OpensState, ReadsState, StoresUse, TriesUse, state_of}
 use Rattle.lms_commands.specs.SignLogs.{LogsSigned}
 use Rattle.lms_commands.specs.Signing.{GivesOne, SignsNothing}
 use Rattle.lms_commands.specs.declared.sign.NextFault.{NextFault}
@@ -99,8 +99,8 @@ module _ (before after_it : BookState) (view : StoreView) (old opened back : Wor
   pub log_unsigned : (fault : NextFault) → SignsNothing before fault after_it → LogsUnsigned 1 (of_signing fault) (state_of before) old back
   log_unsigned (unsigned.Book (book.Exhausted left)) (full, is, same) =
       (omega (arith, full, is_fresh.used), omega (arith, is, is_fresh.used), left_so same)
-  log_unsigned (unsigned.Book book.OutOfMemory) (room, same) = left_so same
-  log_unsigned (unsigned.Book (book.Store start len)) (room, s, l, history, failed) = (s ∙ is_fresh.used, l, tried 1 room failed)
+  log_unsigned (unsigned.Book book.OutOfMemory) (enough, same) = left_so same
+  log_unsigned (unsigned.Book (book.Store start len)) (enough, s, l, history, failed) = (s ∙ is_fresh.used, l, tried 1 enough failed)
   log_unsigned unsigned.OutOfMemory gives = (refl, stored 1 gives.within gives.stored)
 
 -- a key's state was stored, and its public key or capacity not published
@@ -126,6 +126,6 @@ unmade key public before printed old kept new writes (Exhausted left) never = ab
 unmade key public before printed old kept new writes OutOfMemory is = (inr (inr (subst (λ (log : WorldCalls). WritesKey key public false old log) (sym is.0) (writes false))), is.1)
 unmade key public before printed old kept new writes (OutOfMemoryBurnt count) never = absurd never
 unmade key public before printed old kept new writes (Partial signed asked) never = absurd never
-unmade key public before printed old kept new writes Input never = absurd never
-unmade key public before printed old kept new writes Output (inl is) = inl (subst (λ (log : WorldCalls). WritesKey key public false old log) (sym is.0) (writes false), is.1)
-unmade key public before printed old kept new writes Output (inr is) = inr (record { until_written = _; writes = writes true; prints = is.0 }, is.1)
+unmade key public before printed old kept new writes ReadInput never = absurd never
+unmade key public before printed old kept new writes WriteOutput (inl is) = inl (subst (λ (log : WorldCalls). WritesKey key public false old log) (sym is.0) (writes false), is.1)
+unmade key public before printed old kept new writes WriteOutput (inr is) = inr (record { until_written = _; writes = writes true; prints = is.0 }, is.1)

@@ -19,7 +19,7 @@ use Rattle.lms_commands.specs.Histories.{AreDelivered, AreInOrder, ArePrinted, A
 use Rattle.lms_commands.specs.Logs.{KeyState, WorldCalls}
 use Rattle.lms_commands.specs.SignLogs.{DeliversSignature, index_line, LogsNotSigned, LogsSign, LogsSignFailed, LogsUndelivered, WritesSignature}
 use Rattle.lms_commands.specs.declared.fault.Fault.{Fault}
-use Rattle.lms_commands.specs.declared.fault.Fault.TheVariants.{BadLevels, TooManyLevels, TooTall, BadSeed, BadId, BadRandom, BadWorkers, BadJob, TooManyJobs, StateExists, StateInUse, ReadState, BadState, WriteState, WriteStateBurnt, Exhausted, OutOfMemory, OutOfMemoryBurnt, Partial, Input, Output}
+use Rattle.lms_commands.specs.declared.fault.Fault.TheVariants.{BadLevels, TooManyLevels, TooTall, BadSeed, BadId, BadRandom, BadWorkers, BadJob, TooManyJobs, StateExists, StateInUse, ReadState, BadState, WriteState, WriteStateBurnt, Exhausted, OutOfMemory, OutOfMemoryBurnt, Partial, ReadInput, WriteOutput}
 use Rattle.lms_commands.proofs.Turns.{Quietly, idle_as, keeping, left_so, no_text, one_more, unopened, unsigned, used, whole_text}
 
 -- ---- `sign`
@@ -213,8 +213,8 @@ module _ (old : WorldCalls) (quiet : list_any hands_out old ≡ false) (none : s
   unanswered new OutOfMemory never = absurd never
   unanswered new (OutOfMemoryBurnt count) never = absurd never
   unanswered new (Partial signed asked) (differ, is) = all_answered signed asked new is
-  unanswered new Input never = absurd never
-  unanswered new Output (batch, answers, lines) = answered batch new answers lines
+  unanswered new ReadInput never = absurd never
+  unanswered new WriteOutput (batch, answers, lines) = answered batch new answers lines
 
   jobs_unsigned : (state : KeyState) (new : WorldCalls) (fault : Fault) → LogsJobsUnsigned input rest fault state old new → Quietly old new
   jobs_unsigned state new BadLevels (jobs, read, some, is) = unsigned old quiet none (length jobs) state new some BadLevels is
@@ -236,8 +236,8 @@ module _ (old : WorldCalls) (quiet : list_any hands_out old ≡ false) (none : s
   jobs_unsigned state new OutOfMemory is = left_so old quiet none state new is
   jobs_unsigned state new (OutOfMemoryBurnt count) (jobs, read, some, is) = unsigned old quiet none (length jobs) state new some (OutOfMemoryBurnt count) is
   jobs_unsigned state new (Partial signed asked) (jobs, read, some, is) = unsigned old quiet none (length jobs) state new some (Partial signed asked) is
-  jobs_unsigned state new Input is = left_so old quiet none state new is
-  jobs_unsigned state new Output (jobs, read, some, is) = unsigned old quiet none (length jobs) state new some Output is
+  jobs_unsigned state new ReadInput is = left_so old quiet none state new is
+  jobs_unsigned state new WriteOutput (jobs, read, some, is) = unsigned old quiet none (length jobs) state new some WriteOutput is
 
   no_batch : (new : WorldCalls) (fault : Fault) → LogsNoBatch input rest fault old new → Quietly old new
   no_batch new fault (inl never) = unopened old quiet none new fault never

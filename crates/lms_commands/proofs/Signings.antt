@@ -68,8 +68,8 @@ module _ (old new : Known) (state : Bytes) (before after : BookState) (store : S
     (before.key, before.base, before.openings, before.burnt, counted, omega (arith, full, is_fresh.used), omega (arith, is, is_fresh.used), opened),
     stays_with same,
   )
-  next_failed (unsigned.Book book.OutOfMemory) (room, same) = stays_with same
-  next_failed (unsigned.Book (book.Store start len)) (room, s, l, history, failed) =
+  next_failed (unsigned.Book book.OutOfMemory) (enough, same) = stays_with same
+  next_failed (unsigned.Book (book.Store start len)) (enough, s, l, history, failed) =
       let from : before.base ≡ start = sym (s ∙ is_fresh.used) in
       let Burns : ℕ → Type 0 = λ n. IsOldOr (image_of before.key (n + 1) (before.openings + 1) before.burnt) old new state in
       let left : Burns before.base = λ text holds. ⊎_elim (λ was. inl ((taken text).0 was)) (λ is. inr (is ∙ image_is 1 before is_fresh))
@@ -79,7 +79,7 @@ module _ (old new : Known) (state : Bytes) (before after : BookState) (store : S
           before.openings,
           before.burnt,
           subst (λ (n : ℕ). HasImage before.key n before.openings before.burnt) from counted,
-          omega (arith, room, from, is_fresh.used),
+          omega (arith, enough, from, is_fresh.used),
           subst (λ (n : ℕ). MayBeImageOf old state before.key n before.openings before.burnt) from opened,
           subst Burns from left,
         ),

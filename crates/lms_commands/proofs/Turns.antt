@@ -16,7 +16,7 @@ use Rattle.lms_commands.specs.Logs.{KeyState, LeavesState, WorldCalls, LogsKeepi
 use Rattle.lms_commands.specs.ReadingLogs.{info_of, LogsInfo, LogsInfoFailed, LogsVerify, LogsVerifyFailed, ReadsToPrint}
 use Rattle.lms_commands.specs.Verdicts.{line_of}
 use Rattle.lms_commands.specs.declared.fault.Fault.{Fault}
-use Rattle.lms_commands.specs.declared.fault.Fault.TheVariants.{BadLevels, TooManyLevels, TooTall, BadSeed, BadId, BadRandom, BadWorkers, BadJob, TooManyJobs, StateExists, StateInUse, ReadState, BadState, WriteState, WriteStateBurnt, Exhausted, OutOfMemory, OutOfMemoryBurnt, Partial, Input, Output}
+use Rattle.lms_commands.specs.declared.fault.Fault.TheVariants.{BadLevels, TooManyLevels, TooTall, BadSeed, BadId, BadRandom, BadWorkers, BadJob, TooManyJobs, StateExists, StateInUse, ReadState, BadState, WriteState, WriteStateBurnt, Exhausted, OutOfMemory, OutOfMemoryBurnt, Partial, ReadInput, WriteOutput}
 use Rattle.lms_commands.specs.declared.verdict.Verdict.{Verdict}
 
 -- ---- turns, call by call
@@ -103,8 +103,8 @@ module _ (old : WorldCalls) (quiet : list_any hands_out old ≡ false) (none : s
   unopened new OutOfMemory (inr (taken, calls)) = unwritten new taken taken calls (refl, refl)
   unopened new (OutOfMemoryBurnt count) never = absurd never
   unopened new (Partial signed asked) never = absurd never
-  unopened new Input never = absurd never
-  unopened new Output never = absurd never
+  unopened new ReadInput never = absurd never
+  unopened new WriteOutput never = absurd never
 
   -- the use of n indices is stored for certain
   pub used : (count : ℕ) (state : KeyState) (new : WorldCalls) (uses : StoresUse count state old new) → 1 ≤ count → (signatures : List Signature)
@@ -170,8 +170,8 @@ module _ (old : WorldCalls) (quiet : list_any hands_out old ≡ false) (none : s
   unsigned count state new some OutOfMemory is = left_so state new is
   unsigned count state new some (OutOfMemoryBurnt spent) (so_many, uses) = stored_quietly count state new uses some
   unsigned count state new some (Partial signed asked) never = absurd never
-  unsigned count state new some Input never = absurd never
-  unsigned count state new some Output never = absurd never
+  unsigned count state new some ReadInput never = absurd never
+  unsigned count state new some WriteOutput never = absurd never
 
 -- a run that does nothing but such calls
 idle : (calls : WorldCalls) → store_calls calls ≡ [] → list_any hands_out calls ≡ false → IsTurn StoresNothing [] calls
@@ -299,8 +299,8 @@ module _ (old : WorldCalls) (quiet : list_any hands_out old ≡ false) (none : s
   unstored new OutOfMemory calls = (StoresNothing, begun StoresNothing [] new (inl (ap store_calls calls ∙ none)) (ap (list_any hands_out) calls ∙ quiet) refl, ap written_in calls ∙ no_file)
   unstored new (OutOfMemoryBurnt count) never = absurd never
   unstored new (Partial signed asked) never = absurd never
-  unstored new Input never = absurd never
-  unstored new Output never = absurd never
+  unstored new ReadInput never = absurd never
+  unstored new WriteOutput never = absurd never
 
   unmade : (public : Bytes) (before printed : List ℕ) (new : WorldCalls) (fault : Fault) → LogsUnmade key public before printed fault old new
       → Ends HandsKeyAtMost new before printed
@@ -325,9 +325,9 @@ module _ (old : WorldCalls) (quiet : list_any hands_out old ≡ false) (none : s
   unmade public before printed new OutOfMemory (inr (inr is), same) = let written = writes_key public false new is in (Makes key, written.0, inr (key, written.1, no_text before printed _ same))
   unmade public before printed new (OutOfMemoryBurnt count) never = absurd never
   unmade public before printed new (Partial signed asked) never = absurd never
-  unmade public before printed new Input never = absurd never
-  unmade public before printed new Output (inl (is, same)) = let written = writes_key public false new is in (Makes key, written.0, inr (key, written.1, no_text before printed _ same))
-  unmade public before printed new Output (inr (is, line)) = let written = publishes_key public before new is in (Makes key, written.0, inr (key, written.1, line))
+  unmade public before printed new ReadInput never = absurd never
+  unmade public before printed new WriteOutput (inl (is, same)) = let written = writes_key public false new is in (Makes key, written.0, inr (key, written.1, no_text before printed _ same))
+  unmade public before printed new WriteOutput (inr (is, line)) = let written = publishes_key public before new is in (Makes key, written.0, inr (key, written.1, line))
 
 pub keygen_turn : (key : KeyOfCode) (state public : Bytes) (before printed : List ℕ) (whole : WorldCalls) → LogsKeygen key state public before printed [] whole
     → Ends HandsKeyAtMost whole before printed

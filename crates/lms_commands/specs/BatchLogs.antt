@@ -10,7 +10,7 @@ use Rattle.lms_world.specs.Known.{Bytes}
 use Rattle.lms_world.specs.Events.{Locked, Unlocked, Printing, after}
 use Rattle.lms_commands.specs.Logs.{IsLockRefused, KeyState, LeavesState, WorldCalls, LogsUnopened, LogsUnsigned, StoresUse}
 use Rattle.lms_commands.specs.declared.fault.Fault.{Fault}
-use Rattle.lms_commands.specs.declared.fault.Fault.TheVariants.{BadWorkers, BadJob, TooManyJobs, OutOfMemory, Partial, Input, Output}
+use Rattle.lms_commands.specs.declared.fault.Fault.TheVariants.{BadWorkers, BadJob, TooManyJobs, OutOfMemory, Partial, ReadInput, WriteOutput}
 
 -- the use of n indices is stored for certain; of none, nothing is written
 abbrev pub UsesAll : ℕ → KeyState → WorldCalls → WorldCalls → Type 0
@@ -31,7 +31,7 @@ pub record LogsBatch (input rest : Option (List ℕ)) (batch : Batch)
 -- there for the desk, nothing is written
 abbrev pub LogsJobsUnsigned : Option (List ℕ) → Option (List ℕ) → Fault → KeyState → WorldCalls
     → WorldCalls → Type 0
-LogsJobsUnsigned input rest Input state old new = LeavesState state old new
+LogsJobsUnsigned input rest ReadInput state old new = LeavesState state old new
 LogsJobsUnsigned input rest (BadJob line) state old new = LeavesState state old new
 LogsJobsUnsigned input rest TooManyJobs state old new = LeavesState state old new
 LogsJobsUnsigned input rest OutOfMemory state old new = LeavesState state old new
@@ -68,7 +68,7 @@ abbrev pub LogsUnanswered : Option (List ℕ) → Option (List ℕ) → List ℕ
     → WorldCalls → Type 0
 LogsUnanswered input rest before printed (Partial count asked) old new =
     (count ≢ asked) × LogsAnswers input rest before printed count asked old new
-LogsUnanswered input rest before printed Output old new =
+LogsUnanswered input rest before printed WriteOutput old new =
     (batch : Batch) × AnswersJobs input rest before batch old new
     × AppendsFront (Some before) (Some printed) (answer_text batch)
 LogsUnanswered input rest before printed _ old new = ⊥

@@ -13,7 +13,7 @@ use Rattle.lms_world.specs.Known.{Known, Stays, Bytes}
 use Rattle.lms_texts.specs.Options.{AreWorkers}
 use Rattle.lms_commands.specs.Signing.{MayBurnIndices, MayLackIndices, MayBeBadState, Opens, MayUseIndices}
 use Rattle.lms_commands.specs.declared.fault.Fault.{Fault}
-use Rattle.lms_commands.specs.declared.fault.Fault.TheVariants.{BadWorkers, BadJob, TooManyJobs, StateInUse, ReadState, BadState, WriteStateBurnt, Exhausted, OutOfMemory, OutOfMemoryBurnt, Input, Output, Partial}
+use Rattle.lms_commands.specs.declared.fault.Fault.TheVariants.{BadWorkers, BadJob, TooManyJobs, StateInUse, ReadState, BadState, WriteStateBurnt, Exhausted, OutOfMemory, OutOfMemoryBurnt, ReadInput, WriteOutput, Partial}
 
 -- the streams of a command at one moment: what is still to be read, and what is printed so far
 pub record Streams : Type 0 where
@@ -78,7 +78,7 @@ FailsToSignInput old new state before after ReadState =
     old.may_fail state × (after ≡ before) × Stays old new state
 FailsToSignInput old new state before after (BadState fault) =
     MayBeBadState old state fault × (after ≡ before) × Stays old new state
-FailsToSignInput old new state before after Input = Opens old state × Stays old new state
+FailsToSignInput old new state before after ReadInput = Opens old state × Stays old new state
 FailsToSignInput old new state before after (BadJob line) =
     Opens old state × IfSome before (λ text. IsFirstBadLine text line) × Stays old new state
 FailsToSignInput old new state before after TooManyJobs =
@@ -99,14 +99,14 @@ abbrev pub IsUnprinted : SignedJobs → Option (List ℕ) → Option (List ℕ) 
 IsUnprinted jobs before after (Partial signed asked) =
     (signed ≢ asked) × (signed ≡ signatures_in jobs.batch) × (asked ≡ jobs.asked)
     × Appends before after (answer_text jobs.batch)
-IsUnprinted jobs before after Output = AppendsFront before after (answer_text jobs.batch)
+IsUnprinted jobs before after WriteOutput = AppendsFront before after (answer_text jobs.batch)
 IsUnprinted jobs before after _ = ⊥
 
 -- they were signed, and not all answers printed, or not all jobs signed
 abbrev pub FailsToAnswer : Known → Known → Bytes → Streams → Streams → Fault → Type 0
 FailsToAnswer old new state before after (Partial signed asked) =
     (signed ≢ asked) × SignsJobs old new state before after signed asked
-FailsToAnswer old new state before after Output = SignsJobsInVain old new state before after
+FailsToAnswer old new state before after WriteOutput = SignsJobsInVain old new state before after
 FailsToAnswer old new state before after _ = ⊥
 
 -- why not all jobs were signed and answered once the lock is acquired
@@ -131,6 +131,6 @@ FailsToBatch old new state workers before after fault =
 
 -- the faults at which nothing is printed on the output
 abbrev pub PrintsNothing : Fault → Type 0
-PrintsNothing Output = ⊥
+PrintsNothing WriteOutput = ⊥
 PrintsNothing (Partial signed asked) = ⊥
 PrintsNothing _ = Unit {0}

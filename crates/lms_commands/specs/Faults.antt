@@ -20,7 +20,7 @@ use Rattle.lms_lines.specs.declared.fault.LinesFault.TheVariants as lines
 use Rattle.lms_world.specs.declared.fault.WorldFault.{WorldFault}
 use Rattle.lms_world.specs.declared.fault.WorldFault.TheVariants as world
 use Rattle.lms_commands.specs.declared.fault.Fault.{Fault}
-use Rattle.lms_commands.specs.declared.fault.Fault.TheVariants.{BadLevels, TooManyLevels, TooTall, BadSeed, BadId, BadRandom, BadWorkers, BadJob, TooManyJobs, StateExists, StateInUse, ReadState, BadState, WriteState, WriteStateBurnt, Exhausted, OutOfMemory, OutOfMemoryBurnt, Partial, Input, Output}
+use Rattle.lms_commands.specs.declared.fault.Fault.TheVariants.{BadLevels, TooManyLevels, TooTall, BadSeed, BadId, BadRandom, BadWorkers, BadJob, TooManyJobs, StateExists, StateInUse, ReadState, BadState, WriteState, WriteStateBurnt, Exhausted, OutOfMemory, OutOfMemoryBurnt, Partial, ReadInput, WriteOutput}
 use Rattle.lms_texts.specs.Faults.{levels_fault_text}
 use Rattle.lms_texts.specs.declared.fault.LevelsTextFault.{LevelsTextFault}
 use Rattle.lms_texts.specs.declared.fault.LevelsTextFault.TheVariants as unread
@@ -50,8 +50,8 @@ command_fault_text OutOfMemory = out_of_memory_text
 command_fault_text (OutOfMemoryBurnt count) = batch_fault_text (batch.OutOfMemory count)
 command_fault_text (Partial signed asked) =
     codes "partial: " ++ decimal signed ++ codes " of " ++ decimal asked ++ codes " signed"
-command_fault_text Input = jobs_fault_text jobs.Read
-command_fault_text Output = write_fault_text
+command_fault_text ReadInput = jobs_fault_text jobs.Read
+command_fault_text WriteOutput = write_fault_text
 
 -- the line on standard error
 abbrev pub fault_line : Fault → List ℕ
@@ -77,8 +77,8 @@ status_of (Exhausted left) = status.Exhausted
 status_of OutOfMemory = status.Memory
 status_of (OutOfMemoryBurnt count) = status.Memory
 status_of (Partial signed asked) = status.Negative
-status_of Input = status.Stream
-status_of Output = status.Stream
+status_of ReadInput = status.Stream
+status_of WriteOutput = status.Stream
 
 abbrev pub status_number : Status → ℕ
 status_number status.Done = 0
@@ -102,7 +102,7 @@ of_text unread.OutOfMemory = OutOfMemory
 
 -- the fault that a refused read is
 abbrev pub of_read : WorldFault → Fault
-of_read world.Device = Input
+of_read world.Device = ReadInput
 of_read world.OutOfMemory = OutOfMemory
 
 -- the fault that a refused opening is
@@ -124,7 +124,7 @@ of_signing signing.OutOfMemory = OutOfMemoryBurnt 1
 
 -- the fault that job lines not read are
 abbrev pub of_jobs : JobsFault → Fault
-of_jobs jobs.Read = Input
+of_jobs jobs.Read = ReadInput
 of_jobs (jobs.BadJob line) = BadJob line
 of_jobs jobs.TooManyJobs = TooManyJobs
 of_jobs jobs.OutOfMemory = OutOfMemory
@@ -139,4 +139,4 @@ of_batch (batch.OutOfMemory burnt) = OutOfMemoryBurnt burnt
 abbrev pub of_lines : LinesFault → Fault
 of_lines (lines.Jobs fault) = of_jobs fault
 of_lines (lines.Batch fault) = of_batch fault
-of_lines lines.Write = Output
+of_lines lines.Write = WriteOutput

@@ -17,7 +17,7 @@ use Rattle.lms_commands.specs.Keeping.{StaysRight}
 use Rattle.lms_world.specs.Known.{IsOldOr, Known, MayExist, SameNodes, Stays, Bytes}
 use Rattle.lms_texts.specs.Options.{IsLevelsText}
 use Rattle.lms_commands.specs.declared.fault.Fault.{Fault}
-use Rattle.lms_commands.specs.declared.fault.Fault.TheVariants.{BadLevels, TooManyLevels, TooTall, BadSeed, BadId, StateExists, StateInUse, WriteState, OutOfMemory, Output}
+use Rattle.lms_commands.specs.declared.fault.Fault.TheVariants.{BadLevels, TooManyLevels, TooTall, BadSeed, BadId, StateExists, StateInUse, WriteState, OutOfMemory, WriteOutput}
 
 -- the text is n bytes in hexadecimal
 abbrev pub IsHexOf : ℕ → Bytes → Type 0
@@ -91,5 +91,5 @@ FailsToMakeKey old new key state StateExists = MayExist old state × Stays old n
 FailsToMakeKey old new key state OutOfMemory = Stays old new state ⊎ MayBeNewKey old new key state
 FailsToMakeKey old new key state WriteState =
     old.may_lack state × IsOldOr (image_of key 0 0 0) old new state
-FailsToMakeKey old new key state Output = MayBeNewKey old new key state
+FailsToMakeKey old new key state WriteOutput = MayBeNewKey old new key state
 FailsToMakeKey old new key state _ = ⊥

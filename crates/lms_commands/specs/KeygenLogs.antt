@@ -13,7 +13,7 @@ use Rattle.lms_world.specs.Known.{Bytes}
 use Rattle.lms_world.specs.Events.{Written, Locked, Unlocked, Asked, Taken, PutBack, Printing, after}
 use Rattle.lms_commands.specs.Logs.{IsLockRefused, WorldCalls, LogsKeeping}
 use Rattle.lms_commands.specs.declared.fault.Fault.{Fault}
-use Rattle.lms_commands.specs.declared.fault.Fault.TheVariants.{StateExists, WriteState, OutOfMemory, Output}
+use Rattle.lms_commands.specs.declared.fault.Fault.TheVariants.{StateExists, WriteState, OutOfMemory, WriteOutput}
 
 -- a new key's state is stored for certain: nothing else is written to its store
 abbrev pub StoresKey : KeyOfCode → WorldCalls → WorldCalls → Type 0
@@ -28,18 +28,6 @@ LogsUnstored key WriteState old new =
     (taken left : StoreView) × FailsToWrite (image_of key 0 0 0) taken left
     × (new ≡ after (Taken (Some taken) ∷ PutBack left ∷ []) old)
 LogsUnstored key _ old new = ⊥
-
--- these bytes are not written to a file, and then nothing is printed, or at most a beginning of the
--- line after them
-abbrev pub IsUnpublished : Bytes → List ℕ → List ℕ → List ℕ → List ℕ → Fault → WorldCalls
-    → WorldCalls → Type 0
-IsUnpublished name bytes line before printed OutOfMemory old new =
-    (new ≡ after (Written name bytes false ∷ []) old) × (printed ≡ before)
-IsUnpublished name bytes line before printed Output old new =
-    ((new ≡ after (Written name bytes false ∷ []) old) × (printed ≡ before))
-    ⊎ ((new ≡ after (Written name bytes true ∷ Printing before ∷ []) old)
-    × AppendsFront (Some before) (Some printed) line)
-IsUnpublished name bytes line before printed _ old new = ⊥
 
 -- trees of this key, where there are any, with the nodes that they have
 abbrev pub AreGenuineTrees : KeyOfCode → Option Way → Type 0
@@ -80,7 +68,7 @@ LogsUnmade key public before printed OutOfMemory old new = ((new ≡ after (Aske
     ⊎ WritesKey key public false old new)) × (printed ≡ before)
 LogsUnmade key public before printed WriteState old new =
     LogsUnstored key WriteState (after (Asked false ∷ []) old) new × (printed ≡ before)
-LogsUnmade key public before printed Output old new =
+LogsUnmade key public before printed WriteOutput old new =
     (WritesKey key public false old new × (printed ≡ before))
     ⊎ (PublishesKey key public before old new
     × AppendsFront (Some before) (Some printed) (capacity_line key))

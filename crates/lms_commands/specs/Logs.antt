@@ -1,15 +1,18 @@
 -- The calls that a command makes on its world, one after another, the newest first.
-use Rattle.std.specs.Prelude.{◌≡◌, ◌⊎◌, ◌+◌, ◌-◌, ◌<◌, ◌≤◌, ℕ, List, [], ◌∷◌, Bool, Option, Some, None}
+use Rattle.std.specs.Prelude.{◌≡◌, ◌⊎◌, ◌+◌, ◌-◌, ◌<◌, ◌≤◌, ℕ, List, [], ◌∷◌, Bool, true, false, Option, Some, None}
 use Rattle.lms_spec.specs.Hss.{capacity_of}
 use Rattle.lms_hss.specs.Keys.{hss_key_of}
 use Rattle.lms_hss.specs.declared.key.HssKey.{HssKey as KeyOfCode}
 use Rattle.lms_image.specs.Image.{fault_of, image_of, HasImage, IsImage}
+use Rattle.lms_image.specs.declared.image.Image.{Image}
 use Rattle.lms_book.specs.States.{BookState}
 use Rattle.lms_book.specs.Stops.{StoreView, FailsToWrite, MayLeave, after_failure, after_write, having_given}
 use Rattle.lms_kept.specs.Ways.{Way, nodes_text}
-use Rattle.lms_world.specs.Events.{Event, Taken, PutBack, NodesWritten, after}
+use Rattle.lms_lines.specs.AnswerLines.{AppendsFront}
+use Rattle.lms_world.specs.Events.{Event, Taken, PutBack, NodesWritten, Printing, Written, after}
+use Rattle.lms_world.specs.Known.{Bytes}
 use Rattle.lms_commands.specs.declared.fault.Fault.{Fault}
-use Rattle.lms_commands.specs.declared.fault.Fault.TheVariants.{ReadState, BadState, WriteStateBurnt, Exhausted, StateInUse, Input, OutOfMemory, OutOfMemoryBurnt}
+use Rattle.lms_commands.specs.declared.fault.Fault.TheVariants.{ReadState, BadState, WriteStateBurnt, Exhausted, StateInUse, ReadInput, WriteOutput, OutOfMemory, OutOfMemoryBurnt}
 
 -- the calls up to some moment
 abbrev pub WorldCalls : Type 0
@@ -26,6 +29,16 @@ pub record KeyState : Type 0 where
 abbrev pub state_of : BookState → KeyState
 state_of book =
     record { key = book.key; index = book.base; openings = book.openings; burnt = book.burnt }
+
+-- what an image says
+abbrev pub state_in : Image → KeyState
+state_in image =
+    record {
+      key = image.key;
+      index = image.counter;
+      openings = image.openings;
+      burnt = image.burnt;
+    }
 
 -- the image that counts n indices more as used, and their opening
 abbrev pub image_using : ℕ → KeyState → List ℕ
@@ -108,6 +121,18 @@ IsLockRefused _ = ⊥
 
 -- the fault comes where a file is not read
 abbrev pub IsReadRefused : Fault → Type 0
-IsReadRefused Input = Unit {0}
+IsReadRefused ReadInput = Unit {0}
 IsReadRefused OutOfMemory = Unit {0}
 IsReadRefused _ = ⊥
+
+-- these bytes are not written to a file, and then nothing is printed, or at most a beginning of the
+-- line after them
+abbrev pub IsUnpublished : Bytes → List ℕ → List ℕ → List ℕ → List ℕ → Fault → WorldCalls
+    → WorldCalls → Type 0
+IsUnpublished name bytes line before printed OutOfMemory old new =
+    (new ≡ after (Written name bytes false ∷ []) old) × (printed ≡ before)
+IsUnpublished name bytes line before printed WriteOutput old new =
+    ((new ≡ after (Written name bytes false ∷ []) old) × (printed ≡ before))
+    ⊎ ((new ≡ after (Written name bytes true ∷ Printing before ∷ []) old)
+    × AppendsFront (Some before) (Some printed) line)
+IsUnpublished name bytes line before printed _ old new = ⊥

@@ -7,7 +7,7 @@ use Rattle.lms_texts.specs.Descriptions.{info_text}
 use Rattle.lms_commands.specs.Logs.{IsLockRefused, IsReadRefused, KeyState, LeavesState, WorldCalls, LogsUnopened}
 use Rattle.lms_commands.specs.Verdicts.{IsRightFor, line_of}
 use Rattle.lms_commands.specs.declared.fault.Fault.{Fault}
-use Rattle.lms_commands.specs.declared.fault.Fault.TheVariants.{Output}
+use Rattle.lms_commands.specs.declared.fault.Fault.TheVariants.{WriteOutput}
 use Rattle.lms_commands.specs.declared.verdict.Verdict.{Verdict}
 
 -- what `info` prints of a state
@@ -32,7 +32,7 @@ LogsInfo state before printed old new =
 -- is printed
 abbrev pub LogsUndescribed : List ℕ → List ℕ → Fault → WorldCalls → WorldCalls → Type 0
 LogsUndescribed before printed fault old new = (LogsUnopened fault old new × (printed ≡ before))
-    ⊎ ((fault ≡ Output)
+    ⊎ ((fault ≡ WriteOutput)
     × ((read : KeyState) × ReadsToPrint read before old new
     × AppendsFront (Some before) (Some printed) (info_of read)))
 
@@ -68,7 +68,7 @@ LogsVerifyFailed public message signature before printed fault old new =
     ⊎ ((key : List ℕ) × ((new ≡ after (Read public (Some key) ∷ Opened message false ∷ []) old)
     ⊎ ((new ≡ after (Read public (Some key) ∷ Opened message true ∷ Read signature None ∷ []) old)
     ⊎ ((signed : List ℕ) × LogsJudging public message signature key signed old new))))))
-    ⊎ ((fault ≡ Output)
+    ⊎ ((fault ≡ WriteOutput)
     × ((verdict : Verdict) × (key text signed : List ℕ) × IsRightFor verdict key text signed
     × ((last : WorldCalls) × LogsJudging public message signature key signed old last
     × (new ≡ after (Printing before ∷ []) last))

@@ -9,7 +9,7 @@ use Rattle.lms_world.specs.Events.{Read, Written, Locked, Unlocked, NodesRead, P
 use Rattle.lms_texts.specs.Descriptions.{number_line}
 use Rattle.lms_commands.specs.Logs.{IsLockRefused, IsReadRefused, KeyState, WorldCalls, LogsKeeping, LogsUnopened, LogsUnsigned, StoresUse}
 use Rattle.lms_commands.specs.declared.fault.Fault.{Fault}
-use Rattle.lms_commands.specs.declared.fault.Fault.TheVariants.{BadRandom, Output}
+use Rattle.lms_commands.specs.declared.fault.Fault.TheVariants.{BadRandom, WriteOutput}
 
 -- the use of a state's next index is stored for certain, and then trees may be kept; the signature
 -- is one by that index of its key
@@ -59,7 +59,8 @@ abbrev pub LogsUndelivered : List ℕ → List ℕ → Bytes → List ℕ → Li
 LogsUndelivered random message out before printed fault old new =
     ((nodes : Option (List ℕ)) × LogsNotSigned fault (after (NodesRead nodes ∷ []) old) new
     × (printed ≡ before))
-    ⊎ ((fault ≡ Output) × ((WritesSignature random message out false old new × (printed ≡ before))
+    ⊎ ((fault ≡ WriteOutput)
+    × ((WritesSignature random message out false old new × (printed ≡ before))
     ⊎ ((delivers : DeliversSignature random message out before old new)
     × AppendsFront (Some before) (Some printed) (index_line delivers.writes))))
 

@@ -19,7 +19,7 @@ use Rattle.lms_commands.specs.Keeping.{MayBeKept, StaysRight}
 use Rattle.lms_commands.specs.Keygen.{IsHexOf}
 use Rattle.lms_world.specs.Known.{IsOldOr, Known, MayBeRead, SameNodes, Stays, Bytes}
 use Rattle.lms_commands.specs.declared.fault.Fault.{Fault}
-use Rattle.lms_commands.specs.declared.fault.Fault.TheVariants.{BadRandom, StateInUse, ReadState, BadState, WriteStateBurnt, Exhausted, OutOfMemory, OutOfMemoryBurnt, Input, Output}
+use Rattle.lms_commands.specs.declared.fault.Fault.TheVariants.{BadRandom, StateInUse, ReadState, BadState, WriteStateBurnt, Exhausted, OutOfMemory, OutOfMemoryBurnt, ReadInput, WriteOutput}
 use Rattle.lms_commands.specs.declared.sign.NextFault.{NextFault}
 use Rattle.lms_commands.specs.declared.sign.NextFault.TheVariants as unsigned
 use Rattle.lms_world.specs.declared.fault.WorldFault.TheVariants as world
@@ -139,7 +139,7 @@ pub record Describes (at : Known) (state : Bytes) (before after : Option (List �
 -- why no key was described; memory may run out at any state
 abbrev pub FailsToDescribe : Known → Bytes → Fault → Type 0
 FailsToDescribe at state StateInUse = at.may_be_in_use state
-FailsToDescribe at state Output = Opens at state
+FailsToDescribe at state WriteOutput = Opens at state
 FailsToDescribe at state ReadState = at.may_fail state
 FailsToDescribe at state (BadState fault) = MayBeBadState at state fault
 FailsToDescribe at state OutOfMemory = Unit {0}
@@ -173,7 +173,7 @@ SignsUnder old new state random text out before after =
 
 -- why it was not, or not delivered, which uses an index
 abbrev pub FailsUnder : Known → Known → Bytes → List ℕ → List ℕ → Fault → Type 0
-FailsUnder old new state random text Output =
+FailsUnder old new state random text WriteOutput =
     (signature : List ℕ) × (index : ℕ) × SignsNext old new state random text signature index
 FailsUnder old new state random text fault = FailsToSignNext old new state fault
 
@@ -187,13 +187,13 @@ LacksMemory old new state message =
 abbrev pub FailsToSign : Known → Known → Bytes → Bytes → Bytes → Fault → Type 0
 FailsToSign old new state random message BadRandom =
     (¬ IsHexOf hash_length random) × Stays old new state
-FailsToSign old new state random message Input =
+FailsToSign old new state random message ReadInput =
     IsHexOf hash_length random × old.may_refuse message world.Device × Stays old new state
 FailsToSign old new state random message StateInUse =
     IsHexOf hash_length random × MayBeRead old message × old.may_be_in_use state
     × Stays old new state
 FailsToSign old new state random message OutOfMemory =
     IsHexOf hash_length random × LacksMemory old new state message
-FailsToSign old new state random message Output = SignsMessage old new state random message
+FailsToSign old new state random message WriteOutput = SignsMessage old new state random message
 FailsToSign old new state random message fault =
     IsHexOf hash_length random × MayBeRead old message × FailsToSignNext old new state fault

@@ -3,7 +3,7 @@ use Rattle.std.specs.Prelude.{ℕ, ◌≡◌, ◌⊎◌, List}
 use Rattle.lms_world.specs.Known.{Known, MayBeRead, Bytes}
 use Rattle.lms_commands.specs.Verdicts.{IsRightFor}
 use Rattle.lms_commands.specs.declared.fault.Fault.{Fault}
-use Rattle.lms_commands.specs.declared.fault.Fault.TheVariants.{Input, OutOfMemory, Output}
+use Rattle.lms_commands.specs.declared.fault.Fault.TheVariants.{ReadInput, OutOfMemory, WriteOutput}
 use Rattle.lms_commands.specs.declared.verdict.Verdict.{Verdict}
 use Rattle.lms_world.specs.declared.fault.WorldFault.TheVariants as world
 
@@ -20,7 +20,7 @@ pub record Judges (at : Known) (public_name message_name signature_name : Bytes)
 
 -- a read of the name may come to this fault
 abbrev pub MayBeRefusedAt : Known → Bytes → Fault → Type 0
-MayBeRefusedAt at name Input = at.may_refuse name world.Device
+MayBeRefusedAt at name ReadInput = at.may_refuse name world.Device
 MayBeRefusedAt at name OutOfMemory = at.may_refuse name world.OutOfMemory
 MayBeRefusedAt at name _ = ⊥
 
@@ -31,4 +31,5 @@ FailsToJudge at public message signature fault =
     MayBeRefusedAt at public fault
     ⊎ ((MayBeRead at public × MayBeRefusedAt at message fault)
     ⊎ ((MayBeRead at public × MayBeRead at message × MayBeRefusedAt at signature fault)
-    ⊎ (MayBeRead at public × MayBeRead at message × MayBeRead at signature × (fault ≡ Output))))
+    ⊎ (MayBeRead at public × MayBeRead at message × MayBeRead at signature
+    × (fault ≡ WriteOutput))))

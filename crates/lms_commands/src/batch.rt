@@ -33,15 +33,14 @@ use std::thread::Threads;
 /// job is signed; where there are no jobs, none.
 ///
 /// Faults, in this order: `BadWorkers`; `StateInUse` where the state's lock is not available;
-/// `ReadState`; `BadState`; `Input` where the input can't be read; `BadJob` with the number of the
-/// first line that is no job line; `TooManyJobs` over 1024; `Exhausted`; `WriteStateBurnt` where
-/// the use of the indices may not have been stored; `OutOfMemoryBurnt` where memory is refused
-/// after that, before any job is signed; `Output`, maybe after a beginning of the lines; `Partial`
-/// where memory is refused to a worker, after the lines of those that were signed. `OutOfMemory`
-/// may come anywhere before `WriteStateBurnt`. At the last three all indices of the batch are used;
-/// after `WriteStateBurnt` the state may still be the older one, which gives them again. The state
-/// stays locked while the input is read.
-///
+/// `ReadState`; `BadState`; `ReadInput` where the input can't be read; `BadJob` with the number of
+/// the first line that is no job line; `TooManyJobs` over 1024; `Exhausted`; `WriteStateBurnt`
+/// where the use of the indices may not have been stored; `OutOfMemoryBurnt` where memory is
+/// refused after that, before any job is signed; `WriteOutput`, maybe after a beginning of the
+/// lines; `Partial` where memory is refused to a worker, after the lines of those that were signed.
+/// `OutOfMemory` may come anywhere before `WriteStateBurnt`. At the last three all indices of the
+/// batch are used; after `WriteStateBurnt` the state may still be the older one, which gives them
+/// again. The state stays locked while the input is read.
 /// `progress` gets how many leaves of the trees that the batch needs are computed.
 pub fn sign_jobs<W: World, I: Read, O: Write>(
     rt: &(impl Threads + Wait + Sync),
@@ -54,19 +53,16 @@ pub fn sign_jobs<W: World, I: Read, O: Write>(
     output: &mut Printer<O>,
     progress: &impl Progress,
 ) -> Result<(), Fault>
-    ensures logged { OnOk result
-        (LogsJobs state.now (I.remaining input.old) (I.remaining input.new) output.old output.new
-        (W.events log.old) (W.events log.new)) }
-    ensures log_failed { IfErr result (λ fault.
-        LogsJobsFailed state.now (I.remaining input.old)
+    ensures logged { OnOk result (LogsJobs state.now (I.remaining input.old)
+        (I.remaining input.new) output.old output.new (W.events log.old) (W.events log.new)) }
+    ensures log_failed { IfErr result (λ fault. LogsJobsFailed state.now (I.remaining input.old)
         (I.remaining input.new) output.old output.new fault (W.events log.old) (W.events log.new)) }
     ensures workers { OnOk result (AreWorkers workers.now) }
     ensures signed { OnOk result (SignsAllJobs (W.known world.old) (W.known world.new) state.now
         (streams (I.remaining input.old) (Some output.old))
         (streams (I.remaining input.new) (Some output.new))) }
-    ensures failed { IfErr result
-        (FailsToBatch (W.known world.old) (W.known world.new) state.now workers.now
-        (streams (I.remaining input.old) (Some output.old))
+    ensures failed { IfErr result (FailsToBatch (W.known world.old) (W.known world.new)
+        state.now workers.now (streams (I.remaining input.old) (Some output.old))
         (streams (I.remaining input.new) (Some output.new))) }
     ensures silent { IfErr result (λ fault. PrintsNothing fault → output.new ≡ output.old) }
     ensures files { SameFiles (W.known world.old) (W.known world.new) }
@@ -83,8 +79,7 @@ pub fn sign_jobs<W: World, I: Read, O: Write>(
     done
 }
 
-/// The same, once the lock is acquired. All answers are printed after the state's store was put
-/// back.
+/// The same, under the lock. The answers are printed after the state's store was put back.
 fn sign_locked<W: World, I: Read, O: Write>(
     rt: &(impl Threads + Wait + Sync),
     alloc: Global,
@@ -98,16 +93,13 @@ fn sign_locked<W: World, I: Read, O: Write>(
 ) -> Result<(), Fault>
     requires some { 1 ≤ workers }
     requires at_most { workers ≤ most_workers }
-    ensures logged { OnOk result
-        ((count : ℕ)
-        × LogsAnswers (I.remaining input.old)
-        (I.remaining input.new) output.old output.new count count
+    ensures logged { OnOk result ((count : ℕ) × LogsAnswers
+        (I.remaining input.old) (I.remaining input.new) output.old output.new count count
         (W.events log.old) (W.events log.new)) }
     ensures log_failed { IfErr result (λ fault.
         (LogsNoBatch (I.remaining input.old) (I.remaining input.new) fault (W.events log.old)
-        (W.events log.new) × (output.new ≡ output.old))
-        ⊎ LogsUnanswered (I.remaining input.old) (I.remaining input.new) output.old output.new fault
-        (W.events log.old) (W.events log.new)) }
+        (W.events log.new) × (output.new ≡ output.old)) ⊎ LogsUnanswered (I.remaining input.old)
+        (I.remaining input.new) output.old output.new fault (W.events log.old) (W.events log.new)) }
     ensures signed { OnOk result ((state : List ℕ) → W.is_lock_of lock.now state
         → SignsAllJobs (W.known world.old) (W.known world.new) state
         (streams (I.remaining input.old) (Some output.old))
@@ -125,8 +117,8 @@ fn sign_locked<W: World, I: Read, O: Write>(
     print_answers(&signed, output)
 }
 
-/// Prints the lines of a batch. `Output` where that can't be done, maybe after a beginning of them;
-/// `Partial` where not all jobs were signed, after the lines of those that were.
+/// Prints the lines of a batch. `WriteOutput` where that can't be done, maybe after a beginning of
+/// them; `Partial` where not all jobs were signed, after the lines of those that were.
 fn print_answers<O: Write>(signed: &SignedJobs, output: &mut O) -> Result<(), Fault>
     ensures all { OnOk result ((signatures_in signed.now.batch ≡ signed.now.asked)
         × Appends (O.contents output.old) (O.contents output.new) (answer_text signed.now.batch)) }
@@ -135,7 +127,7 @@ fn print_answers<O: Write>(signed: &SignedJobs, output: &mut O) -> Result<(), Fa
 {
     write_batch(output, &signed.batch)?;
     let Ok(()) = output.flush() else {
-        return Err(Fault::Output);
+        return Err(Fault::WriteOutput);
     };
     let count = count_signatures(&signed.batch);
     if count != signed.asked {
@@ -163,9 +155,8 @@ fn sign_by_state<W: World, I: Read>(
     ensures logged { IfOk result (λ signed.
         (signs : LogsBatch (I.remaining input.old) (I.remaining input.new) signed.batch
         (W.events log.old) (W.events log.new)) × (signed.asked ≡ length signs.jobs)) }
-    ensures log_failed { IfErr result (λ fault.
-        LogsNoBatch (I.remaining input.old) (I.remaining input.new) fault
-        (W.events log.old) (W.events log.new)) }
+    ensures log_failed { IfErr result (λ fault. LogsNoBatch (I.remaining input.old)
+        (I.remaining input.new) fault (W.events log.old) (W.events log.new)) }
     ensures signed { IfOk result (λ signed. (state : List ℕ) → W.is_lock_of lock.now state
         → SignsAsked (W.known world.old) (W.known world.new) state (I.remaining input.old)
         (I.remaining input.new) signed) }
@@ -252,16 +243,11 @@ fn sign_at_desk<E: BookLedger, G: BookLedger, B: BookLedger, S: StateStore, I: R
     requires some { 1 ≤ workers }
     requires at_most { workers ≤ most_workers }
     requires one { desks.old ≡ sums 0 0 0 ∷ [] }
-    ensures signed { IfOk result (λ signed.
-        IsSignedAtDesk service.now (I.remaining input.old)
-        (I.remaining input.new) signed desks.new) }
-    ensures refused { IfErr result (λ fault.
-        IsRefusedAtDesk service.now (I.remaining input.old)
-        (I.remaining input.new) fault desks.new) }
+    ensures signed { IfOk result (λ signed. IsSignedAtDesk service.now
+        (I.remaining input.old) (I.remaining input.new) signed desks.new) }
+    ensures refused { IfErr result (λ fault. IsRefusedAtDesk service.now
+        (I.remaining input.old) (I.remaining input.new) fault desks.new) }
     ensures still { length desks.new ≡ 1 }
 {
-    match read_and_sign(rt, alloc, service, input, &mut desks[0], workers, progress) {
-        Ok(signed) => Ok(signed),
-        Err(fault) => Err(Fault::from(fault)),
-    }
+    Ok(read_and_sign(rt, alloc, service, input, &mut desks[0], workers, progress)?)
 }

@@ -2,7 +2,8 @@
 ghost use Rattle.std.specs.Prelude.{◌≡◌, OnErr, OnOk, Some};
 ghost use Rattle.std.specs.Io.KnownBytes.{Appends};
 ghost use Rattle.lms_lines.specs.AnswerLines.{AppendsFront};
-ghost use Rattle.lms_commands.specs.Faults.{fault_line, of_book, of_key, of_opening, of_read, of_text, status_of, command_fault_text};
+ghost use Rattle.lms_commands.specs.Faults.{command_fault_text, fault_line, of_batch, of_book, of_jobs, of_key, of_lines, of_opening, of_read, of_text, status_of};
+ghost use Rattle.lms_commands.specs.declared.fault.Fault.TheVariants.{OutOfMemory as FaultOfMemory, WriteOutput};
 
 use crate::status::Status;
 use lms_batch::BatchFault;
@@ -61,9 +62,9 @@ pub enum Fault {
     Partial { signed: usize, asked: usize },
     /// Standard input, a file other than the state, or the program's arguments can't be read, or
     /// `/dev/null` can't be opened.
-    Input,
+    ReadInput,
     /// A file or standard output can't be written.
-    Output,
+    WriteOutput,
 }
 
 impl Fault {
@@ -90,7 +91,7 @@ impl Fault {
             Fault::Exhausted { .. } => Status::Exhausted,
             Fault::OutOfMemory | Fault::OutOfMemoryBurnt { .. } => Status::Memory,
             Fault::Partial { .. } => Status::Negative,
-            Fault::Input | Fault::Output => Status::Stream,
+            Fault::ReadInput | Fault::WriteOutput => Status::Stream,
         }
     }
 }
@@ -123,8 +124,8 @@ impl fmt::Display for Fault {
                 write!(f, "{}", BatchFault::OutOfMemory { burnt: count })
             }
             Fault::Partial { signed, asked } => { write!(f, "partial: {signed} of {asked} signed") }
-            Fault::Input => write!(f, "{}", JobsFault::Read),
-            Fault::Output => write!(f, "{WriteFault}"),
+            Fault::ReadInput => write!(f, "{}", JobsFault::Read),
+            Fault::WriteOutput => write!(f, "{WriteFault}"),
         }
     }
 }
@@ -155,8 +156,6 @@ impl From<LevelsTextFault> for Fault {
 }
 
 impl From<OutOfMemory> for Fault {
-    ghost use Rattle.lms_commands.specs.declared.fault.Fault.TheVariants.{OutOfMemory as FaultOfMemory};
-
     ghost from_gives = { λ _ fault. fault ≡ FaultOfMemory };
 
     fn from(_: OutOfMemory) -> Self {
@@ -169,19 +168,17 @@ impl From<WorldFault> for Fault {
 
     fn from(fault: WorldFault) -> Self {
         match fault {
-            WorldFault::Device => Fault::Input,
+            WorldFault::Device => Fault::ReadInput,
             WorldFault::OutOfMemory => Fault::OutOfMemory,
         }
     }
 }
 
 impl From<WriteFault> for Fault {
-    ghost use Rattle.lms_commands.specs.declared.fault.Fault.TheVariants.{Output};
-
-    ghost from_gives = { λ _ fault. fault ≡ Output };
+    ghost from_gives = { λ _ fault. fault ≡ WriteOutput };
 
     fn from(_: WriteFault) -> Self {
-        Fault::Output
+        Fault::WriteOutput
     }
 }
 
@@ -198,13 +195,11 @@ impl From<OpenFault> for Fault {
 }
 
 impl From<JobsFault> for Fault {
-    ghost use Rattle.lms_commands.specs.Faults.{of_jobs};
-
     ghost from_gives = { λ jobs_fault fault. fault ≡ of_jobs jobs_fault };
 
     fn from(fault: JobsFault) -> Self {
         match fault {
-            JobsFault::Read => Fault::Input,
+            JobsFault::Read => Fault::ReadInput,
             JobsFault::BadJob { line } => Fault::BadJob { line },
             JobsFault::TooManyJobs => Fault::TooManyJobs,
             JobsFault::OutOfMemory => Fault::OutOfMemory,
@@ -213,8 +208,6 @@ impl From<JobsFault> for Fault {
 }
 
 impl From<BatchFault> for Fault {
-    ghost use Rattle.lms_commands.specs.Faults.{of_batch};
-
     ghost from_gives = { λ batch_fault fault. fault ≡ of_batch batch_fault };
 
     fn from(fault: BatchFault) -> Self {
@@ -227,15 +220,13 @@ impl From<BatchFault> for Fault {
 }
 
 impl From<LinesFault> for Fault {
-    ghost use Rattle.lms_commands.specs.Faults.{of_lines};
-
     ghost from_gives = { λ lines_fault fault. fault ≡ of_lines lines_fault };
 
     fn from(fault: LinesFault) -> Self {
         match fault {
             LinesFault::Jobs(fault) => Fault::from(fault),
             LinesFault::Batch(fault) => Fault::from(fault),
-            LinesFault::Write => Fault::Output,
+            LinesFault::Write => Fault::WriteOutput,
         }
     }
 }
@@ -252,9 +243,8 @@ impl From<BookFault> for Fault {
     }
 }
 
-/// Prints the fault's line, `error: ` and its text.
-///
-/// Where the writer fails, a beginning of it was written.
+/// Prints the fault's line, `error: ` and its text. Where the writer fails, a beginning of it was
+/// written.
 pub fn print_fault<W: Write>(errors: &mut W, fault: Fault) -> Result<(), WriteFault>
     ensures printed { OnOk result
         (Appends (W.contents errors.old) (W.contents errors.new) (fault_line fault)) }

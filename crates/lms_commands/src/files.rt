@@ -15,7 +15,7 @@ use lms_params::OutOfMemory;
 use lms_world::{Contents, Taker, World, WorldFault};
 use std::alloc::Global;
 
-/// The bytes of a file. `Input` where it can't be read, `OutOfMemory` where memory for it was
+/// The bytes of a file. `ReadInput` where it can't be read, `OutOfMemory` where memory for it was
 /// refused.
 pub(crate) fn read_file<W: World>(
     alloc: Global,
@@ -25,8 +25,7 @@ pub(crate) fn read_file<W: World>(
 ) -> Result<Vec<u8>, Fault>
     ensures logged { W.events log.new ≡ Read name.now (bytes_of result) ∷ W.events log.old }
     ensures given { IfOk result (λ bytes. (W.known world.now).may_give name.now bytes.items) }
-    ensures refused { IfErr result
-        (MayBeRefusedAt (W.known world.now) name.now) }
+    ensures refused { IfErr result (MayBeRefusedAt (W.known world.now) name.now) }
 {
     Ok(world.read(alloc, log, name)?)
 }
@@ -44,8 +43,7 @@ pub(crate) fn open_file<W: World>(
         → W.Contents.may_give contents bytes → (W.known world.now).may_give name.now bytes) }
     ensures refuses { IfOk result (λ contents. (fault : WorldFault)
         → W.Contents.may_refuse contents fault → (W.known world.now).may_refuse name.now fault) }
-    ensures refused { IfErr result
-        (MayBeRefusedAt (W.known world.now) name.now) }
+    ensures refused { IfErr result (MayBeRefusedAt (W.known world.now) name.now) }
 {
     Ok(world.open(alloc, log, name)?)
 }
@@ -60,7 +58,7 @@ pub(crate) fn hand_over<C: Contents, T: Taker>(contents: C, taker: &mut T) -> Re
     Ok(contents.hand_over(taker)?)
 }
 
-/// Makes these the bytes of a file, and changes no other. `Output` where it can't be written,
+/// Makes these the bytes of a file, and changes no other. `WriteOutput` where it can't be written,
 /// `OutOfMemory` where memory for that was refused.
 pub(crate) fn write_file<W: World>(
     world: &mut W,
@@ -71,14 +69,15 @@ pub(crate) fn write_file<W: World>(
     ensures logged { W.events log.new
         ≡ Written name.now bytes.now (is_done result) ∷ W.events log.old }
     ensures given { OnOk result ((W.known world.new).may_give name.now bytes.now) }
-    ensures failed { IfErr result (λ fault. (fault ≡ Fault.Output) ⊎ (fault ≡ Fault.OutOfMemory)) }
+    ensures failed { IfErr result (λ fault.
+        (fault ≡ Fault.WriteOutput) ⊎ (fault ≡ Fault.OutOfMemory)) }
     ensures others { SameFilesBut name.now (W.known world.old) (W.known world.new) }
     ensures states { (state : List ℕ) → Stays (W.known world.old) (W.known world.new) state }
     ensures nodes { SameNodes (W.known world.old) (W.known world.new) }
 {
     match world.write(log, name, bytes) {
         Ok(()) => Ok(()),
-        Err(WorldFault::Device) => Err(Fault::Output),
+        Err(WorldFault::Device) => Err(Fault::WriteOutput),
         Err(WorldFault::OutOfMemory) => Err(Fault::OutOfMemory),
     }
 }
@@ -93,9 +92,8 @@ pub(crate) fn lock_state<W: World>(
 ) -> Result<W::Lock, Fault>
     ensures logged { W.events log.new ≡ Locked state.now (is_done result) ∷ W.events log.old }
     ensures locked { IfOk result (λ lock. W.is_lock_of lock state.now) }
-    ensures refused { IfErr result (λ fault.
-        ((fault ≡ Fault.StateInUse) × (W.known world.now).may_be_in_use state.now)
-        ⊎ (fault ≡ Fault.OutOfMemory)) }
+    ensures refused { IfErr result (λ fault. ((fault ≡ Fault.StateInUse)
+        × (W.known world.now).may_be_in_use state.now) ⊎ (fault ≡ Fault.OutOfMemory)) }
 {
     match world.lock(alloc, log, state) {
         Ok(Some(lock)) => Ok(lock),
@@ -119,9 +117,8 @@ pub(crate) fn open_state<W: World>(
         → MayBeImageOf (W.known world.old) state book.key book.base book.openings book.burnt) }
     ensures counted { IfOk result (λ book. HasImage book.key book.base book.openings book.burnt) }
     ensures fresh { IfOk result (λ book. book.history ≡ []) }
-    ensures taken { IfOk result (λ book.
-        (state : List ℕ) → W.is_lock_of lock.now state → (text : List ℕ)
-        → MayLeave book.store text ↔ (W.known world.old).may_hold state text) }
+    ensures taken { IfOk result (λ book. (state : List ℕ) → W.is_lock_of lock.now state
+        → (text : List ℕ) → MayLeave book.store text ↔ (W.known world.old).may_hold state text) }
     ensures failed { IfErr result (λ fault. (state : List ℕ) → W.is_lock_of lock.now state
         → FailsToOpen (W.known world.old) state fault) }
     ensures stays { IfErr result (λ _. (state : List ℕ) → W.is_lock_of lock.now state

@@ -2,7 +2,7 @@
 ghost use Rattle.std.specs.Prelude.{Some, ◌≡◌, ◌≢◌, ◌++◌, ℕ, List, IfErr, IfOk, OnOk};
 ghost use Rattle.lms_image.specs.Image.{HasImage};
 ghost use Rattle.lms_world.specs.Known.{SameFiles, SameNodes, Stays};
-ghost use Rattle.lms_commands.specs.Logs.{KeyState, LeavesState, LogsUnopened};
+ghost use Rattle.lms_commands.specs.Logs.{KeyState, LeavesState, LogsUnopened, state_in};
 ghost use Rattle.lms_commands.specs.ReadingLogs.{LogsInfo, LogsInfoFailed, LogsUndescribed, ReadsToPrint, info_of};
 ghost use Rattle.lms_commands.specs.Signing.{Describes, FailsToDescribe, FailsToOpen, MayBeImageOf};
 
@@ -18,8 +18,8 @@ use std::io::Write;
 /// are and how many are left, how many openings stored something, and how many indices are burnt.
 ///
 /// `StateInUse` where the state's lock is not available, `ReadState` where the state can't be read,
-/// `BadState` where it is no image, `OutOfMemory` where memory is refused, `Output` where a line
-/// can't be printed. The state stays as it was.
+/// `BadState` where it is no image, `OutOfMemory` where memory is refused, `WriteOutput` where a
+/// line can't be printed. The state stays as it was.
 pub fn describe<W: World, O: Write>(
     alloc: Global,
     world: &mut W,
@@ -29,16 +29,15 @@ pub fn describe<W: World, O: Write>(
 ) -> Result<(), Fault>
     ensures logged { OnOk result
         (LogsInfo state.now output.old output.new (W.events log.old) (W.events log.new)) }
-    ensures log_failed { IfErr result (λ fault.
-        LogsInfoFailed state.now output.old output.new fault (W.events log.old)
-        (W.events log.new)) }
+    ensures log_failed { IfErr result (λ fault. LogsInfoFailed state.now output.old output.new fault
+        (W.events log.old) (W.events log.new)) }
     ensures described { OnOk result (Describes (W.known world.old) state.now
         (Some output.old) (Some output.new)) }
     ensures failed { IfErr result (FailsToDescribe (W.known world.old) state.now) }
     ensures stays { Stays (W.known world.old) (W.known world.new) state.now }
     ensures files { SameFiles (W.known world.old) (W.known world.new) }
     ensures nodes { SameNodes (W.known world.old) (W.known world.new) }
-    ensures silent { IfErr result (λ fault. fault ≢ Fault.Output → output.new ≡ output.old) }
+    ensures silent { IfErr result (λ fault. fault ≢ Fault.WriteOutput → output.new ≡ output.old) }
 {
     let lock = lock_state(alloc, world, log, state)?;
     let described = describe_locked(alloc, world, log, &lock, output);
@@ -54,22 +53,19 @@ fn describe_locked<W: World, O: Write>(
     lock: &W::Lock,
     output: &mut Printer<O>,
 ) -> Result<(), Fault>
-    ensures logged { OnOk result
-        ((read : KeyState) × ReadsToPrint read output.old (W.events log.old) (W.events log.new)
-        × (output.new ≡ output.old ++ info_of read)) }
+    ensures logged { OnOk result ((read : KeyState) × ReadsToPrint read output.old
+        (W.events log.old) (W.events log.new) × (output.new ≡ output.old ++ info_of read)) }
     ensures log_failed { IfErr result (λ fault.
         LogsUndescribed output.old output.new fault (W.events log.old) (W.events log.new)) }
-    ensures described { OnOk result
-        ((state : List ℕ) → W.is_lock_of lock.now state → Describes (W.known world.old) state
-        (Some output.old) (Some output.new)) }
-    ensures failed { IfErr result (λ fault.
-        (state : List ℕ) → W.is_lock_of lock.now state
-        → FailsToDescribe (W.known world.old) state fault) }
+    ensures described { OnOk result ((state : List ℕ) → W.is_lock_of lock.now state
+        → Describes (W.known world.old) state (Some output.old) (Some output.new)) }
+    ensures failed { IfErr result (λ fault. (state : List ℕ)
+        → W.is_lock_of lock.now state → FailsToDescribe (W.known world.old) state fault) }
     ensures stays { (state : List ℕ) → W.is_lock_of lock.now state
         → Stays (W.known world.old) (W.known world.new) state }
     ensures files { SameFiles (W.known world.old) (W.known world.new) }
     ensures nodes { SameNodes (W.known world.old) (W.known world.new) }
-    ensures silent { IfErr result (λ fault. fault ≢ Fault.Output → output.new ≡ output.old) }
+    ensures silent { IfErr result (λ fault. fault ≢ Fault.WriteOutput → output.new ≡ output.old) }
 {
     let image = read_state(alloc, world, log, lock)?;
     world.begin_printing(log, output);
@@ -84,15 +80,7 @@ fn read_state<W: World>(
     lock: &W::Lock,
 ) -> Result<Image, Fault>
     ensures logged { IfOk result (λ image.
-        LeavesState
-        (record {
-          key = image.key;
-          index = image.counter;
-          openings = image.openings;
-          burnt =
-              image.burnt;
-        })
-        (W.events log.old) (W.events log.new)) }
+        LeavesState (state_in image) (W.events log.old) (W.events log.new)) }
     ensures unopened { IfErr result (λ fault.
         LogsUnopened fault (W.events log.old) (W.events log.new)) }
     ensures opened { IfOk result (λ image. (state : List ℕ) → W.is_lock_of lock.now state

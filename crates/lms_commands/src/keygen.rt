@@ -5,7 +5,8 @@ ghost use Rattle.lms_image.specs.Image.{image_of};
 ghost use Rattle.lms_book.specs.Stops.{WritesStore};
 ghost use Rattle.lms_commands.specs.Keygen.{FailsToMakeKey, FailsToStore, IsKeyOf, IsNoKey, IsTaken, KeepsWhereStored, MakesKey};
 ghost use Rattle.lms_texts.specs.Descriptions.{number_line};
-ghost use Rattle.lms_commands.specs.KeygenLogs.{IsUnpublished, capacity_line, LogsKeygen, LogsKeygenFailed, LogsUnmade, LogsUnstored, PublishesKey, StoresKey};
+ghost use Rattle.lms_commands.specs.Logs.{IsUnpublished};
+ghost use Rattle.lms_commands.specs.KeygenLogs.{capacity_line, LogsKeygen, LogsKeygenFailed, LogsUnmade, LogsUnstored, PublishesKey, StoresKey};
 ghost use Rattle.lms_world.specs.Events.{Printing, Written, after};
 ghost use Rattle.lms_world.specs.Known.{SameFiles, SameFilesBut, SameNodes, Stays};
 
@@ -54,15 +55,14 @@ fn key_of(levels: Levels, seed: [u8; HASH_LEN], id: [u8; 16]) -> HssKey
 /// capacity.
 ///
 /// In this order: `StateInUse` where the state's lock is not available, `StateExists` where the
-/// state is there, `WriteState` where it may not have been stored, and `Output` where the public
-/// key can't be written or the capacity not printed: the state is the new key's then. `OutOfMemory`
-/// may come before the state is written, which stays as it was, or while the public key is written,
-/// and then the state is the new key's. No file is written before the state is stored, and the lock
-/// is held to the end.
+/// state is there, `WriteState` where it may not have been stored, and `WriteOutput` where the
+/// public key can't be written or the capacity not printed: the state is the new key's then.
+/// `OutOfMemory` may come before the state is written, which stays as it was, or while the public
+/// key is written, and then the state is the new key's. No file is written before the state is
+/// stored, and the lock is held to the end.
 ///
 /// The top tree's nodes are kept beside the state, once that is stored, for the first signature.
 /// Where that can't be done, nothing is reported.
-///
 /// `progress` gets how many leaves of the top tree are computed.
 pub fn make_key<W: World, O: Write>(
     rt: &(impl Threads + Sync),
@@ -75,18 +75,15 @@ pub fn make_key<W: World, O: Write>(
     output: &mut Printer<O>,
     progress: &impl Progress,
 ) -> Result<(), Fault>
-    ensures logged { OnOk result
-        (LogsKeygen key state.now public.now output.old output.new (W.events log.old)
-        (W.events log.new)) }
-    ensures log_failed { IfErr result (λ fault.
-        LogsKeygenFailed key state.now public.now output.old output.new fault
+    ensures logged { OnOk result (LogsKeygen key state.now public.now output.old output.new
         (W.events log.old) (W.events log.new)) }
+    ensures log_failed { IfErr result (λ fault. LogsKeygenFailed key
+        state.now public.now output.old output.new fault (W.events log.old) (W.events log.new)) }
     ensures made { OnOk result (MakesKey (W.known world.old)
-        (W.known world.new) key state.now public.now
-        (Some output.old) (Some output.new)) }
+        (W.known world.new) key state.now public.now (Some output.old) (Some output.new)) }
     ensures failed { IfErr result
         (FailsToMakeKey (W.known world.old) (W.known world.new) key state.now) }
-    ensures silent { IfErr result (λ fault. fault ≢ Fault.Output → output.new ≡ output.old) }
+    ensures silent { IfErr result (λ fault. fault ≢ Fault.WriteOutput → output.new ≡ output.old) }
     ensures files { SameFilesBut public.now (W.known world.old) (W.known world.new) }
     ensures nodes { KeepsWhereStored (W.known world.old) (W.known world.new) key state.now }
 {
@@ -108,19 +105,16 @@ fn make_locked<W: World, O: Write>(
     output: &mut Printer<O>,
     progress: &impl Progress,
 ) -> Result<(), Fault>
-    ensures logged { OnOk result
-        (PublishesKey key public.now output.old (W.events log.old) (W.events log.new)
-        × (output.new ≡ output.old ++ capacity_line key)) }
-    ensures log_failed { IfErr result (λ fault.
-        LogsUnmade key public.now output.old output.new fault (W.events log.old)
-        (W.events log.new)) }
-    ensures made { OnOk result
-        ((state : List ℕ) → W.is_lock_of lock.now state → MakesKey (W.known world.old)
-        (W.known world.new) key state public.now
+    ensures logged { OnOk result (PublishesKey key public.now output.old
+        (W.events log.old) (W.events log.new) × (output.new ≡ output.old ++ capacity_line key)) }
+    ensures log_failed { IfErr result (λ fault. LogsUnmade
+        key public.now output.old output.new fault (W.events log.old) (W.events log.new)) }
+    ensures made { OnOk result ((state : List ℕ) → W.is_lock_of lock.now state
+        → MakesKey (W.known world.old) (W.known world.new) key state public.now
         (Some output.old) (Some output.new)) }
     ensures failed { IfErr result (λ fault. (state : List ℕ) → W.is_lock_of lock.now state
         → FailsToMakeKey (W.known world.old) (W.known world.new) key state fault) }
-    ensures silent { IfErr result (λ fault. fault ≢ Fault.Output → output.new ≡ output.old) }
+    ensures silent { IfErr result (λ fault. fault ≢ Fault.WriteOutput → output.new ≡ output.old) }
     ensures files { SameFilesBut public.now (W.known world.old) (W.known world.new) }
     ensures nodes { (state : List ℕ) → W.is_lock_of lock.now state
         → KeepsWhereStored (W.known world.old) (W.known world.new) key state }
@@ -135,7 +129,7 @@ fn make_locked<W: World, O: Write>(
 }
 
 /// Writes a public key to a file, and then prints its capacity. `OutOfMemory` where memory for the
-/// file was refused, `Output` where it can't be written, or the capacity not printed.
+/// file was refused, `WriteOutput` where it can't be written, or the capacity not printed.
 fn publish<W: World, O: Write>(
     world: &mut W,
     log: &mut W::Log,
@@ -144,17 +138,15 @@ fn publish<W: World, O: Write>(
     capacity: u64,
     output: &mut Printer<O>,
 ) -> Result<(), Fault>
-    ensures logged { OnOk result (W.events log.new
-        ≡ after (Written name.now public_key.now true ∷ Printing output.old ∷ [])
-        (W.events log.old)) }
-    ensures failed { IfErr result (λ fault.
-        IsUnpublished name.now public_key.now
-        (number_line (codes "capacity") capacity) output.old output.new fault
-        (W.events log.old) (W.events log.new)) }
+    ensures logged { OnOk result (W.events log.new ≡ after
+        (Written name.now public_key.now true ∷ Printing output.old ∷ []) (W.events log.old)) }
+    ensures failed { IfErr result
+        (λ fault. IsUnpublished name.now public_key.now (number_line (codes "capacity") capacity)
+        output.old output.new fault (W.events log.old) (W.events log.new)) }
     ensures given { OnOk result ((W.known world.new).may_give name.now public_key.now) }
     ensures printed { OnOk result (Appends (Some output.old) (Some output.new)
         (number_line (codes "capacity") capacity)) }
-    ensures silent { IfErr result (λ fault. fault ≢ Fault.Output → output.new ≡ output.old) }
+    ensures silent { IfErr result (λ fault. fault ≢ Fault.WriteOutput → output.new ≡ output.old) }
     ensures others { SameFilesBut name.now (W.known world.old) (W.known world.new) }
     ensures states { (state : List ℕ) → Stays (W.known world.old) (W.known world.new) state }
     ensures nodes { SameNodes (W.known world.old) (W.known world.new) }

@@ -1,5 +1,5 @@
 //! `sign`: a message signed with the next index of a key's state.
-ghost use Rattle.std.specs.Prelude.{[], ◌∷◌, ◌++◌, ◌≡◌, ◌≢◌, ◌⊎◌, ◌+◌, ℕ, List, ◌<◌, IfErr, IfOk, IfSome, None, Ok, OnOk, Some, codes, length, option_map, false, true};
+ghost use Rattle.std.specs.Prelude.{[], ◌∷◌, ◌++◌, ◌≡◌, ◌≢◌, ◌+◌, ℕ, List, ◌<◌, IfErr, IfOk, IfSome, None, Ok, OnOk, Some, codes, length, option_map, true};
 ghost use Rattle.std.specs.Io.KnownBytes.{Appends};
 ghost use Rattle.hex.specs.Hex.{decode_of};
 ghost use Rattle.lms_spec.specs.HashLength.{hash_length};
@@ -11,9 +11,8 @@ ghost use Rattle.lms_book.specs.States.{IsSameOpening};
 ghost use Rattle.lms_commands.specs.Faults.{of_signing};
 ghost use Rattle.lms_texts.specs.Descriptions.{number_line};
 ghost use Rattle.lms_commands.specs.Keygen.{IsHexOf};
-ghost use Rattle.lms_lines.specs.AnswerLines.{AppendsFront};
 ghost use Rattle.lms_world.specs.Events.{Printing, Written, after};
-ghost use Rattle.lms_commands.specs.Logs.{LogsKeeping};
+ghost use Rattle.lms_commands.specs.Logs.{IsUnpublished, LogsKeeping};
 ghost use Rattle.lms_commands.specs.SignLogs.{index_line, DeliversSignature, LogsNotSigned, LogsSign, LogsSignFailed, LogsSigned, LogsUndelivered};
 ghost use Rattle.lms_world.specs.Known.{SameFiles, SameFilesBut, SameNodes, Stays};
 ghost use Rattle.lms_commands.specs.Keeping.{KeepsOnly};
@@ -65,17 +64,16 @@ struct Signed {
 /// Signs the message in a file with the next index of a state's key, under a randomizer of 64
 /// hexadecimal digits, writes the signature to a file and prints the index.
 ///
-/// Faults, in this order: `BadRandom`; `Input` where the message can't be read; `StateInUse` where
-/// the state's lock is not available; `ReadState`; `BadState`; `Exhausted`; `WriteStateBurnt` where
-/// the use of the index may not have been stored; `OutOfMemoryBurnt` and `Output` once it was.
-/// `OutOfMemory` may come anywhere before `WriteStateBurnt`. At the last two the index is used;
-/// after `WriteStateBurnt` the state may still be the older one, which gives the index again. No
-/// file is written before the use of the index was stored.
+/// Faults, in this order: `BadRandom`; `ReadInput` where the message can't be read; `StateInUse`
+/// where the state's lock is not available; `ReadState`; `BadState`; `Exhausted`; `WriteStateBurnt`
+/// where the use of the index may not have been stored; `OutOfMemoryBurnt` and `WriteOutput` once
+/// it was. `OutOfMemory` may come anywhere before `WriteStateBurnt`. At the last two the index is
+/// used; after `WriteStateBurnt` the state may still be the older one, which gives the index again.
+/// No file is written before the use of the index was stored.
 ///
 /// What is kept of the key's trees beside the state is read before the state is opened, and where
 /// the signature needed other nodes it is kept anew once the use of the index was stored, before
 /// the file is written. Where either can't be done, nothing is reported.
-///
 /// `progress` gets how many leaves of the trees that the signature needs are computed.
 pub fn sign_file<W: World, O: Write>(
     rt: &(impl Threads + Sync),
@@ -89,18 +87,15 @@ pub fn sign_file<W: World, O: Write>(
     output: &mut Printer<O>,
     progress: &impl Progress,
 ) -> Result<(), Fault>
-    ensures logged { OnOk result
-        (LogsSign random.now message.now state.now out.now output.old output.new
-        (W.events log.old) (W.events log.new)) }
-    ensures log_failed { IfErr result (λ fault.
-        LogsSignFailed random.now message.now state.now out.now output.old output.new fault
-        (W.events log.old) (W.events log.new)) }
-    ensures signed { OnOk result (SignsFile (W.known world.old)
-        (W.known world.new) state.now random.now message.now out.now
-        (Some output.old) (Some output.new)) }
+    ensures logged { OnOk result (LogsSign random.now
+        message.now state.now out.now output.old output.new (W.events log.old) (W.events log.new)) }
+    ensures log_failed { IfErr result (λ fault. LogsSignFailed random.now message.now
+        state.now out.now output.old output.new fault (W.events log.old) (W.events log.new)) }
+    ensures signed { OnOk result (SignsFile (W.known world.old) (W.known world.new)
+        state.now random.now message.now out.now (Some output.old) (Some output.new)) }
     ensures failed { IfErr result (FailsToSign (W.known world.old)
         (W.known world.new) state.now random.now message.now) }
-    ensures silent { IfErr result (λ fault. fault ≢ Fault.Output → output.new ≡ output.old) }
+    ensures silent { IfErr result (λ fault. fault ≢ Fault.WriteOutput → output.new ≡ output.old) }
     ensures files { SameFilesBut out.now (W.known world.old) (W.known world.new) }
     ensures nodes { KeepsWhereUsed (W.known world.old) (W.known world.new) state.now }
 {
@@ -128,21 +123,18 @@ fn sign_locked<W: World, O: Write>(
     output: &mut Printer<O>,
     progress: &impl Progress,
 ) -> Result<(), Fault>
-    ensures logged { OnOk result
-        ((delivers : DeliversSignature job.now.c job.now.message.items out.now output.old
-        (W.events log.old) (W.events log.new))
+    ensures logged { OnOk result ((delivers : DeliversSignature
+        job.now.c job.now.message.items out.now output.old (W.events log.old) (W.events log.new))
         × (output.new ≡ output.old ++ index_line delivers.writes)) }
-    ensures log_failed { IfErr result (λ fault.
-        LogsUndelivered job.now.c job.now.message.items out.now output.old output.new fault
-        (W.events log.old) (W.events log.new)) }
-    ensures signed { OnOk result ((state : List ℕ) → W.is_lock_of lock.now state
-        → SignsUnder (W.known world.old)
-        (W.known world.new) state job.now.c job.now.message.items out.now
-        (Some output.old) (Some output.new)) }
+    ensures log_failed { IfErr result (λ fault. LogsUndelivered job.now.c job.now.message.items
+        out.now output.old output.new fault (W.events log.old) (W.events log.new)) }
+    ensures signed { OnOk result ((state : List ℕ)
+        → W.is_lock_of lock.now state → SignsUnder (W.known world.old) (W.known world.new)
+        state job.now.c job.now.message.items out.now (Some output.old) (Some output.new)) }
     ensures failed { IfErr result (λ fault. (state : List ℕ) → W.is_lock_of lock.now state
         → FailsUnder (W.known world.old)
         (W.known world.new) state job.now.c job.now.message.items fault) }
-    ensures silent { IfErr result (λ fault. fault ≢ Fault.Output → output.new ≡ output.old) }
+    ensures silent { IfErr result (λ fault. fault ≢ Fault.WriteOutput → output.new ≡ output.old) }
     ensures files { SameFilesBut out.now (W.known world.old) (W.known world.new) }
     ensures nodes { (state : List ℕ) → W.is_lock_of lock.now state
         → KeepsWhereUsed (W.known world.old) (W.known world.new) state }
@@ -161,8 +153,8 @@ fn randomizer_from(text: &str) -> Result<[u8; HASH_LEN], Fault>
     Ok(read_bytes(text).ok_or(Fault::BadRandom)?)
 }
 
-/// Writes a signature to a file, and then prints its index. `Output` where either can't be done,
-/// also where memory for the file was refused, since the index is used.
+/// Writes a signature to a file, and then prints its index. `WriteOutput` where either can't be
+/// done, also where memory for the file was refused, since the index is used.
 fn deliver<W: World, O: Write>(
     world: &mut W,
     log: &mut W::Log,
@@ -170,18 +162,11 @@ fn deliver<W: World, O: Write>(
     signed: &Signed,
     output: &mut Printer<O>,
 ) -> Result<(), Fault>
-    ensures logged { OnOk result (W.events log.new
-        ≡ after (Written out.now signed.now.signature.items true ∷ Printing output.old ∷ [])
-        (W.events log.old)) }
-    ensures failed { IfErr result (λ fault. (fault ≡ Fault.Output)
-        × (((W.events log.new
-        ≡ after (Written out.now signed.now.signature.items false ∷ []) (W.events log.old))
-        × (output.new ≡ output.old))
-        ⊎ ((W.events log.new
-        ≡ after (Written out.now signed.now.signature.items true ∷ Printing output.old ∷ [])
-        (W.events log.old))
-        × AppendsFront (Some output.old) (Some output.new)
-        (number_line (codes "index") signed.now.index)))) }
+    ensures logged { OnOk result (W.events log.new ≡ after (Written
+        out.now signed.now.signature.items true ∷ Printing output.old ∷ []) (W.events log.old)) }
+    ensures failed { IfErr result (λ fault. (fault ≡ Fault.WriteOutput) × IsUnpublished
+        out.now signed.now.signature.items (number_line (codes "index") signed.now.index)
+        output.old output.new Fault.WriteOutput (W.events log.old) (W.events log.new)) }
     ensures given { OnOk result ((W.known world.new).may_give out.now signed.now.signature.items) }
     ensures printed { OnOk result (Appends (Some output.old) (Some output.new)
         (number_line (codes "index") signed.now.index)) }
@@ -194,7 +179,7 @@ fn deliver<W: World, O: Write>(
             world.begin_printing(log, output);
             Ok(print_index(output, signed.index)?)
         }
-        Err(_) => Err(Fault::Output),
+        Err(_) => Err(Fault::WriteOutput),
     }
 }
 
@@ -272,10 +257,8 @@ fn sign_next<S: StateStore>(
     ensures reserved { IfOk result (λ _. GivesOne book.old book.new) }
     ensures failed { IfErr result (λ fault. SignsNothing book.old fault book.new) }
     ensures signature { IfOk result (λ signed.
-        IsSignedByText
-        (option_map (λ text. text.now) kept.entry) book.old.key signed.index job.now.c
-        job.now.message.items
-        signed.signature.items signed.trees) }
+        IsSignedByText (option_map (λ text. text.now) kept.entry) book.old.key signed.index
+        job.now.c job.now.message.items signed.signature.items signed.trees) }
 {
     let lease = book.reserve(1).map_err(|fault| NextFault::Book(fault))?;
     let signed = sign_lease(rt, alloc, lease, job, kept, progress);
@@ -299,10 +282,8 @@ fn sign_lease(
     requires { lease.len ≡ 1 }
     ensures index { IfOk result (λ signed. signed.index ≡ lease.start) }
     ensures signature { IfOk result (λ signed.
-        IsSignedByText
-        (option_map (λ text. text.now) kept.entry) lease.key signed.index job.now.c
-        job.now.message.items
-        signed.signature.items signed.trees) }
+        IsSignedByText (option_map (λ text. text.now) kept.entry) lease.key signed.index
+        job.now.c job.now.message.items signed.signature.items signed.trees) }
 {
     // for the proof: the length's clause bounds the index.
     let _len = lease.len();

@@ -30,9 +30,7 @@ impl Verdict {
     }
 }
 
-/// Prints the verdict's line, `valid` or `invalid`.
-///
-/// On a fault, a beginning of it was printed.
+/// Prints the verdict's line, `valid` or `invalid`. On a fault, a beginning of it was printed.
 pub(crate) fn print_verdict<W: Write>(output: &mut W, verdict: Verdict) -> Result<(), WriteFault>
     ensures printed { OnOk result
         (Appends (W.contents output.old) (W.contents output.new) (line_of verdict)) }

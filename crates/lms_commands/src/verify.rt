@@ -18,8 +18,8 @@ use std::io::Write;
 /// Reads a public key, opens a message and reads a signature, in this order, then reads the message
 /// piece by piece, as the world hands it over; prints the verdict on them and answers it.
 ///
-/// `Input` where a file can't be read, `OutOfMemory` where memory for it was refused, `Output`
-/// where the verdict can't be printed. Only at `Output` may a part of it have been printed.
+/// `ReadInput` where a file can't be read, `OutOfMemory` where memory for it was refused,
+/// `WriteOutput` where the verdict can't be printed, maybe after a beginning of it.
 pub fn verify_files<W: World, O: Write>(
     alloc: Global,
     world: &W,
@@ -29,18 +29,16 @@ pub fn verify_files<W: World, O: Write>(
     signature: &str,
     output: &mut Printer<O>,
 ) -> Result<Verdict, Fault>
-    ensures logged { IfOk result (λ verdict.
-        LogsVerify public.now message.now signature.now verdict output.old output.new
-        (W.events log.old) (W.events log.new)) }
-    ensures log_failed { IfErr result (λ fault.
-        LogsVerifyFailed public.now message.now signature.now output.old output.new fault
-        (W.events log.old) (W.events log.new)) }
+    ensures logged { IfOk result (λ verdict. LogsVerify public.now message.now
+        signature.now verdict output.old output.new (W.events log.old) (W.events log.new)) }
+    ensures log_failed { IfErr result (λ fault. LogsVerifyFailed public.now message.now
+        signature.now output.old output.new fault (W.events log.old) (W.events log.new)) }
     ensures judged { IfOk result (Judges (W.known world.now) public.now message.now signature.now) }
     ensures printed { IfOk result (λ verdict.
         Appends (Some output.old) (Some output.new) (line_of verdict)) }
     ensures failed { IfErr result (FailsToJudge (W.known world.now)
         public.now message.now signature.now) }
-    ensures silent { IfErr result (λ fault. fault ≢ Fault.Output → output.new ≡ output.old) }
+    ensures silent { IfErr result (λ fault. fault ≢ Fault.WriteOutput → output.new ≡ output.old) }
 {
     let public = read_file(alloc, world, log, public)?;
     let message = open_file(alloc, world, log, message)?;
@@ -72,8 +70,7 @@ impl<'a> Judge<'a> {
 
     /// The verdict on all pieces.
     fn finish(self) -> Verdict
-        ensures { (public signature message : List ℕ)
-            → HasTaken self.entry public signature message
+        ensures { (public signature message : List ℕ) → HasTaken self.entry public signature message
             → IsRightFor result public message signature }
     {
         match self.verifier {
@@ -85,9 +82,8 @@ impl<'a> Judge<'a> {
 
 /// The verdict of a verifier.
 fn verdict_of(verifier: Verifier) -> Verdict
-    ensures { (public signature message : List ℕ)
-        → HasTakenByVerifier verifier.entry public signature message
-        → IsRightFor result public message signature }
+    ensures { (public signature message : List ℕ) → HasTakenByVerifier
+        verifier.entry public signature message → IsRightFor result public message signature }
 {
     if verifier.finish(ByEights) {
         Verdict::Valid

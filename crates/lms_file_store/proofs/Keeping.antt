@@ -5,7 +5,7 @@ use Rattle.std.proofs.lemmas.List.Elements.{All-cons, All-take, All-get_or, All-
 use Rattle.lms_book.specs.Stops.{Texts, IsAmong, or_else}
 use Rattle.lms_file_store.specs.FileStores.{FileWrite, Knows, Leaves, kept_of, last_certain, left_after, most_tried, texts_now, tried_since}
 
--- the texts tried since the certain one, and that one behind them; any where none is certain
+-- the texts tried since the certain one, and that one after them; any where none is certain
 abbrev pub left_of : Option (List ℕ) → List (List ℕ) → Texts
 left_of None tried = None
 left_of (Some certain) tried = Some (tried ++ certain ∷ [])

@@ -328,7 +328,7 @@ fn can_not_tell_of_it(
 }
 
 #[test]
-fn what_can_not_be_told_exists(rt: HostRuntime) -> Result<(), Fail> {
+fn what_can_not_be_looked_up_exists(rt: HostRuntime) -> Result<(), Fail> {
     empty_folder(&rt, "file_store_names")?;
     fs::create_dir(&rt, "file_store_names/folder")?;
     let name = "file_store_names/folder/state";

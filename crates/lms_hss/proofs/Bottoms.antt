@@ -7,9 +7,9 @@ use Rattle.lms_spec.specs.Hss.{most_levels}
 use Rattle.lms_spec.proofs.FirstNumber.{first-number-same, rest-same}
 use Rattle.lms_spec.proofs.Parts.{key-parts-same}
 use Rattle.lms_spec.proofs.Pieces.{same-front, same-rest}
-use Rattle.lms_tree.specs.Parts.{IsLmsPublicKey, HasSignaturesOf, HasParts}
-use Rattle.lms_tree.proofs.Acceptance.{key-of-accepted}
-use Rattle.lms_tree.specs.Heads.{lms_head}
+use Rattle.lms_verification.specs.Parts.{IsLmsPublicKey, HasSignaturesOf, HasParts}
+use Rattle.lms_verification.proofs.Acceptance.{key-of-accepted}
+use Rattle.lms_verification.specs.Heads.{lms_head}
 use Rattle.lms_hss.specs.SignedKeys.{IsFirstSignedKey}
 use Rattle.lms_hss.specs.Bottoms.{Reaches, IsBottom, IsMessageHead}
 
@@ -21,7 +21,7 @@ signature-length-one m n signer a b =
     (sym pa.parts ∙ pb.parts) in
     a.length_is ∙ (ap₂ lms_signature_length same.0 same.1 ∙ sym b.length_is)
 
--- a text that is cut has room for a signature and a key
+-- a text that is cut is at least as long as a signature and a key
 pub cut-long : (n : ℕ) (signer text signature key rest : List ℕ)
     → HasSignaturesOf n signer → IsFirstSignedKey signer text signature key rest → n + 56 ≤ length text
 cut-long n signer text signature key rest has cut =

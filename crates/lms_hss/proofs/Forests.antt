@@ -52,7 +52,7 @@ some-index key k start last n order from to =
     (n * size, omega arith, last_of, mul-div_cancel n some))
     (eq-or-lt_of_le {n = tree_number key start k} {m = n} from)
 
--- trees from that of an index on stand below trees from that of the index on
+-- trees from that of an index on are below trees from that of the index on
 pub above-from : (key : HssKey) (k g n : ℕ) → k < length key.levels → tree_number key g (k + 1) ≤ n
     → tree_number key g k ≤ n / 2 ^ (level_at key k).lms.h
 above-from key k g n there from =
@@ -79,7 +79,7 @@ top-is key start last level tree held order within found =
     (omega (arith, held.count, number-order key 0 start last order)) in
     (subst (IsSignedTree key start 0) (sym here) is).tree
 
--- the tree that stands below a leaf
+-- the tree below a leaf
 pub tree-below : (key : HssKey) (g k : ℕ) → tree_at key g (k + 1) ≡ child (tree_at key g k) (leaf_at key g k) (level_at key (k + 1))
 tree-below key g k =
     let next : suc k ≡ k + 1 = omega arith in

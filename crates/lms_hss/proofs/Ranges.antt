@@ -44,7 +44,7 @@ range-leaves key k start last number there order from to =
     let after : tree_number key start (k + 1) < (number + 1) * 2 ^ h = (div-lt_iff_lt-mul (pow_pos h)).0 (omega arith) in
     (before, omega arith, number-order key (k + 1) start last order, shr-near last start (height_of (drop (k + 1) key.levels)) order)
 
--- where an index's leaf stands in its level
+-- where an index's leaf is in its level
 pub leaf-place : (key : HssKey) (g k number : ℕ) → k < length key.levels → tree_number key g k ≡ number
     → number * 2 ^ (level_at key k).lms.h + leaf_at key g k ≡ tree_number key g (k + 1)
 leaf-place key g k number there e =

@@ -5,11 +5,11 @@ use Rattle.lms_spec.specs.Parameters.{OtsSet, LmsSet, lms_signature_length}
 use Rattle.lms_spec.specs.Tree.{LmsAccepts}
 use Rattle.lms_spec.specs.Hss.{AcceptsThrough}
 use Rattle.lms_spec.proofs.HierarchyParts.{through-parts, through-length}
-use Rattle.lms_tree.specs.Parts.{IsLmsPublicKey, HasSignaturesOf}
-use Rattle.lms_tree.proofs.Acceptance.{key-of-accepted}
+use Rattle.lms_verification.specs.Parts.{IsLmsPublicKey, HasSignaturesOf}
+use Rattle.lms_verification.proofs.Acceptance.{key-of-accepted}
 use Rattle.lms_hss.specs.SignedKeys.{IsFirstSignedKey}
 
--- a text that is accepted has room for a signature and a key
+-- a text that is accepted is at least as long as a signature and a key
 pub accepted-long : (count n : ℕ) (signer message text : List ℕ)
     → HasSignaturesOf n signer → AcceptsThrough (suc count) signer message text → n + 56 ≤ length text
 accepted-long count n signer message text has accepted =

@@ -3,8 +3,8 @@ use Rattle.std.specs.Prelude.{ℕ, zero, suc, ◌≡◌, ◌-◌, ◌≤◌, Lis
 use Rattle.lms_spec.specs.Bytes.{u32str}
 use Rattle.lms_spec.specs.Tree.{LmsAccepts}
 use Rattle.lms_spec.specs.Hss.{most_levels}
-use Rattle.lms_tree.specs.Heads.{lms_head}
-use Rattle.lms_tree.specs.Parts.{HasParts}
+use Rattle.lms_verification.specs.Heads.{lms_head}
+use Rattle.lms_verification.specs.Parts.{HasParts}
 use Rattle.lms_hss.specs.SignedKeys.{IsFirstSignedKey}
 
 -- the key and the signature below so many signed keys, each accepted by the key above it (6.2 and

@@ -1,4 +1,4 @@
--- The trees that a range of indices goes through, and what stands above them.
+-- The trees that a range of indices goes through, and what is above them.
 use Rattle.std.specs.Prelude.{ℕ, ◌≡◌, ◌+◌, ◌-◌, ◌^◌, ◌<◌, ◌≤◌, List, ◌++◌, length, map, slice_index_or}
 use Rattle.std.specs.List.{concat}
 use Rattle.lms_spec.specs.Bytes.{below, u32str}
@@ -26,7 +26,7 @@ pub record AreLeaves (h : ℕ) (leaves : Leaves) : Type 0 where
 abbrev pub signature_head : HssKey → ℕ → ℕ → List ℕ
 signature_head key g k = u32str (length key.levels - 1) ++ concat (map (signed_key key g) (below k))
 
--- the tree of level k that index g goes through, which serves the leaf there, with what stands
+-- the tree of level k that index g goes through, which serves the leaf there, with what is
 -- before its signatures
 pub record IsSignedTree (key : HssKey) (g k : ℕ) (signed_tree : SignedTree) : Type 0 where
   pub tree : tree_of signed_tree.tree.key ≡ tree_at key g k

@@ -1,7 +1,7 @@
 -- The first signed key of a signature's text.
 use Rattle.std.specs.Prelude.{ℕ, ◌≡◌, List, ◌++◌, length}
 use Rattle.lms_spec.specs.Parameters.{lms_public_key_length}
-use Rattle.lms_tree.specs.Parts.{HasSignaturesOf}
+use Rattle.lms_verification.specs.Parts.{HasSignaturesOf}
 
 -- the text begins with as many bytes as the signer's signatures have, and then as many as a public
 -- key has (6.2)

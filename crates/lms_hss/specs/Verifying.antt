@@ -2,7 +2,7 @@
 use Rattle.std.specs.Prelude.{◌↔◌, ℕ, List}
 use Rattle.lms_spec.specs.Tree.{LmsAccepts}
 use Rattle.lms_spec.specs.Hss.{HssAccepts}
-use Rattle.lms_tree.specs.Verifying.{HasTaken as HasTakenByTree}
+use Rattle.lms_verification.specs.Verifying.{HasTaken as HasTakenByTree}
 use Rattle.lms_hss.specs.Bottoms.{IsBottom}
 use Rattle.lms_hss.specs.declared.verification.Verifier.{Verifier}
 

@@ -25,6 +25,5 @@ pub use crate::levels::{Levels, MOST_LEVELS};
 pub use crate::text::LevelsText;
 pub use crate::verification::{Verifier, verify, verify_with};
 pub use lms_params::{LmsType, OtsType, OutOfMemory};
-pub use lms_tree::{
-    ByEights, ChainEnds, LMS_KEY_LEN, MESSAGE_HEAD_LEN, OneByOne, Progress, Unwatched,
-};
+pub use lms_tree::{LMS_KEY_LEN, Progress, Unwatched};
+pub use lms_verification::{ByEights, ChainEnds, MESSAGE_HEAD_LEN, OneByOne};

@@ -117,7 +117,7 @@ impl SignedTree {
     fn sign_key_into(&self, q: u32, c: &[u8; HASH_LEN], public: &[u8; LMS_KEY_LEN], out: &mut [u8])
         requires from { self.now.tree.first ≤ q }
         requires to { q ≤ self.now.tree.last }
-        requires room { length out.old
+        requires long { length out.old
             ≡ length self.now.head.items + signature_length_under self.now.tree.key
             + lms_public_key_length }
         ensures { out.new ≡ self.now.head.items
@@ -132,7 +132,7 @@ impl SignedTree {
     fn sign_into(&self, q: u32, c: &[u8; HASH_LEN], msg: &[u8], out: &mut [u8])
         requires from { self.now.tree.first ≤ q }
         requires to { q ≤ self.now.tree.last }
-        requires room { length out.old
+        requires long { length out.old
             ≡ length self.now.head.items + signature_length_under self.now.tree.key }
         ensures { out.new ≡ self.now.head.items
             ++ lms_signature (tree_of self.now.tree.key) q c.now msg.now }

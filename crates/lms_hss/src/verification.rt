@@ -3,14 +3,15 @@ ghost use Rattle.std.specs.Prelude.{ℕ, suc, ◌≡◌, ◌↔◌, ◌++◌, Li
 ghost use Rattle.lms_spec.specs.Tree.{LmsAccepts};
 ghost use Rattle.lms_spec.specs.Hss.{AcceptsThrough, HssAccepts};
 ghost use Rattle.sha2.specs.Sha256.{sha256};
-ghost use Rattle.lms_tree.specs.Parts.{HasParts};
+ghost use Rattle.lms_verification.specs.Parts.{HasParts};
 ghost use Rattle.lms_hss.specs.SignedKeys.{IsFirstSignedKey};
 ghost use Rattle.lms_hss.specs.Bottoms.{Reaches, IsMessageHead};
 ghost use Rattle.lms_hss.specs.Verifying.{HasTaken};
 
 use crate::levels::MOST_LEVELS;
 use lms_params::{HASH_LEN, split_u32};
-use lms_tree::{ByEights, ChainEnds, LMS_KEY_LEN, MESSAGE_HEAD_LEN, PublicKey};
+use lms_tree::LMS_KEY_LEN;
+use lms_verification::{ByEights, ChainEnds, MESSAGE_HEAD_LEN, PublicKey};
 
 /// Whether a signature is accepted for a message under a public key (RFC 8554, 6.3). The three may
 /// have any length. The chains of all levels are taken to their ends by eights.
@@ -36,7 +37,7 @@ pub fn verify_with<C: ChainEnds>(public: &[u8], msg: &[u8], sig: &[u8], ends: C)
 /// `begin`, `head`, `finish_by_hash`.
 #[derive(Drop)]
 pub struct Verifier<'a> {
-    bottom: lms_tree::Verifier<'a>,
+    bottom: lms_verification::Verifier<'a>,
 }
 
 impl<'a> Verifier<'a> {

@@ -68,7 +68,7 @@ concat-chunks (suc n) bytes h =
     ap (λ rest. take 8 bytes ++ rest) (concat-chunks n (drop 8 bytes) (omega (arith, length-drop 8 bytes)))
     ∙ take-append-drop 8 bytes
 
--- the numbers behind the counter are read
+-- the numbers after the counter are read
 pub reads-later : (v : Version) (text : List ℕ) → IsBytes text → later_length v ≤ length text
     → (openings burnt : ℕ) × (rest : List ℕ) × ReadsLater v text openings burnt rest
 reads-later First text small long = (0, 0, text, record { are = (refl, refl); parts = refl; long = omega arith })

@@ -171,7 +171,7 @@ head-of text small is =
       parts = sym (take-append-drop 4 text) ∙ ap₂ (λ x y. x ++ y) is.start second;
     }
 
--- what stands behind the levels, and behind the identifier
+-- what is after the levels, and after the identifier
 after_levels : List ℕ → List ℕ
 after_levels text = drop (8 * count_in text) (drop 12 text)
 
@@ -181,7 +181,7 @@ after_id text = drop 16 (drop 32 (after_levels text))
 levels_of_text : List ℕ → List (List ℕ)
 levels_of_text text = first_chunks 8 (count_in text) (take (8 * count_in text) (drop 12 text))
 
--- what a text says, with these numbers behind the counter
+-- what a text says, with these numbers after the counter
 fields_in : Version → List ℕ → ℕ → ℕ → Fields
 fields_in v text openings burnt = record {
   version = v;

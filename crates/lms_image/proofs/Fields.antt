@@ -1,4 +1,4 @@
--- The numbers that stand in a text.
+-- The numbers in a text.
 use Rattle.std.proofs.Common.{ℕ, ◌≡◌, ◌^◌, ◌<◌, List, ◌++◌, length, take, drop, refl, ◌∙◌, ap, arith}
 use Rattle.std.proofs.lemmas.List.{take_at, drop_at}
 use Rattle.lms_spec.specs.Bytes.{u32str, u64str, number_of}
@@ -9,7 +9,7 @@ pub number_of-u64 : (n : ℕ) → n < 2 ^ 64 → number_of (u64str n) ≡ n
 unfolding number_of
 number_of-u64 n small = omega arith
 
--- the bytes behind a front
+-- the bytes after a front
 pub part-at : (k n : ℕ) (text front part rest : List ℕ) → length front ≡ k → length part ≡ n → text ≡ front ++ (part ++ rest)
     → take n (drop k text) ≡ part
 part-at k n text front part rest before long e =

@@ -135,7 +135,7 @@ levels-more levels i other there =
     ∙ (concat-append (map level_text (take i levels)) (level_text (get_or levels i other) ∷ [])
     ∙ ap (λ rest. concat (map level_text (take i levels)) ++ rest) (append-nil (level_text (get_or levels i other)))))
 
--- a text of levels, with the bytes of one more behind it
+-- a text of levels, with the bytes of one more after it
 pub head-more : (prefix text next last : List ℕ) (levels : List (LmsType × OtsType)) (i a b : ℕ) (other : LmsType × OtsType) → i < length levels
     → text ≡ prefix ++ concat (map level_text (take i levels)) → next ≡ text ++ u32str a → last ≡ next ++ u32str b
     → a ≡ (lms_set_of (get_or levels i other).0).code → b ≡ (ots_set_of (get_or levels i other).1).code

@@ -1,4 +1,4 @@
--- The parts of an image, where they stand in its text.
+-- The parts of an image, where they are in its text.
 use Rattle.std.proofs.Common.{ℕ, suc, ◌≡◌, ◌+◌, ◌-◌, ◌*◌, ◌^◌, ◌<◌, ◌≤◌, List, [], ◌∷◌, ◌++◌, length, take, drop, All, true, false, ◌==◌, if◌then◌else◌, Some, None, not, sum_by, refl, sym, ◌∙◌, ap, ap₂, arith, subst, append_assoc, length-append}
 use Rattle.std.specs.List.{concat, list_all}
 use Rattle.std.specs.Prelude.Result.{Err}
@@ -20,7 +20,7 @@ use Rattle.lms_image.proofs.Fields.{u64-at}
 use Rattle.lms_image.proofs.LevelTexts.{Is8, length-texts}
 use Rattle.lms_image.proofs.Faults.{first_among, found, missed, clear-head, front-of, front-length, version-of, count-of}
 
--- where the parts of a text of the right length stand
+-- where the parts of a text of the right length are
 pub record IsLaidOut (text : List ℕ) (f : Fields) (digest : List ℕ) : Type 0 where
   pub clear : fault_of text ≡ first_among (drop 5 faults) text
   pub parts : text ≡ body_text f ++ digest
@@ -44,7 +44,7 @@ chunks-back (text ∷ texts) rest long =
 pub regroup : (a b c d e f : List ℕ) → ((((a ++ b) ++ c) ++ d) ++ e) ++ f ≡ a ++ (b ++ (c ++ (d ++ (e ++ f))))
 regroup a b c d e f = simp append_assoc
 
--- what stands between the count of levels and the digest
+-- what is between the count of levels and the digest
 abbrev pub after_count : Fields → List ℕ → List ℕ
 after_count f digest = concat f.levels ++ (f.seed ++ (f.id ++ (u64str f.counter ++ (later_text f.version f.openings f.burnt ++ digest))))
 
@@ -138,7 +138,7 @@ text-counter text f digest e eight s i fits =
     u64-at (60 + 8 * length f.levels) f.counter text front (later ++ digest) (length-front f.version f.levels f.seed f.id eight s i) fits
     (e ∙ (append_assoc (front ++ u64str f.counter) later digest ∙ append_assoc front (u64str f.counter) (later ++ digest)))
 
--- the two numbers behind the counter; where version 1 has none, both are 0
+-- the two numbers after the counter; where version 1 has none, both are 0
 later-numbers : (v : Version) (text front digest : List ℕ) (k openings burnt : ℕ) → version_in text ≡ code_of v → AreLater v openings burnt
     → length front ≡ k → text ≡ front ++ (later_text v openings burnt ++ digest)
     → (later_number k text ≡ openings) × (later_number (8 + k) text ≡ burnt)
@@ -199,7 +199,7 @@ laid-out text rest count f digest is cut =
       digest_is = digest-back text (body_text f) digest cut.digest_length parts;
     }
 
--- ---- the faults behind the length
+-- ---- the faults after the length
 
 pub damaged : (text : List ℕ) (f : Fields) (digest : List ℕ)
     → IsLaidOut text f digest → not (bytes_eq digest (sha256 (body_in text))) ≡ true → fault_of text ≡ Some Damaged

@@ -39,7 +39,7 @@ after-same a b x y long e =
 pub check-length : (key : HssKey) (body : List ℕ) → length (check_of key body) ≡ 32
 check-length key body = length-sha256 _
 
--- a text of a check value and what stands before it
+-- a text of a check value and what is before it
 pub too-short : (key : HssKey) (text : List ℕ) → length text < 32 → (body : List ℕ) → ¬ (text ≡ body ++ check_of key body)
 too-short key text short body e = omega (arith, short, ap length e, length-append body (check_of key body), check-length key body)
 
@@ -178,10 +178,10 @@ same-count key i (suc m) (suc n) r most e ends within =
     (ap suc below.0, below.1)
 
 -- what a text with the right check value says, where it is that of a way
-pub told : (key : KeyOfCode) (way : Way) (text rest : List ℕ) (at : ℕ) → capacity_of (hss_key_of key) ≤ 2 ^ 60 → IsWay way → way.key ≡ key
+pub read_back : (key : KeyOfCode) (way : Way) (text rest : List ℕ) (at : ℕ) → capacity_of (hss_key_of key) ≤ 2 ^ 60 → IsWay way → way.key ≡ key
     → text ≡ (nodes_header at ++ rest) ++ check_of (hss_key_of key) (nodes_header at ++ rest) → at < 2 ^ 64 → text ≡ nodes_text way
     → (at ≡ way.at) × (rest ≡ flat_map level_text way.levels)
-told key way text rest at limit is same whole fits e =
+read_back key way text rest at limit is same whole fits e =
     let other = flat_map level_text way.levels in
     let ends : text ≡ (nodes_header way.at ++ other) ++ check_of (hss_key_of key) (nodes_header way.at ++ other)
     = e ∙ ap (λ (key : KeyOfCode). body_text way ++ check_of (hss_key_of key) (body_text way)) same in

@@ -61,7 +61,7 @@ level-at-most key k low =
 pub level-limit : (key : KeyOfCode) (k : ℕ) → k < length key.levels → level_length (hss_key_of key) k ≤ 2 ^ 22
 level-limit key k low = omega (arith, level-at-most key k low, by-sets (λ l. l.lms.h ≤ 25) (λ lms ots. height-at-most lms) key k low)
 
--- which goes by the level's sets
+-- the text of a level, by the level's sets
 pub level-by-sets : (key : KeyOfCode) (levels : List (LmsType × OtsType)) (k signed upper lower : ℕ) → k < length key.levels → levels ≡ key.levels
     → signed ≡ signed_length (hss_key_of key) k → upper ≡ nodes_in (upper_rows (lms_set_of (get_or levels k (H5, W1)).0).h)
     → lower ≡ nodes_in (subtree_rows (lms_set_of (get_or levels k (H5, W1)).0).h 0) → signed + 32 * (upper + lower) ≡ level_length (hss_key_of key) k

@@ -111,8 +111,8 @@ index-fits : (way : Way) → IsWay way → way.at < 2 ^ 64
 index-fits way is = omega (arith, is.within, capacity-limit way.key is.admitted)
 
 -- a text tells the index, and what was given for each level
-told-by-text : (a b : Way) → IsWay a → IsWay b → a.key ≡ b.key → nodes_text a ≡ nodes_text b → (a.at ≡ b.at) × (map given_of a.levels ≡ map given_of b.levels)
-told-by-text a b is is' same e =
+same-by-text : (a b : Way) → IsWay a → IsWay b → a.key ≡ b.key → nodes_text a ≡ nodes_text b → (a.at ≡ b.at) × (map given_of a.levels ≡ map given_of b.levels)
+same-by-text a b is is' same e =
     let key = hss_key_of a.key in
     let long : length (check_of key (body_text a)) ≡ length (check_of (hss_key_of b.key) (body_text b))
     = check-length key (body_text a) ∙ sym (check-length (hss_key_of b.key) (body_text b)) in
@@ -133,14 +133,14 @@ level-genuine key g k x y same genuine =
 -- trees that have the text of genuine ones are genuine
 pub stays_genuine : (a b : Way) → IsWay a → IsWay b → a.key ≡ b.key → nodes_text a ≡ nodes_text b → AreGenuine a → AreGenuine b
 stays_genuine a b is is' same e genuine k other low =
-    let told = told-by-text a b is is' same e in
-    let count : length a.levels ≡ length b.levels = omega (arith, length-map a.levels given_of, length-map b.levels given_of, ap length told.1) in
+    let both = same-by-text a b is is' same e in
+    let count : length a.levels ≡ length b.levels = omega (arith, length-map a.levels given_of, length-map b.levels given_of, ap length both.1) in
     let given : given_of (get_or a.levels k other) ≡ given_of (get_or b.levels k other)
-    = sym (get_or-map given_of a.levels k other) ∙ (ap (λ all. get_or all k (given_of other)) told.1 ∙ get_or-map given_of b.levels k other) in
-    subst₂ (λ (key : KeyOfCode) g. IsGenuine (hss_key_of key) g k (get_or b.levels k other)) same told.0
+    = sym (get_or-map given_of a.levels k other) ∙ (ap (λ all. get_or all k (given_of other)) both.1 ∙ get_or-map given_of b.levels k other) in
+    subst₂ (λ (key : KeyOfCode) g. IsGenuine (hss_key_of key) g k (get_or b.levels k other)) same both.0
     (level-genuine (hss_key_of a.key) a.at k (get_or a.levels k other) (get_or b.levels k other) given (genuine k other (omega (arith, low, count))))
 
 pub text-tells : (a b : Way) → IsWay a → IsWay b → a.key ≡ b.key → nodes_text a ≡ nodes_text b
     → (a.at ≡ b.at) × (map given_of a.levels ≡ map given_of b.levels) × (AreGenuine a → AreGenuine b)
 text-tells a b is is' same e =
-    let told = told-by-text a b is is' same e in (told.0, told.1, stays_genuine a b is is' same e)
+    let both = same-by-text a b is is' same e in (both.0, both.1, stays_genuine a b is is' same e)

@@ -94,7 +94,7 @@ abbrev pub signed_keys : List KeptLevel → List ℕ
 signed_keys levels = flat_map (λ (level : KeptLevel). level.signed.items) levels
 
 -- the signed keys as they were given, and the signature of a message by the one-time key of an
--- index, but that any bytes may stand in the place of its path (6.2)
+-- index, but that any bytes may be in the place of its path (6.2)
 pub record EndsAlong (way : Way) (g : ℕ) (randomizer message signature : List ℕ) : Type 0 where
   pub last : List ℕ
   pub parts : signature ≡ u32str (bottom_of way.key) ++ signed_keys way.levels ++ last

@@ -40,7 +40,7 @@ impl KeptLevel {
         ensures nodes { IfOk result (λ level. AreNodes level.tree) }
         ensures signed { IfOk result (λ level. level.signed.items ≡ []) }
     {
-        let tree = worked_out(rt, alloc, key, leaf, begun)?;
+        let tree = computed(rt, alloc, key, leaf, begun)?;
         let signed = Vec::new(alloc);
         Ok(KeptLevel { tree, signed })
     }
@@ -62,7 +62,7 @@ impl KeptLevel {
     {
         let above = self.tree.key();
         let mut signed = vec![in alloc; 0; lms_sig_len(above.lms, above.ots) + LMS_KEY_LEN]?;
-        let tree = worked_out(rt, alloc, key, below, begun)?;
+        let tree = computed(rt, alloc, key, below, begun)?;
         self.sign_key_into(q, &randomizer(&above, q), &tree.public_bytes(), &mut signed);
         Ok(KeptLevel { tree, signed })
     }
@@ -182,7 +182,7 @@ impl KeptLevel {
     /// Writes the LMS signature of a public key by leaf q, and that key.
     fn sign_key_into(&self, q: u32, c: &[u8; HASH_LEN], public: &[u8; LMS_KEY_LEN], out: &mut [u8])
         requires served { ServesLeaf self.now.tree q }
-        requires room { length out.old
+        requires long { length out.old
             ≡ signature_length_under self.now.tree.key + lms_public_key_length }
         ensures { (signature : List ℕ) × (out.new ≡ signature ++ public.now)
             × IsSignatureAlong (tree_of self.now.tree.key) q c.now public.now signature
@@ -196,7 +196,7 @@ impl KeptLevel {
 }
 
 /// Computes the nodes that serve a leaf of a tree.
-fn worked_out(
+fn computed(
     rt: &(impl Threads + Sync),
     alloc: Global,
     key: TreeKey,

@@ -36,11 +36,11 @@ struct Numbers {
     low: u32,
 }
 
-/// The header for an index, `HEADER_LEN` bytes, with memory for `room` bytes in all.
-pub(crate) fn header(alloc: Global, at: u64, room: usize) -> Result<Vec<u8>, OutOfMemory>
+/// The header for an index, `HEADER_LEN` bytes, with memory for `capacity` bytes in all.
+pub(crate) fn header(alloc: Global, at: u64, capacity: usize) -> Result<Vec<u8>, OutOfMemory>
     ensures { IfOk result (λ text. text.items ≡ nodes_header at) }
 {
-    let mut text = Vec::with_capacity(alloc, room)?;
+    let mut text = Vec::with_capacity(alloc, capacity)?;
     text.extend_from_slice(&WORD.to_be_bytes())?;
     text.extend_from_slice(&VERSION.to_be_bytes())?;
     text.extend_from_slice(&((at >> 32) as u32).to_be_bytes())?;

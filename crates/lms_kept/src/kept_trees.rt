@@ -62,7 +62,7 @@ impl KeptTrees {
 
     /// Computes the trees that an index goes through, level by level from the top. The leaves of
     /// all these trees are reported to `progress`. `OutOfMemory` where memory is refused.
-    pub fn work_out(
+    pub fn compute(
         rt: &(impl Threads + Sync),
         alloc: Global,
         key: HssKey,

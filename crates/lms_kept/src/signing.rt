@@ -66,7 +66,7 @@ fn sign_anew(
         (text : Option (List ℕ)) → IsNotRight text key
         → IsSignedByText text key index c.now msg.now s.signature.items s.trees) }
 {
-    let trees = KeptTrees::work_out(rt, alloc, key, index, progress)?;
+    let trees = KeptTrees::compute(rt, alloc, key, index, progress)?;
     let Some(signature) = trees.sign(alloc, index, c, msg)? else {
         // Signatures by computed trees are accepted.
         unreachable!()

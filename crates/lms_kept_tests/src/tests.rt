@@ -39,7 +39,7 @@ fn key_of(levels: &[(LmsType, OtsType)]) -> Result<HssKey, KeyFault> {
 }
 
 /// The trees of an index that a key has.
-fn work_out(
+fn compute(
     rt: &(impl Abort + AllocGlobal + Threads + Sync),
     key: HssKey,
     at: u64,
@@ -48,7 +48,7 @@ fn work_out(
     ensures { IfOk result (λ trees. trees.key ≡ key) }
 {
     assert!(rt; at < key.capacity());
-    Ok(KeptTrees::work_out(rt, rt.alloc(), key, at, sums)?)
+    Ok(KeptTrees::compute(rt, rt.alloc(), key, at, sums)?)
 }
 
 /// The trees of another index that the key has, or none where what was given is wrong.
@@ -123,7 +123,7 @@ fn check_indices(
     indices: &[u64],
 ) -> Result<(), Fail> {
     let key = key_of(levels)?;
-    let mut text = work_out(rt, key, 0, &Sums::new())?.text(rt.alloc())?;
+    let mut text = compute(rt, key, 0, &Sums::new())?.text(rt.alloc())?;
     for g in indices {
         text = check_next(rt, key, &text, *g)?;
     }
@@ -132,7 +132,7 @@ fn check_indices(
 
 /// Over the ends of trees of each level, to the last index, and back.
 #[test]
-fn signs_as_trees_that_are_worked_out(rt: HostRuntime) -> Result<(), Fail> {
+fn signs_as_trees_that_are_computed(rt: HostRuntime) -> Result<(), Fail> {
     check_indices(
         &rt,
         &[LEVEL; 8],
@@ -230,10 +230,10 @@ fn signs_by_a_text_or_anew(rt: HostRuntime) -> Result<(), Fail> {
 /// Trees of two levels; the next bottom tree; one that is served already; the next bottom subtree
 /// of a tree of height 15, and the tree below it.
 #[test]
-fn tells_of_the_leaves_that_are_worked_out(rt: HostRuntime) -> Result<(), Fail> {
+fn reports_the_leaves_that_are_computed(rt: HostRuntime) -> Result<(), Fail> {
     let key = key_of(&[QUICK; 2])?;
     let sums = Sums::new();
-    let first = work_out(&rt, key, 0, &sums)?;
+    let first = compute(&rt, key, 0, &sums)?;
     assert!(rt; sums.are(1, 64));
     let next = moved(&rt, key, first, 32, &sums)?.ok_or("right nodes")?;
     assert!(rt; sums.are(2, 64 + 32));
@@ -242,7 +242,7 @@ fn tells_of_the_leaves_that_are_worked_out(rt: HostRuntime) -> Result<(), Fail> 
     drop(same);
     let tall = key_of(&TALL_ABOVE)?;
     let below = Sums::new();
-    let start = work_out(&rt, tall, 0, &below)?;
+    let start = compute(&rt, tall, 0, &below)?;
     let there = moved(&rt, tall, start, 32768, &below)?.ok_or("right nodes")?;
     drop(there);
     assert!(rt; below.are(2, 32768 + 32 + 1024 + 32));
@@ -252,11 +252,11 @@ fn tells_of_the_leaves_that_are_worked_out(rt: HostRuntime) -> Result<(), Fail> 
 /// All memory for a key of one level is asked for before the first leaf. The merge check refuses
 /// each request in turn.
 #[test]
-fn no_leaf_is_worked_out_where_memory_is_refused(rt: HostRuntime) -> Result<(), Fail> {
+fn no_leaf_is_computed_where_memory_is_refused(rt: HostRuntime) -> Result<(), Fail> {
     let key = key_of(&[QUICK])?;
     assert!(rt; key.capacity() == 32);
     let sums = Sums::new();
-    let done = match KeptTrees::work_out(&rt, rt.alloc(), key, 3, &sums) {
+    let done = match KeptTrees::compute(&rt, rt.alloc(), key, 3, &sums) {
         Ok(_) => 32,
         Err(OutOfMemory) => 0,
     };
@@ -270,9 +270,9 @@ fn no_leaf_is_worked_out_where_memory_is_refused(rt: HostRuntime) -> Result<(), 
 fn signs_after_refused_memory(rt: HostRuntime) -> Result<(), Fail> {
     let key = key_of(&[(LmsType::H5, OtsType::W1); 2])?;
     assert!(rt; key.capacity() == 1024);
-    let trees = match KeptTrees::work_out(&rt, rt.alloc(), key, 31, &Sums::new()) {
+    let trees = match KeptTrees::compute(&rt, rt.alloc(), key, 31, &Sums::new()) {
         Ok(trees) => trees,
-        Err(OutOfMemory) => KeptTrees::work_out(&rt, rt.alloc(), key, 31, &Sums::new())?,
+        Err(OutOfMemory) => KeptTrees::compute(&rt, rt.alloc(), key, 31, &Sums::new())?,
     };
     let text = match trees.text(rt.alloc()) {
         Ok(text) => text,

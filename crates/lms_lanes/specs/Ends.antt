@@ -23,26 +23,27 @@ pub record HasFront (words text : List ℕ) : Type 0 where
 
 -- the last two bytes of a word and the first two of another
 abbrev pub halves_word : ℕ → ℕ → ℕ
-halves_word x y = from_be_bytes w32
-    (slice_index (to_be_bytes w32 x) 2 ∷ slice_index (to_be_bytes w32 x) 3 ∷ slice_index
-    (to_be_bytes w32 y) 0 ∷ slice_index (to_be_bytes w32 y) 1 ∷ [])
+halves_word x y =
+    from_be_bytes w32
+    (slice_index (to_be_bytes w32 x) 2 ∷ slice_index (to_be_bytes w32 x) 3
+    ∷ slice_index (to_be_bytes w32 y) 0 ∷ slice_index (to_be_bytes w32 y) 1 ∷ [])
 
 -- the words of 22 bytes, a value of eight words, the first two bytes of a word, and two words
 abbrev pub block_words : List ℕ → List ℕ → ℕ → ℕ → ℕ → List ℕ
 block_words text value next before_last last =
     word_at text 0 ∷ word_at text 4 ∷ word_at text 8 ∷ word_at text 12 ∷ word_at text 16
     ∷ from_be_bytes w32
-    (slice_index text 20 ∷ slice_index text 21 ∷ slice_index
-    (to_be_bytes w32 (slice_index value 0)) 0 ∷ slice_index
-    (to_be_bytes w32 (slice_index value 0)) 1 ∷ [])
-    ∷ halves_word (slice_index value 0) (slice_index value 1) ∷ halves_word (slice_index value 1)
-    (slice_index value 2)
-    ∷ halves_word (slice_index value 2) (slice_index value 3) ∷ halves_word (slice_index value 3)
-    (slice_index value 4)
-    ∷ halves_word (slice_index value 4) (slice_index value 5) ∷ halves_word (slice_index value 5)
-    (slice_index value 6)
-    ∷ halves_word (slice_index value 6) (slice_index value 7) ∷ halves_word
-    (slice_index value 7) next ∷ before_last ∷ last ∷ []
+    (slice_index text 20 ∷ slice_index text 21
+    ∷ slice_index (to_be_bytes w32 (slice_index value 0)) 0
+    ∷ slice_index (to_be_bytes w32 (slice_index value 0)) 1 ∷ [])
+    ∷ halves_word (slice_index value 0) (slice_index value 1)
+    ∷ halves_word (slice_index value 1) (slice_index value 2)
+    ∷ halves_word (slice_index value 2) (slice_index value 3)
+    ∷ halves_word (slice_index value 3) (slice_index value 4)
+    ∷ halves_word (slice_index value 4) (slice_index value 5)
+    ∷ halves_word (slice_index value 5) (slice_index value 6)
+    ∷ halves_word (slice_index value 6) (slice_index value 7)
+    ∷ halves_word (slice_index value 7) next ∷ before_last ∷ last ∷ []
 
 -- the padding in a last block after 54 bytes (FIPS 180-4, 5.1.1)
 abbrev pub padding_after_54 : ℕ → List ℕ

@@ -27,7 +27,7 @@ pub struct Meter<'r, C, P> {
     to_do: AtomicU64,
     done: AtomicU64,
     /// The nanoseconds on the clock when it was last printed, or at first when the work began.
-    told_at: AtomicU64,
+    reported_at: AtomicU64,
     /// Whether its line is on the terminal.
     is_shown: AtomicBool,
 }
@@ -40,7 +40,7 @@ impl<'r, C: Clock, P: Print> Meter<'r, C, P> {
             is_on_terminal,
             to_do: AtomicU64::new(0),
             done: AtomicU64::new(0),
-            told_at: AtomicU64::new(0),
+            reported_at: AtomicU64::new(0),
             is_shown: AtomicBool::new(false),
         }
     }
@@ -65,16 +65,16 @@ impl<'r, C: Clock, P: Print> Meter<'r, C, P> {
         } else {
             ELSEWHERE
         };
-        let told_at = self.told_at.load(Ordering::SeqCst);
+        let reported_at = self.reported_at.load(Ordering::SeqCst);
         let now = self.now();
-        now.saturating_sub(told_at) >= between
+        now.saturating_sub(reported_at) >= between
             && self
-                .told_at
-                .compare_exchange(told_at, now, Ordering::SeqCst, Ordering::SeqCst)
+                .reported_at
+                .compare_exchange(reported_at, now, Ordering::SeqCst, Ordering::SeqCst)
                 .is_ok()
     }
 
-    fn tell(&self, done: u64) {
+    fn report(&self, done: u64) {
         let to_do = self.to_do.load(Ordering::SeqCst);
         if self.is_on_terminal {
             self.is_shown.store(true, Ordering::SeqCst);
@@ -93,13 +93,13 @@ impl<'r, C: Clock + Sync, P: Print + Sync> Progress for Meter<'r, C, P> {
     fn begin(&self, leaves: u64) {
         self.to_do.store(leaves, Ordering::SeqCst);
         self.done.store(0, Ordering::SeqCst);
-        self.told_at.store(self.now(), Ordering::SeqCst);
+        self.reported_at.store(self.now(), Ordering::SeqCst);
     }
 
     fn done(&self, leaves: u64) {
         let before = self.done.fetch_add(leaves, Ordering::SeqCst);
         if self.is_due() {
-            self.tell(before.saturating_add(leaves));
+            self.report(before.saturating_add(leaves));
         }
     }
 }

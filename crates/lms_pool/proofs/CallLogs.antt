@@ -66,7 +66,7 @@ none_after : (xs ys : List Entry) → xs ++ ys ≡ xs → ys ≡ []
 none_after xs [] e = refl
 none_after xs (y ∷ ys) e = absurd (omega (arith, ap (length {A = Entry}) e, length-append xs (y ∷ ys)))
 
--- the calls of a seat all stand in the beginning, so none stands in the rest
+-- the calls of a seat are all in the beginning, so none is in the rest
 pub calls_rest : (x : ℕ) (front rest : List Entry) → calls_of x (front ++ rest) ≡ calls_of x front → calls_of x rest ≡ []
 calls_rest x front rest e = none_after (calls_of x front) (calls_of x rest) (sym (filter-append (λ (y : Entry). nat_eq y.seat x) front rest) ∙ e)
 
@@ -91,7 +91,7 @@ tally len n (e ∷ es) h l =
     let rest = tally len (turn len n e.call).1 es (turn_within len n e.call h).1 l.1 in
     omega (arith, rest, one, sum_by-cons burnt e es, length-append (place_in e.reply) (places_in es))
 
--- the first call's place stands before the places of the calls after it
+-- the first call's place is before the places of the calls after it
 module _ (len n : ℕ) (es : List Entry) where
   abbrev InOrder : Reply × ℕ → Type 0
   InOrder t = places_in es ≡ range_with_len t.1 (length (places_in es)) → t.1 + length (places_in es) ≤ len

@@ -67,15 +67,15 @@ end_again len x r old new end ext =
     last_legal len 0 before (entry x Claim r) whole ∙ ap (λ (t : Reply × ℕ). t.0) (claim_end len (taken len before) over)
 
 -- the reply of a call tells the state after it
-state_told : (len m n : ℕ) (c : Call) → m ≤ len → n ≤ len → (turn len m c).0 ≡ (turn len n c).0 → (turn len m c).1 ≡ (turn len n c).1
-state_told len m n Claim k l e = ap (λ (n : ℕ). (turn len n Claim).1) same
+state_shown : (len m n : ℕ) (c : Call) → m ≤ len → n ≤ len → (turn len m c).0 ≡ (turn len n c).0 → (turn len m c).1 ≡ (turn len n c).1
+state_shown len m n Claim k l e = ap (λ (n : ℕ). (turn len n Claim).1) same
   where
     same : m ≡ n
     same = dite (dec_lt n len)
         (λ l. place_is len m n (sym (e ∙ ap (λ (t : Reply × ℕ). t.0) (claim_next len n l))))
         (λ g. let over = end_is len m (sym (e ∙ ap (λ (t : Reply × ℕ). t.0) (claim_end len n (omega arith)))) in omega (arith, over, k, l))
-state_told len m n Look k l e = let same : m ≡ n = cc in same
-state_told len m n Stop k l e = refl
+state_shown len m n Look k l e = let same : m ≡ n = cc in same
+state_shown len m n Stop k l e = refl
 
 -- what is taken after a call that found this word
 taken_after : (len x n : ℕ) (c : Call) (old new : List Entry) → Extends len old (entry x c (reply_at len n c)) new → taken len new ≡ (turn len (min n len) c).1
@@ -85,7 +85,7 @@ taken_after len x n c old new ext =
     let e : Entry = entry x c (reply_at len n c) in
     ap (taken len) ext.1.1
     ∙ state-append len 0 before (e ∷ [])
-    ∙ state_told len (taken len before) (min n len) c (taken_within len before) (omega arith) (sym (last_legal len 0 before e whole))
+    ∙ state_shown len (taken len before) (min n len) c (taken_within len before) (omega arith) (sym (last_legal len 0 before e whole))
 
 -- the seat of these fields is in order
 abbrev pub IsWell : Inside → Type 0
@@ -160,10 +160,10 @@ module _ (me : Inside) (seat : IsWell me) where
 
   -- a step that is a call's
   pub after_call : (c : Call) (r : Reply) (n : ℕ) (w : Seated) → took_effect c me.seat.me n w → reply_at me.pool.value.len n c ≡ r → Called me c r n w
-  after_call c r n w told is =
+  after_call c r n w step is =
       let len = me.pool.value.len in
       let new = (the_hand w.0).log in
-      let t = told (own_hand me len) seat.alone in
+      let t = step (own_hand me len) seat.alone in
       let found = left_by len me.number old_log c (reply_at len n c) w t.0 t.1 t.2 in
       let left = subst (λ (r : Reply). Left len me.number old_log c r w) is found in
       record {
@@ -198,9 +198,9 @@ module _ (me : Inside) (seat : IsWell me) where
   -- the load of a claim finds no place, and the seat has seen the end as before
   pub after_load : (n : ℕ) (w : Seated) → took_effect Claim me.seat.me n w → taken me.pool.value.len old_log ≡ me.pool.value.len
       → (reply_at me.pool.value.len n Claim ≡ Ended) × (me.has_seen_end ≡ nat_eq (turn me.pool.value.len (min n me.pool.value.len) Claim).1 me.pool.value.len)
-  after_load n w told end =
+  after_load n w step end =
       let len = me.pool.value.len in
-      let t = told (own_hand me len) seat.alone in
+      let t = step (own_hand me len) seat.alone in
       let none = end_again len me.number (reply_at len n Claim) old_log t.0.log end t.2.2 in
       let over : len ≤ min n len = end_is len (min n len) (sym none) in
       (none, seat.end ∙ ap (λ (k : ℕ). nat_eq k len) (omega (arith, end, over, ap (λ (t : Reply × ℕ). t.1) (claim_end len (min n len) over))))

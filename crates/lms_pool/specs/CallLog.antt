@@ -58,14 +58,14 @@ abbrev pub places_in : List Entry → List ℕ
 places_in [] = []
 places_in (e ∷ es) = place_in e.reply ++ places_in es
 
-abbrev pub count_told : Reply → ℕ
-count_told (Place k) = 0
-count_told Ended = 0
-count_told (Count k) = k
+abbrev pub count_in : Reply → ℕ
+count_in (Place k) = 0
+count_in Ended = 0
+count_in (Count k) = k
 
 -- how many places a call stopped
 abbrev pub stopped_by : Call → Reply → ℕ
-stopped_by Stop reply = count_told reply
+stopped_by Stop reply = count_in reply
 stopped_by Claim reply = 0
 stopped_by Look reply = 0
 

@@ -50,14 +50,14 @@ after_sums start es book is = ap sums_of (after_history start es book is) ∙ su
 -- what a reservation gave is an entry
 pub gives_entry : (n : ℕ) (old : BookState) (lease : LeaseState) (new : BookState) → IsSameOpening old new
     → Reserves n old (Ok lease) new → IsAfterEntry old (Given n) new
-gives_entry n old lease new same (room, is, history, wrote) =
-    record { opening = same; reservation = (room, refl, history, wrote) }
+gives_entry n old lease new same (enough, is, history, wrote) =
+    record { opening = same; reservation = (enough, refl, history, wrote) }
 
 -- so is what it burnt
 pub burns_entry : (n start len : ℕ) (old new : BookState) → IsSameOpening old new
     → Reserves n old (Err (Store start len)) new → IsAfterEntry old (Burnt n) new
-burns_entry n start len old new same (room, s, l, history, failed) =
-    record { opening = same; reservation = (room, refl, refl, history, failed) }
+burns_entry n start len old new same (enough, s, l, history, failed) =
+    record { opening = same; reservation = (enough, refl, refl, history, failed) }
 
 -- a book behind the lock; the part of the sums that is the book's own counts what was before
 pub behind : (shared : BookState) (desks : ℕ) (desk part totals : Sums) (found : BookState) (es : List Entry) → IsAfter shared es found

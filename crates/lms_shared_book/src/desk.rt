@@ -85,17 +85,17 @@ impl<E: BookLedger, G: BookLedger, B: BookLedger> Desk<E, G, B> {
 
 /// Desks that have counted nothing, each with one part of the shares.
 pub(crate) fn new_desks<E: BookLedger, G: BookLedger, B: BookLedger>(
-    room: Vec<Desk<E, G, B>>,
+    memory: Vec<Desk<E, G, B>>,
     shares: &mut Shares<E, G, B>,
     count: usize,
 ) -> Vec<Desk<E, G, B>>
-    requires empty { vec_len room ≡ 0 }
-    requires capacity { count ≤ vec_capacity room }
+    requires empty { vec_len memory ≡ 0 }
+    requires capacity { count ≤ vec_capacity memory }
     requires parts { shares.old.parts ≡ count + 1 }
     ensures desks { result.items ≡ replicate count (sums 0 0 0) }
     ensures shares { shares.new ≡ record { parts = 1; counted = shares.old.counted } }
 {
-    let mut desks = room;
+    let mut desks = memory;
     for _ in 0..count {
         let desk = Desk {
             entries: 0,

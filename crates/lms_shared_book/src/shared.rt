@@ -69,8 +69,8 @@ impl<S: StateStore, E: BookLedger, G: BookLedger, B: BookLedger> SharedBook<S, E
         ensures desks { IfOk result (λ r. r.1.items ≡ replicate desks (sums 0 0 0)) }
         ensures err { IfErr result (λ e. (e.1 ≡ book) × (e.2 ≡ blanks)) }
     {
-        let room = match Vec::with_capacity(alloc, desks) {
-            Ok(room) => room,
+        let memory = match Vec::with_capacity(alloc, desks) {
+            Ok(memory) => memory,
             Err(_) => return Err((OutOfMemory, book, blanks)),
         };
         // for the proof: the book is in order, which bounds the sums
@@ -81,7 +81,7 @@ impl<S: StateStore, E: BookLedger, G: BookLedger, B: BookLedger> SharedBook<S, E
         let (given, burnt) = sums_in(history);
         let (mut totals, mut shares) = Totals::<E, G, B>::open(blanks);
         totals.add(&mut shares, entries, given, burnt);
-        let all_desks = new_desks(room, &mut shares, desks);
+        let all_desks = new_desks(memory, &mut shares, desks);
         let counted = Mutex::new(CountedBook {
             book,
             totals,

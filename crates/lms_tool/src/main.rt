@@ -16,12 +16,12 @@ use std::rt::Env;
 fn main(rt: HostRuntime) -> ExitCode {
     let mut errors = rt.stderr();
     let held = hold_closed_streams(&rt);
-    let told = rt.stderr();
-    let meter = Meter::new(&rt, &told, told.is_terminal());
+    let meter_output = rt.stderr();
+    let meter = Meter::new(&rt, &meter_output, meter_output.is_terminal());
     let words = if held.is_ok() {
         words(&rt)
     } else {
-        Err(Fault::Input)
+        Err(Fault::ReadInput)
     };
     let status = match words {
         Ok(words) => run_watched(
@@ -42,11 +42,12 @@ fn main(rt: HostRuntime) -> ExitCode {
     ExitCode::from(status.code())
 }
 
-/// The program's arguments. `Input` where one is no UTF-8 text, `OutOfMemory` where memory ran out.
+/// The program's arguments. `ReadInput` where one is no UTF-8 text, `OutOfMemory` where memory ran
+/// out.
 fn words<R: Env + AllocGlobal>(rt: &R) -> Result<Vec<String>, Fault> {
     match env::args(rt) {
         Ok(words) => words.collect(rt.alloc()).map_err(|_| Fault::OutOfMemory),
         Err(error) if error.kind() == ErrorKind::OutOfMemory => Err(Fault::OutOfMemory),
-        Err(_) => Err(Fault::Input),
+        Err(_) => Err(Fault::ReadInput),
     }
 }

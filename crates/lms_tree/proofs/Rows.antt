@@ -1,4 +1,4 @@
--- Rows of a tree: how many nodes they have, and where they stand.
+-- Rows of a tree: how many nodes they have, and where they are.
 use Rattle.std.proofs.Common.{ℕ, suc, ◌≡◌, ◌+◌, ◌-◌, ◌*◌, ◌^◌, ◌<◌, ◌≤◌, ◌∙◌, ap, arith, add-one, pow-suc, pow_pos, pow_mono, mul-le-mul_right}
 use Rattle.std.proofs.Math.Nat.{lt_of_not-le, mul-le-mul_left}
 use Rattle.lms_tree.specs.declared.band.Row.{Row}
@@ -30,7 +30,7 @@ twice n level = let double : n * 2 ^ suc level ≡ n * (2 ^ level * 2) = ap (λ 
 same-row : (f f' n n' p p' : ℕ) → f ≡ f' → n ≡ n' → p ≡ p' → ◌≡◌ {A = Row} (record { first = f; count = n; place = p }) (record { first = f'; count = n'; place = p' })
 same-row f f' n n' p p' a b c = rw (a, b, c)
 
--- each row stands after the one above it
+-- each row is after the one above it
 pub row-next : (rows : Rows) (level : ℕ) → row_of rows (level + 1) ≡ row_below (row_of rows level)
 row-next rows level =
     let some = row-some rows.width level in

@@ -56,7 +56,7 @@ row-in-path t m leaf k r level in_tree low is from to =
 is-root : (r : ℕ) → r ≡ 1 → 2 ≤ r → ⊥
 is-root r is more = omega arith
 
--- a node that is needed stands in the bottom subtrees of the leaves served, where it stands below
+-- a needed node is in the bottom subtrees of the leaves served, where it is below
 -- their roots
 below-roots : (t m first last r level : ℕ) → last < 2 ^ (t + m) → IsNeeded (t + m) first last r → 2 ^ level ≤ r → r < 2 * 2 ^ level → t < level
     → (level - t ≤ m) × ((2 ^ t + first / 2 ^ m) * 2 ^ (level - t) ≤ r)

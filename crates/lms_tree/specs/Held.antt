@@ -35,7 +35,7 @@ row_below row =
 abbrev pub nodes_in : Rows → ℕ
 nodes_in rows = rows.width * (2 ^ (rows.depth + 1) - 1)
 
--- the nodes of a row stand at their places
+-- the nodes of a row are at their places
 abbrev pub HoldsRow : TreeKey → Row → List (List ℕ) → Type 0
 HoldsRow key row nodes =
     (i : ℕ) → i < row.count

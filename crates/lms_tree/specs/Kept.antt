@@ -1,4 +1,4 @@
--- Nodes of a tree as they were given, as from a file: any values may stand there.
+-- Nodes of a tree as they were given, as from a file: any values may be there.
 use Rattle.std.specs.Prelude.{ℕ, ◌≡◌, ◌+◌, ◌-◌, ◌*◌, ◌/◌, ◌^◌, ◌<◌, List, [], ◌++◌, length, slice_index_or}
 use Rattle.lms_spec.specs.HashLength.{hash_length}
 use Rattle.lms_spec.specs.Bytes.{u32str}
@@ -18,7 +18,7 @@ pub record KeptNodes : Type 0 where
   pub upper : List (List ℕ)
   pub lower : List (List ℕ)
 
--- the height of what stands above the bottom subtrees of a tree of height h
+-- the height of what is above the bottom subtrees of a tree of height h
 abbrev pub upper_height : ℕ → ℕ
 upper_height h = h - bottom_height h
 
@@ -74,7 +74,7 @@ pub record MovesTo (kept : KeptNodes) (n : ℕ) (moved : KeptNodes) : Type 0 whe
       ≡ node (tree_of kept.key) (subtree_root (tree_of kept.key).lms.h n)
   pub lower : HoldsRows kept.key (subtree_rows (tree_of kept.key).lms.h n) moved.lower
 
--- the signature of a message by leaf q of a tree, but that any bytes may stand in the place of its
+-- the signature of a message by leaf q of a tree, but that any bytes may be in the place of its
 -- path (5.4.1)
 pub record IsSignatureAlong (tree : Tree) (q : ℕ)
     (randomizer message signature : List ℕ) : Type 0 where

@@ -2,7 +2,7 @@
 use Rattle.std.specs.Prelude.{ℕ, ◌≡◌, ◌+◌, ◌/◌, ◌^◌, ◌<◌, ◌≤◌, ◌⊎◌}
 use Rattle.lms_spec.specs.Tree.{sibling}
 
--- node r stands in the path of a served leaf (5.4)
+-- node r is in the path of a served leaf (5.4)
 pub record IsInAPath (h first last r : ℕ) : Type 0 where
   pub leaf : ℕ
   pub level : ℕ

@@ -25,7 +25,7 @@ signature_text key q randomizer message = lms_signature (tree_of key) q randomiz
 abbrev pub signature_length_under : TreeKey → ℕ
 signature_length_under key = lms_signature_length (lms_set_of key.lms) (ots_set_of key.ots)
 
--- the path of leaf q, as it stands in a signature (5.4)
+-- the path of leaf q, as it is in a signature (5.4)
 abbrev pub path_text : TreeKey → ℕ → List ℕ
 path_text key q = concat (path_of (tree_of key) q)
 

@@ -8,11 +8,11 @@ ghost use Rattle.lms_tree.specs.Bands.{root_rows};
 ghost use Rattle.lms_tree.specs.Kept.{AreHashes, FillsRows};
 ghost use Rattle.lms_tree.specs.Held.{row_of, row_below, nodes_in, AreInTree, HoldsRow, HoldsRows};
 
-use crate::nodes::{inner_hash, leaf_count};
 use crate::progress::{Begun, Progress};
 use crate::row::fill_lowest_row;
 use crate::tree_key::TreeKey;
 use lms_params::{HASH_LEN, OutOfMemory};
+use lms_verification::inner_hash;
 use std::alloc::Global;
 use std::marker::Model;
 use std::thread::Threads;
@@ -49,7 +49,7 @@ impl Rows {
 
     /// Memory for all nodes of these rows, 32 bytes each. `OutOfMemory` where the one request for
     /// it is refused.
-    pub(crate) fn room(self, alloc: Global) -> Result<Vec<[u8; HASH_LEN]>, OutOfMemory>
+    pub(crate) fn allocate(self, alloc: Global) -> Result<Vec<[u8; HASH_LEN]>, OutOfMemory>
         requires { AreInTree greatest_height self }
         ensures { IfOk result (λ nodes. length nodes.items ≡ nodes_in self) }
     {
@@ -103,7 +103,7 @@ impl Model for Band {
 }
 
 impl Band {
-    /// Computes the nodes in these rows and stores them in `room`: the lowest row by as many
+    /// Computes the nodes in these rows and stores them in `memory`: the lowest row by as many
     /// threads as there are processors, at most 32, then the rows above it. A node of the lowest
     /// row that is in the top row of `lower`, a band of the same tree, is copied from there. The
     /// leaves under every other node of that row are reported to the `Progress` of `begun`.
@@ -111,17 +111,17 @@ impl Band {
         rt: &(impl Threads + Sync),
         key: TreeKey,
         rows: Rows,
-        room: Vec<[u8; HASH_LEN]>,
+        memory: Vec<[u8; HASH_LEN]>,
         lower: Option<&Band>,
         begun: &Begun<impl Progress>,
     ) -> Self
         requires in_tree { AreInTree (tree_of key).lms.h rows }
-        requires room { length room.items ≡ nodes_in rows }
+        requires count { length memory.items ≡ nodes_in rows }
         requires lower { IfSome lower (λ band. band.now.key ≡ key) }
         ensures { result ≡ record { key = key; rows = rows } }
     {
         let lowest = rows.row(rows.depth);
-        let mut nodes = room;
+        let mut nodes = memory;
         let all = nodes.as_mut_slice();
         let row = &mut all[lowest.place..];
         fill_lowest_row(rt, key, lowest.first, lower, row, begun.progress);
@@ -227,7 +227,7 @@ fn fill_upper_rows(key: &TreeKey, rows: Rows, nodes: &mut [[u8; HASH_LEN]])
 fn fill_row(key: &TreeKey, row: Row, nodes: &mut [[u8; HASH_LEN]])
     requires from_root { 1 ≤ row.first }
     requires inner { row.first + row.count ≤ 2 ^ (tree_of key.now).lms.h }
-    requires room { row.place + 3 * row.count ≤ length nodes.old }
+    requires long { row.place + 3 * row.count ≤ length nodes.old }
     requires below { HoldsRow key.now (row_below row) nodes.old }
     ensures count { length nodes.new ≡ length nodes.old }
     ensures row { HoldsRow key.now row nodes.new }

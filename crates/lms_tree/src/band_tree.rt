@@ -73,10 +73,10 @@ impl BandTree {
     {
         let lower_rows = lower_rows(key.lms, first, last);
         let upper_rows = upper_rows(key.lms);
-        let lower_room = lower_rows.room(alloc)?;
-        let upper_room = upper_rows.room(alloc)?;
-        let lower = Band::build(rt, key, lower_rows, lower_room, None, begun);
-        let upper = Band::build(rt, key, upper_rows, upper_room, Some(&lower), begun);
+        let lower_memory = lower_rows.allocate(alloc)?;
+        let upper_memory = upper_rows.allocate(alloc)?;
+        let lower = Band::build(rt, key, lower_rows, lower_memory, None, begun);
+        let upper = Band::build(rt, key, upper_rows, upper_memory, Some(&lower), begun);
         Ok(BandTree {
             first,
             last,

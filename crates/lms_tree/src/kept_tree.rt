@@ -11,11 +11,11 @@ ghost use Rattle.lms_tree.specs.Served.{IsNeeded};
 
 use crate::band::{Band, Rows, node_in};
 use crate::band_tree::{bottom_height, upper_rows};
-use crate::nodes::leaf_count;
 use crate::progress::{Begun, Progress};
 use crate::signing::{LMS_KEY_LEN, public_key_bytes, sibling, write_head};
 use crate::tree_key::TreeKey;
 use lms_params::{HASH_LEN, LmsType, OutOfMemory};
+use lms_verification::leaf_count;
 use std::alloc::Global;
 use std::marker::Model;
 use std::thread::Threads;
@@ -130,7 +130,7 @@ impl KeptTree {
     /// the same.
     pub fn sign_into(&self, q: u32, c: &[u8; HASH_LEN], msg: &[u8], out: &mut [u8])
         requires served { ServesLeaf self.now q }
-        requires room { length out.old ≡ signature_length_under self.now.key }
+        requires long { length out.old ≡ signature_length_under self.now.key }
         ensures along { IsSignatureAlong (tree_of self.now.key) q c.now msg.now out.new }
         ensures signature { AreNodes self.now
             → out.new ≡ signature_text self.now.key q c.now msg.now }
@@ -162,8 +162,8 @@ impl KeptTree {
             lower: _,
         } = self;
         let rows = subtree_rows(key.lms, subtree);
-        let room = rows.room(alloc)?;
-        let band = Band::build(rt, key, rows, room, None, begun);
+        let memory = rows.allocate(alloc)?;
+        let band = Band::build(rt, key, rows, memory, None, begun);
         if !has_root(&upper, subtree, &band) {
             return Ok(None);
         }
@@ -195,8 +195,8 @@ impl KeptTree {
     /// Writes the path of leaf q from the nodes given (5.4).
     fn write_path(&self, q: u32, out: &mut [u8])
         requires served { ServesLeaf self.now q }
-        requires room { length out.old ≡ path_length_under self.now.key }
-        ensures room { length out.new ≡ path_length_under self.now.key }
+        requires long { length out.old ≡ path_length_under self.now.key }
+        ensures long { length out.new ≡ path_length_under self.now.key }
         ensures path { AreNodes self.now → out.new ≡ path_text self.now.key q }
     {
         let leaf = leaf_count(self.key.lms) + q;

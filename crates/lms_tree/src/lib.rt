@@ -8,12 +8,10 @@ mod band;
 mod band_tree;
 mod kept_tree;
 mod node_source;
-mod nodes;
 mod progress;
 mod row;
 mod signing;
 mod tree_key;
-mod verification;
 mod whole_tree;
 mod workers;
 
@@ -23,7 +21,8 @@ pub use crate::node_source::NodeSource;
 pub use crate::progress::{Begun, Progress, Unwatched};
 pub use crate::signing::{LMS_KEY_LEN, public_bytes, sign_into};
 pub use crate::tree_key::TreeKey;
-pub use crate::verification::{PublicKey, Verifier, verify};
 pub use crate::whole_tree::WholeTree;
-pub use lms_ots::{ByEights, ChainEnds, MESSAGE_HEAD_LEN, OneByOne};
 pub use lms_params::OutOfMemory;
+pub use lms_verification::{
+    ByEights, ChainEnds, MESSAGE_HEAD_LEN, OneByOne, PublicKey, Verifier, verify,
+};

@@ -6,11 +6,11 @@ ghost use Rattle.lms_spec.specs.Tree.{node as node_of};
 ghost use Rattle.lms_tree.specs.TreeKey.{tree_of};
 
 use crate::band::Band;
-use crate::nodes::leaf_count;
 use crate::progress::Progress;
 use crate::tree_key::TreeKey;
 use crate::workers::Workers;
 use lms_params::HASH_LEN;
+use lms_verification::leaf_count;
 use rayon::current_num_threads;
 use std::thread::{Threads, join_mut};
 

@@ -9,11 +9,11 @@ ghost use Rattle.lms_params.specs.OtsType.{ots_set_of};
 ghost use Rattle.lms_tree.specs.TreeKey.{path_length_under, path_text, public_text, signature_length_under, signature_text};
 
 use crate::node_source::NodeSource;
-use crate::nodes::leaf_count;
 use crate::tree_key::TreeKey;
 use byteorder::{BigEndian, ByteOrder};
 use lms_ots::OtsId;
 use lms_params::{HASH_LEN, LmsType, OtsType};
+use lms_verification::leaf_count;
 
 /// The bytes of an LMS public key (5.3).
 pub const LMS_KEY_LEN: usize = 56;
@@ -31,7 +31,7 @@ pub fn public_bytes<N: NodeSource>(source: &N) -> [u8; LMS_KEY_LEN]
 pub fn sign_into<N: NodeSource>(source: &N, q: u32, c: &[u8; HASH_LEN], msg: &[u8], out: &mut [u8])
     requires first { N.first_leaf source.now ≤ q }
     requires last { q ≤ N.last_leaf source.now }
-    requires room { length out.old ≡ signature_length_under (N.tree_key source.now) }
+    requires long { length out.old ≡ signature_length_under (N.tree_key source.now) }
     ensures signature { out.new ≡ signature_text (N.tree_key source.now) q c.now msg.now }
     ensures accepted { LmsAccepts (public_text (N.tree_key source.now)) msg.now out.new }
 {
@@ -60,7 +60,7 @@ pub(crate) fn write_head(key: &TreeKey, q: u32, c: &[u8; HASH_LEN], msg: &[u8], 
 fn write_path<N: NodeSource>(source: &N, q: u32, out: &mut [u8])
     requires first { N.first_leaf source.now ≤ q }
     requires last { q ≤ N.last_leaf source.now }
-    requires room { length out.old ≡ path_length_under (N.tree_key source.now) }
+    requires long { length out.old ≡ path_length_under (N.tree_key source.now) }
     ensures { out.new ≡ path_text (N.tree_key source.now) q }
 {
     let key = source.key();

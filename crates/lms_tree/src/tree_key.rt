@@ -3,9 +3,9 @@ ghost use Rattle.std.specs.Prelude.{ℕ, ◌≡◌, ◌+◌, ◌*◌, ◌^◌, �
 ghost use Rattle.lms_spec.specs.Tree.{node};
 ghost use Rattle.lms_tree.specs.TreeKey.{tree_of};
 
-use crate::nodes::{inner_hash, leaf_count, leaf_hash};
 use lms_ots::{OtsId, eight_public_hashes, public_hash};
 use lms_params::{HASH_LEN, LmsType, OtsType};
+use lms_verification::{inner_hash, leaf_count, leaf_hash};
 
 /// A tree's private key (RFC 8554, 5.2): its two sets, its identifier I and the seed of its
 /// one-time keys. There is no `Debug`, which would print the seed.

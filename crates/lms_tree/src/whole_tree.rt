@@ -3,10 +3,10 @@ ghost use Rattle.std.specs.Prelude.{◌≡◌, IfOk};
 
 use crate::band::{Band, Rows};
 use crate::node_source::NodeSource;
-use crate::nodes::leaf_count;
 use crate::progress::{Begun, Unwatched};
 use crate::tree_key::TreeKey;
 use lms_params::{HASH_LEN, OutOfMemory};
+use lms_verification::leaf_count;
 use std::alloc::Global;
 use std::marker::Model;
 use std::thread::Threads;
@@ -43,8 +43,8 @@ impl WholeTree {
         ensures { IfOk result (λ tree. tree ≡ key) }
     {
         let rows = Rows::from_root(key.lms.height());
-        let room = rows.room(alloc)?;
-        let nodes = Band::build(rt, key, rows, room, None, &Begun::new(&Unwatched, 0));
+        let memory = rows.allocate(alloc)?;
+        let nodes = Band::build(rt, key, rows, memory, None, &Begun::new(&Unwatched, 0));
         Ok(WholeTree { nodes })
     }
 }

@@ -1,4 +1,4 @@
-//! Tests of `lms_tree`.
+//! Tests of `lms_tree` and `lms_verification`.
 #![tactic(auto)]
 
 #[cfg(test)]

@@ -1,4 +1,5 @@
 mod kept;
+mod nodes;
 mod progress;
 mod vectors;
 mod verification;

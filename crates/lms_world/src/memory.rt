@@ -13,7 +13,7 @@ use lms_params::OutOfMemory;
 use std::alloc::{AllocError, Global};
 
 /// The capacity of a state's record, in writes.
-const ROOM: usize = 8;
+const CAPACITY: usize = 8;
 
 /// Files and one state in memory, for tests: what a read of each name answers, the state, whatever
 /// its name, and what is kept of nodes beside it.
@@ -194,7 +194,7 @@ impl MemoryWorld {
     {
         match self.state.take() {
             Some(store) => Ok(store),
-            None => MemoryStore::new(alloc, None, ROOM),
+            None => MemoryStore::new(alloc, None, CAPACITY),
         }
     }
 

@@ -284,7 +284,7 @@ fn is_there(rt: &HostRuntime, name: &str) -> Option<bool> {
 }
 
 #[test]
-fn what_can_not_be_told_exists(rt: HostRuntime) -> Result<(), Fail> {
+fn what_can_not_be_looked_up_exists(rt: HostRuntime) -> Result<(), Fail> {
     empty_folder(&rt, "disk_world_names")?;
     fs::write(&rt, "disk_world_names/file", b"".as_slice())?;
     let long = "n".repeat(rt.alloc(), 5000)?;

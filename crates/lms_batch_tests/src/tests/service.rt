@@ -1,6 +1,7 @@
 ghost use Rattle.std.specs.Prelude.{◌≡◌, ◌≤◌};
 ghost use Rattle.lms_shared_book.specs.Desks.{BlankFits};
 
+mod at_once;
 mod gates;
 mod memory;
 mod outcome;
@@ -12,7 +13,7 @@ use lms_book::{Book, BookFault, Entry, Left, MemoryStore};
 use lms_fixtures::{book_of, key_of, store_at};
 use lms_params::OutOfMemory;
 use lms_shared_book::{Blanks, BookLedger, Desk, SharedBook};
-use outcome::{Answer, Outcome, starts_of};
+use outcome::{Answer, Outcome};
 use std::alloc::{AllocGlobal, Global};
 use std::marker::Brand;
 use std::sync::Wait;
@@ -295,63 +296,6 @@ fn a_failed_write_burns_a_batch(rt: HostRuntime) -> Result<(), Fail> {
     assert!(rt; outcome.is_complete(&rt, 1, 4, &jobs)?);
     assert!(rt; outcome.has_counted(1, (2, 4, 4)));
     assert!(rt; outcome.has_ended(&[Entry::Burnt { len: 4 }, Entry::Given { len: 4 }], 8));
-    Ok(())
-}
-
-/// Two batches of the jobs by two workers, at each of four desks at once.
-fn signed_at_once(
-    rt: &(impl AllocGlobal + Threads + Wait + Sync),
-    jobs: &[Job],
-) -> Result<Outcome, Fail> {
-    let store = store_at(rt.alloc(), key_of(&LEVELS, 0x11)?, 0)?;
-    let asked = Asked {
-        jobs,
-        lengths: &[8, 8],
-        workers: 2,
-        gate: &OpenGate,
-        at_once: true,
-    };
-    carry_out(rt, store, &asked)
-}
-
-/// Whether each of four desks counted two batches of eight in the end.
-fn are_counted(outcome: &Outcome) -> bool {
-    let mut is_right = true;
-    for last in [1, 3, 5, 7] {
-        is_right = is_right && outcome.has_counted(last, (2, 16, 0));
-    }
-    is_right
-}
-
-/// Whether the batches are valid, and begin at the multiples of 8 up to 56, each once.
-fn are_at_multiples(
-    rt: &(impl AllocGlobal + Threads + Sync),
-    outcome: &Outcome,
-    jobs: &[Job],
-) -> Result<bool, Fail> {
-    let multiples = [
-        Some(0),
-        Some(8),
-        Some(16),
-        Some(24),
-        Some(32),
-        Some(40),
-        Some(48),
-        Some(56),
-    ];
-    let public = public_key(rt, outcome.key)?;
-    let starts = starts_of(rt.alloc(), &public, outcome, jobs)?;
-    Ok(starts.as_slice() == multiples.as_slice())
-}
-
-/// Four threads sign two batches of eight jobs each.
-#[test]
-fn batches_at_once(rt: HostRuntime) -> Result<(), Fail> {
-    let jobs = jobs_of(rt.alloc(), 8)?;
-    let outcome = signed_at_once(&rt, &jobs)?;
-    assert!(rt; are_counted(&outcome));
-    assert!(rt; are_at_multiples(&rt, &outcome, &jobs)?);
-    assert!(rt; outcome.has_ended(&[Entry::Given { len: 8 }; 8], 64));
     Ok(())
 }
 

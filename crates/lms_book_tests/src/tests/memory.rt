@@ -30,7 +30,7 @@ fn fails(alloc: Global, store: &mut MemoryStore) -> bool {
 }
 
 #[test]
-fn a_store_fails_where_it_is_told_to(rt: HostRuntime) -> Result<(), Fail> {
+fn a_store_fails_as_planned(rt: HostRuntime) -> Result<(), Fail> {
     let mut store = store_of_a(rt.alloc())?;
     store.fail_replace(3, Left::New);
     store.stop_replace(5, Left::New);
@@ -65,7 +65,7 @@ fn gives(alloc: Global, store: &mut MemoryStore, text: &[u8]) -> bool {
 }
 
 #[test]
-fn a_store_reads_unless_told_to_fail(rt: HostRuntime) -> Result<(), Fail> {
+fn a_store_reads_unless_it_is_to_fail(rt: HostRuntime) -> Result<(), Fail> {
     let mut store = store_of_a(rt.alloc())?;
     assert!(rt; gives(rt.alloc(), &mut store, b"a"));
     store.fail_read(1);

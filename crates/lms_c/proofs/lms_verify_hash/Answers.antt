@@ -1,6 +1,6 @@
 use Rattle.std.proofs.Common.{refl}
 use Rattle.std.proofs.lemmas.Bool.{false≢true}
-use Rattle.lms_tree.specs.Heads.{lms_head}
+use Rattle.lms_verification.specs.Heads.{lms_head}
 use Rattle.lms_c.proofs.lms_verify_hash.Goals as goal
 
 pub returns-in_default-clause-verdict : goal.returns-in_default-clause-verdict

@@ -1,7 +1,7 @@
 //! What is asked of the files for what is kept of nodes, in which order, and what is there when a
 //! step failed.
 use super::nodes::{Kept, holds, kept_beside};
-use super::recording::{Journal, Told};
+use super::recording::{Journal, Reported};
 use super::replacing::{Scenario, over_recorded_files};
 use super::{empty_folder, is_missing};
 use lms_file_store::TryLock;
@@ -23,7 +23,7 @@ pub(super) enum NodesScenario {
     /// Reads fail.
     Reads,
     /// Something else than what is there is reported of it.
-    Told,
+    Reported,
 }
 
 const STATE: &str = "kept_nodes_steps/state";
@@ -164,31 +164,31 @@ fn reads_none_of<R: Files>(
     rt: &HostRuntime,
     kept: &Kept<R>,
     journal: &Journal,
-    told: Told,
+    reported: Reported,
     most: usize,
     count: usize,
 ) -> Result<bool, Fail> {
     journal.fail(usize::MAX, ErrorKind::Other)?;
-    journal.tell(told)?;
+    journal.report(reported)?;
     let none = kept.gives_none(most);
-    journal.tell(Told::Truth)?;
+    journal.report(Reported::Truth)?;
     Ok(none && journal.lines()? == first_steps(rt.alloc(), &READ_STEPS, count)?)
 }
 
 /// A device, a file of a terabyte and one for which there is no memory are not opened; a file that
 /// has more bytes than were reported is read to one more of them.
-fn meet_what_is_told<R: Files>(
+fn meet_what_is_reported<R: Files>(
     end: &impl Abort,
     rt: &HostRuntime,
     kept: &Kept<R>,
     journal: &Journal,
 ) -> Result<(), Fail> {
-    let (terabyte, no_memory) = (Told::File(1 << 40), Told::File(1 << 62));
+    let (terabyte, no_memory) = (Reported::File(1 << 40), Reported::File(1 << 62));
     assert!(end; kept.takes(b"old"));
-    assert!(end; reads_none_of(rt, kept, journal, Told::Device, usize::MAX, LOOKED_UP)?);
+    assert!(end; reads_none_of(rt, kept, journal, Reported::Device, usize::MAX, LOOKED_UP)?);
     assert!(end; reads_none_of(rt, kept, journal, terabyte, 5_000_000, LOOKED_UP)?);
     assert!(end; reads_none_of(rt, kept, journal, no_memory, usize::MAX, LOOKED_UP)?);
-    assert!(end; reads_none_of(rt, kept, journal, Told::File(1), usize::MAX, OPENED + 2)?);
+    assert!(end; reads_none_of(rt, kept, journal, Reported::File(1), usize::MAX, OPENED + 2)?);
     assert!(end; kept.gives(3, b"old"));
     Ok(())
 }
@@ -216,7 +216,7 @@ where
             Ok(())
         }
         NodesScenario::Reads => fail_to_read(end, rt, &kept, journal),
-        NodesScenario::Told => meet_what_is_told(end, rt, &kept, journal),
+        NodesScenario::Reported => meet_what_is_reported(end, rt, &kept, journal),
     }
 }
 
@@ -244,6 +244,6 @@ fn a_read_of_nodes_stops_where_a_step_fails(rt: HostRuntime) -> Result<(), Fail>
 }
 
 #[test]
-fn a_read_of_nodes_goes_by_what_is_told(rt: HostRuntime) -> Result<(), Fail> {
-    carry_out(&rt, &rt, NodesScenario::Told)
+fn a_read_of_nodes_uses_what_is_reported(rt: HostRuntime) -> Result<(), Fail> {
+    carry_out(&rt, &rt, NodesScenario::Reported)
 }

@@ -10,7 +10,7 @@ use std::sync::{Arc, Mutex};
 
 /// What is reported of what is at a path where it is looked up.
 #[derive(Clone, Copy)]
-pub(super) enum Told {
+pub(super) enum Reported {
     /// What is there.
     Truth,
     /// A plain file of so many bytes.
@@ -23,7 +23,7 @@ pub(super) enum Told {
 #[derive(Drop)]
 struct Record {
     lines: String,
-    told: Told,
+    reported: Reported,
     /// After how many operations one fails, and how. The ones after it go well again.
     failure: Option<(usize, ErrorKind)>,
 }
@@ -63,7 +63,7 @@ impl Journal {
     pub(super) fn new(alloc: Global) -> io::Result<Self> {
         let record = Record {
             lines: String::new(alloc),
-            told: Told::Truth,
+            reported: Reported::Truth,
             failure: None,
         };
         Ok(Journal {
@@ -87,15 +87,15 @@ impl Journal {
     }
 
     /// From now on this is reported of what is at a path.
-    pub(super) fn tell(&self, told: Told) -> io::Result<()> {
+    pub(super) fn report(&self, reported: Reported) -> io::Result<()> {
         let mut record = self.record.try_lock().ok_or(ErrorKind::ResourceBusy)?;
-        record.told = told;
+        record.reported = reported;
         Ok(())
     }
 
-    fn told(&self) -> io::Result<Told> {
+    fn reported(&self) -> io::Result<Reported> {
         let record = self.record.try_lock().ok_or(ErrorKind::ResourceBusy)?;
-        Ok(record.told)
+        Ok(record.reported)
     }
 
     /// The operations since.
@@ -247,10 +247,10 @@ impl<'a, R: Files> Files for RecordingFiles<'a, R> {
 
     fn symlink_metadata(&self, path: &str) -> io::Result<Metadata> {
         self.journal.step("look up", path)?;
-        match self.journal.told()? {
-            Told::Truth => self.files.symlink_metadata(path),
-            Told::File(size) => Ok(Metadata::of_file(size)),
-            Told::Device => self.files.symlink_metadata("/dev/null"),
+        match self.journal.reported()? {
+            Reported::Truth => self.files.symlink_metadata(path),
+            Reported::File(size) => Ok(Metadata::of_file(size)),
+            Reported::Device => self.files.symlink_metadata("/dev/null"),
         }
     }
 

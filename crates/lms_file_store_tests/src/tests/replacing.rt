@@ -250,7 +250,7 @@ fn fail_to_read(
 }
 
 #[test]
-fn a_read_tells_want_of_memory(rt: HostRuntime) -> Result<(), Fail> {
+fn a_read_reports_out_of_memory(rt: HostRuntime) -> Result<(), Fail> {
     empty_folder(&rt, "file_store_wants")?;
     over_recorded_files(&rt, &rt, "file_store_wants/state", Scenario::Reads)?;
     fs::remove_dir_all(&rt, "file_store_wants")?;
@@ -283,7 +283,7 @@ where
 
 /// The same while a lock is taken. Once that goes well, the store is there.
 #[test]
-fn a_lock_tells_want_of_memory(rt: HostRuntime) -> Result<(), Fail> {
+fn a_lock_reports_out_of_memory(rt: HostRuntime) -> Result<(), Fail> {
     empty_folder(&rt, "file_store_resolves")?;
     fs::write(&rt, NAME, b"old".as_slice())?;
     over_recorded_files(&rt, &rt, NAME, Scenario::Lock)?;

@@ -235,7 +235,7 @@ fn covers_and_signs_after_refused_memory(rt: HostRuntime) -> Result<(), Fail> {
 /// All memory for a key of one level is asked for before the first leaf. The merge check refuses
 /// each request in turn.
 #[test]
-fn no_leaf_is_worked_out_where_memory_is_refused(rt: HostRuntime) -> Result<(), Fail> {
+fn no_leaf_is_computed_where_memory_is_refused(rt: HostRuntime) -> Result<(), Fail> {
     let key = key_of(&[QUICK])?;
     assert!(rt; key.capacity() == 32);
     let sums = Sums::new();
@@ -250,7 +250,7 @@ fn no_leaf_is_worked_out_where_memory_is_refused(rt: HostRuntime) -> Result<(), 
 /// The top tree alone; then three levels, of which the lower two have two trees that the indices go
 /// through.
 #[test]
-fn tells_of_all_leaves(rt: HostRuntime) -> Result<(), Fail> {
+fn reports_all_leaves(rt: HostRuntime) -> Result<(), Fail> {
     let key = key_of(&[QUICK; 3])?;
     let sums = Sums::new();
     let _public = key.public_key_watched(&rt, rt.alloc(), &sums)?;

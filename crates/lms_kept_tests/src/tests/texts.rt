@@ -1,5 +1,5 @@
 //! Which texts are read.
-use crate::tests::{LEVEL, key_of, work_out};
+use crate::tests::{LEVEL, compute, key_of};
 use lms_fixtures::Sums;
 use lms_hss::{HssKey, KeyFault, Levels};
 use lms_kept::KeptTrees;
@@ -51,7 +51,7 @@ fn taken_change(
 #[test]
 fn takes_its_own_text_alone(rt: HostRuntime) -> Result<(), Fail> {
     let key = key_of(&[LEVEL; 2])?;
-    let mut text = work_out(&rt, key, 40, &Sums::new())?.text(rt.alloc())?;
+    let mut text = compute(&rt, key, 40, &Sums::new())?.text(rt.alloc())?;
     assert!(rt; text.len() == 16 + 64 * 32 + (1348 + 64 * 32) + 32);
     assert!(rt; text.starts_with(b"HSSN\0\0\0\x01\0\0\0\0\0\0\0\x28"));
     assert!(rt; is_taken(rt.alloc(), &key, &text)?);
@@ -66,7 +66,7 @@ fn takes_its_own_text_alone(rt: HostRuntime) -> Result<(), Fail> {
 #[test]
 fn takes_no_text_of_another_key(rt: HostRuntime) -> Result<(), Fail> {
     let key = key_of(&[LEVEL; 2])?;
-    let text = work_out(&rt, key, 0, &Sums::new())?.text(rt.alloc())?;
+    let text = compute(&rt, key, 0, &Sums::new())?.text(rt.alloc())?;
     let top = KeptTrees::top(&rt, rt.alloc(), key, &Sums::new())?.text(rt.alloc())?;
     assert!(rt; is_taken(rt.alloc(), &key, &text)? && is_taken(rt.alloc(), &key, &top)?);
     for other in others()? {

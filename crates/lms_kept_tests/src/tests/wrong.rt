@@ -1,7 +1,7 @@
 //! Texts with the right check value and wrong nodes, as only a holder of the seed can make them.
 ghost use Rattle.std.specs.Prelude.{◌≡◌, IfOk};
 
-use crate::tests::{QUICK, TALL_ABOVE, expected, key_of, moved, signed, work_out};
+use crate::tests::{QUICK, TALL_ABOVE, compute, expected, key_of, moved, signed};
 use lms_fixtures::Sums;
 use lms_hss::{HssKey, verify};
 use lms_kept::KeptTrees;
@@ -106,7 +106,7 @@ fn taken(rt: &impl AllocGlobal, key: HssKey, text: &[u8]) -> Result<KeptTrees, F
 #[test]
 fn gives_no_signature_by_a_changed_node(rt: HostRuntime) -> Result<(), Fail> {
     let key = key_of(&[QUICK])?;
-    let mut text = work_out(&rt, key, 0, &Sums::new())?.text(rt.alloc())?;
+    let mut text = compute(&rt, key, 0, &Sums::new())?.text(rt.alloc())?;
     let changed = at(&text, place(33)).map(|byte| byte ^ 1);
     set(&mut text, place(33), &changed);
     check_again(&key, &mut text);
@@ -122,7 +122,7 @@ fn gives_no_signature_by_a_changed_node(rt: HostRuntime) -> Result<(), Fail> {
 fn signs_what_is_refused_at_worst(rt: HostRuntime) -> Result<(), Fail> {
     let key = key_of(&[QUICK])?;
     let public = key.public_key(&rt, rt.alloc())?;
-    let mut text = work_out(&rt, key, 0, &Sums::new())?.text(rt.alloc())?;
+    let mut text = compute(&rt, key, 0, &Sums::new())?.text(rt.alloc())?;
     change_consistently(&key, &mut text);
     let trees = taken(&rt, key, &text)?;
     assert!(rt; trees.public() != public);
@@ -140,7 +140,7 @@ fn signs_what_is_refused_at_worst(rt: HostRuntime) -> Result<(), Fail> {
 #[test]
 fn signs_the_same_public_keys_at_worst(rt: HostRuntime) -> Result<(), Fail> {
     let key = key_of(&[QUICK; 2])?;
-    let mut text = work_out(&rt, key, 0, &Sums::new())?.text(rt.alloc())?;
+    let mut text = compute(&rt, key, 0, &Sums::new())?.text(rt.alloc())?;
     change_consistently(&key, &mut text);
     // Index 64 goes through leaf 2 of the top tree, which has node 16, over the changed leaf, in
     // its path.
@@ -159,7 +159,7 @@ fn signs_the_same_public_keys_at_worst(rt: HostRuntime) -> Result<(), Fail> {
 #[test]
 fn goes_on_to_no_other_subtree(rt: HostRuntime) -> Result<(), Fail> {
     let key = key_of(&TALL_ABOVE)?;
-    let mut text = work_out(&rt, key, 0, &Sums::new())?.text(rt.alloc())?;
+    let mut text = compute(&rt, key, 0, &Sums::new())?.text(rt.alloc())?;
     // Node 33 is the root of the second bottom subtree, whose first leaf index 32768 goes through.
     let start = TOP + 32 * 32;
     let changed = at(&text, start).map(|byte| byte ^ 1);
@@ -183,7 +183,7 @@ fn is_taken(rt: &impl AllocGlobal, key: &HssKey, text: &[u8]) -> Result<bool, Fa
 #[test]
 fn takes_no_other_form(rt: HostRuntime) -> Result<(), Fail> {
     let key = key_of(&[QUICK; 2])?;
-    let text = work_out(&rt, key, 0, &Sums::new())?.text(rt.alloc())?;
+    let text = compute(&rt, key, 0, &Sums::new())?.text(rt.alloc())?;
     assert!(rt; is_taken(&rt, &key, &text)?);
     for place in [0, 3, 4, 7, 8, 13] {
         let mut other = Vec::from_slice(rt.alloc(), &text)?;

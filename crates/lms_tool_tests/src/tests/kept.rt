@@ -1,6 +1,6 @@
 //! What `keygen` and `sign` keep of a key's trees beside its state.
 use super::arguments::{CHEAP, CHEAP_TWICE, ONE, SIGN, TWO, keygen};
-use super::meter::tells_of;
+use super::meter::reports;
 use super::states::{is_with, keyed, store_at};
 use super::{Closed, VERIFY, fails_with, is_unprinted, says};
 use lms_book::Left;
@@ -41,19 +41,19 @@ fn signs(
 
 /// `keygen` keeps the top tree, `sign` those below it, and what is kept is not computed again.
 #[test]
-fn what_is_kept_is_not_worked_out_again(rt: HostRuntime) -> Result<(), Fail> {
+fn what_is_kept_is_not_computed_again(rt: HostRuntime) -> Result<(), Fail> {
     let mut world = MemoryWorld::new(rt.alloc());
     world.write(&mut Log::new(), "text", b"abc")?;
-    assert!(rt; tells_of(&rt, &keygen("5/2,5/2"), &mut world, b"", 32));
+    assert!(rt; reports(&rt, &keygen("5/2,5/2"), &mut world, b"", 32));
     let top = kept(rt.alloc(), &world)?;
-    assert!(rt; tells_of(&rt, &SIGN, &mut world, b"", 32));
+    assert!(rt; reports(&rt, &SIGN, &mut world, b"", 32));
     let first = kept(rt.alloc(), &world)?;
     assert!(rt; first != top);
-    assert!(rt; tells_of(&rt, &SIGN, &mut world, b"", 0));
+    assert!(rt; reports(&rt, &SIGN, &mut world, b"", 0));
     world.set_state(store_at(rt.alloc(), &CHEAP_TWICE, 31)?);
-    assert!(rt; tells_of(&rt, &SIGN, &mut world, b"", 0));
+    assert!(rt; reports(&rt, &SIGN, &mut world, b"", 0));
     assert!(rt; kept(rt.alloc(), &world)? == first);
-    assert!(rt; tells_of(&rt, &SIGN, &mut world, b"", 32));
+    assert!(rt; reports(&rt, &SIGN, &mut world, b"", 32));
     assert!(rt; kept(rt.alloc(), &world)? != first);
     assert!(rt; says(&rt, &VERIFY, &mut world, 0, "valid\n"));
     Ok(())

@@ -94,7 +94,7 @@ fn texts_of_clap_are_passed_on(rt: HostRuntime) {
 }
 
 #[test]
-fn the_longest_lines_have_room(rt: HostRuntime) -> Result<(), Fail> {
+fn the_longest_lines_fit(rt: HostRuntime) -> Result<(), Fail> {
     let mut world = keyed_with(rt.alloc(), &EIGHT, 1 << 60, 1 << 60, 1 << 60)?;
     let lines = "levels 10/8,10/8,10/8,10/8,5/8,5/8,5/8,5/8\n|!\
         counter 1152921504606846976\n|!capacity 1152921504606846976\n|!left 0\n|!\
@@ -104,7 +104,7 @@ fn the_longest_lines_have_room(rt: HostRuntime) -> Result<(), Fail> {
 }
 
 #[test]
-fn the_longest_fault_has_room(rt: HostRuntime) -> Result<(), Fail> {
+fn the_longest_fault_fits(rt: HostRuntime) -> Result<(), Fail> {
     let mut errors = Marked(Vec::new(rt.alloc()));
     let fault = Fault::WriteStateBurnt {
         start: u64::MAX,

@@ -154,7 +154,7 @@ impl Progress for Sums {
 }
 
 /// Whether a run is done, announces so many leaves, and reports each.
-pub(super) fn tells_of(
+pub(super) fn reports(
     rt: &(impl Threads + Wait + AllocGlobal + Sync),
     arguments: &[&str],
     world: &mut MemoryWorld,
@@ -187,13 +187,13 @@ pub(super) fn tells_of(
 }
 
 #[test]
-fn keygen_sign_and_batch_tell_of_their_leaves(rt: HostRuntime) -> Result<(), Fail> {
+fn keygen_sign_and_batch_report_their_leaves(rt: HostRuntime) -> Result<(), Fail> {
     let mut world = MemoryWorld::new(rt.alloc());
     world.write(&mut Log::new(), "text", b"abc")?;
-    assert!(rt; tells_of(&rt, &keygen("5/2,5/2"), &mut world, b"", 32));
-    assert!(rt; tells_of(&rt, &SIGN, &mut world, b"", 32));
-    assert!(rt; tells_of(&rt, &batch("2"), &mut world, TWO_LINES.as_bytes(), 64));
-    assert!(rt; tells_of(&rt, &INFO, &mut world, b"", 0));
+    assert!(rt; reports(&rt, &keygen("5/2,5/2"), &mut world, b"", 32));
+    assert!(rt; reports(&rt, &SIGN, &mut world, b"", 32));
+    assert!(rt; reports(&rt, &batch("2"), &mut world, TWO_LINES.as_bytes(), 64));
+    assert!(rt; reports(&rt, &INFO, &mut world, b"", 0));
     Ok(())
 }
 
@@ -217,7 +217,7 @@ impl Print for Closed {
 
 /// Output comes whole where standard error is closed.
 #[test]
-fn what_can_not_be_told_is_left_out(rt: HostRuntime) -> Result<(), Fail> {
+fn what_can_not_be_printed_is_left_out(rt: HostRuntime) -> Result<(), Fail> {
     let clock = SetClock::new();
     let meter = Meter::new(&clock, &Closed, true);
     let mut output = Wiping::new(&meter, Marked(Vec::new(rt.alloc())));

@@ -53,7 +53,7 @@ fn built(
 
 /// One bottom subtree, and two neighbours of 32.
 #[test]
-fn each_leaf_is_told_once(rt: HostRuntime) -> Result<(), Fail> {
+fn each_leaf_is_reported_once(rt: HostRuntime) -> Result<(), Fail> {
     for (lms, first, last, leaves) in [(LmsType::H5, 3, 7, 32), (LmsType::H15, 1023, 1024, 32768)] {
         let sums = Sums::new();
         let begun = Begun::new(&sums, leaves);
@@ -66,7 +66,7 @@ fn each_leaf_is_told_once(rt: HostRuntime) -> Result<(), Fail> {
 
 /// All memory is asked for before the first leaf. The merge check refuses each request in turn.
 #[test]
-fn no_leaf_is_worked_out_where_memory_is_refused(rt: HostRuntime) {
+fn no_leaf_is_computed_where_memory_is_refused(rt: HostRuntime) {
     let sums = Sums::new();
     match built(&rt, LmsType::H5, 3, 9, &Begun::new(&sums, 32)) {
         Ok(_) => assert!(rt; sums.are(32, 32)),

@@ -5,5 +5,5 @@ use Rattle.lms_cli.proofs.run.report.Goals as goal
 pub returns-clause-status : goal.returns-clause-status
 returns-clause-status g c = search rules
 
-pub returns-clause-told : goal.returns-clause-told
-returns-clause-told g c = any_front _ _ _ _ c.print_fault.ensures.printed c.print_fault.ensures.broken
+pub returns-clause-line : goal.returns-clause-line
+returns-clause-line g c = any_front _ _ _ _ c.print_fault.ensures.printed c.print_fault.ensures.broken

@@ -9,8 +9,8 @@ use Rattle.lms_kept.specs.Ways.{Way}
 use Rattle.lms_world.specs.Events.{Asked, Printing, Written}
 use Rattle.lms_world.specs.Known.{Bytes}
 use Rattle.lms_texts.specs.Descriptions.{number_line}
-use Rattle.lms_commands.specs.KeygenLogs.{AreGenuineTrees, IsUnpublished, StoresKey, WritesKey}
-use Rattle.lms_commands.specs.Logs.{LogsKeeping, WorldCalls}
+use Rattle.lms_commands.specs.KeygenLogs.{AreGenuineTrees, StoresKey, WritesKey}
+use Rattle.lms_commands.specs.Logs.{IsUnpublished, LogsKeeping, WorldCalls}
 use Rattle.lms_commands.proofs.Logged.{unmade}
 use Rattle.lms_commands.proofs.Failing.{both_ok, not_published}
 use Rattle.lms_commands.proofs.StayingRight.{only_from, right_still, stays_right}

@@ -1,5 +1,5 @@
 use Rattle.std.proofs.Common.{[]}
-use Rattle.lms_tree.proofs.Denials.{Decides-never}
+use Rattle.lms_verification.proofs.Denials.{Decides-never}
 use Rattle.lms_hss.proofs.verification.verify_with.Goals as goal
 
 pub returns-in_default : goal.returns-in_default

@@ -9,7 +9,7 @@ use Rattle.lms_image.proofs.Parts.{wrong-length, laid-out, damaged, whole, fault
 use Rattle.lms_image.proofs.Images.{is-read, read-image, read-counted, read-counter-too-high, read-opening-too-high, read-burnt-too-high, read-no-fault}
 use Rattle.lms_image.proofs.image.decode_image.Goals as goal
 
--- a fault that `?` hands on
+-- a fault that `?` forwards
 handed-on : {T : Type 0} (text : List ℕ) (result : Result T ImageFault) (fault : ImageFault) → IsErrAnd result (λ e. e ≡ fault)
     → fault_of text ≡ Some fault → MatchResult result (λ x. fault_of text ≡ None) (λ e. fault_of text ≡ Some e)
 handed-on text (Ok x) fault is e = absurd is

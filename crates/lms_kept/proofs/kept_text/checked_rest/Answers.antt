@@ -7,7 +7,7 @@ use Rattle.lms_kept.specs.Ways.{check_of, nodes_header}
 use Rattle.lms_kept.proofs.KeptTexts.{body-same}
 use Rattle.lms_kept.proofs.kept_text.checked_rest.Goals as goal
 
--- what stands before the check value begins with no header
+-- what is before the check value begins with no header
 no-header : {A : Type 0} (r : Option A) (key : HssKey) (text body : List ℕ) → text ≡ body ++ check_of key body
     → IfNone r ((at : ℕ) (rest : List ℕ) → at < 2 ^ 64 → ¬ (body ≡ nodes_header at ++ rest))
     → IfNone r ((at : ℕ) (rest : List ℕ) → at < 2 ^ 64 → ¬ (text ≡ (nodes_header at ++ rest) ++ check_of key (nodes_header at ++ rest)))

@@ -7,7 +7,7 @@ abbrev pub invariant-loop : goal.invariant-loop
 invariant-loop g l = record {
   desks : l.desks.items ≡ replicate l.counter (sums 0 0 0);
   len : vec_len l.desks ≡ l.counter;
-  room : vec_capacity l.desks ≡ vec_capacity l.initial.desks;
+  capacity : vec_capacity l.desks ≡ vec_capacity l.initial.desks;
   parts : l.shares.parts + l.counter ≡ l.count + 1;
   counted : l.shares.counted ≡ l.initial.shares.counted;
 }

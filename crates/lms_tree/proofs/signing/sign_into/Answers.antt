@@ -25,7 +25,7 @@ returns-clause-signature g c =
     let after = length (head ++ rest) - start in
     let ots_long : c.sig_len-path_start.result ≡ _
     = c.sig_len-path_start.ensures ∙ ap (λ (key : TreeKey). ots_signature_length (ots_set_of key.ots)) same in
-    let long : length head ≡ start = omega (arith, length-take-le start c.args.out.now (omega (arith, ots_long, c.requires.room))) in
+    let long : length head ≡ start = omega (arith, length-take-le start c.args.out.now (omega (arith, ots_long, c.requires.long))) in
     let of_key : head ≡ _
     = c.write_head.ensures
     ∙ ap (λ (key : TreeKey). u32str c.args.q ++ ots_signature (ots_set_of key.ots) key.i key.seed c.args.q c.args.c.now c.args.msg.now ++ u32str (lms_set_of key.lms).code) same in

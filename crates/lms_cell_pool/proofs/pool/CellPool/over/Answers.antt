@@ -8,7 +8,7 @@ push_reserved-requires g c =
     let inv = c.loop-number.invariant in
     let pool : PoolState = record { table = c.in-Ok-ruled.cell.table.shared.table_id; key = c.key-key.result; start = c.start-start.result; len = c.len-len.result; seats = c.args.seats } in
     let count = length-map-below (new_seat pool) c.loop-number.number in
-    omega (arith, c.loop-number.all_seats.ok.0, ap (length {A = SeatState}) inv.seats, count, inv.room, c.loop-number-test.true)
+    omega (arith, c.loop-number.all_seats.ok.0, ap (length {A = SeatState}) inv.seats, count, inv.capacity, c.loop-number-test.true)
 
 pub loop-number-preserved : goal.loop-number-preserved
 loop-number-preserved g c =
@@ -17,7 +17,7 @@ loop-number-preserved g c =
     let pool : PoolState = record { table = c.in-Ok-ruled.cell.table.shared.table_id; key = c.key-key.result; start = c.start-start.result; len = c.len-len.result; seats = c.args.seats } in
     record {
       rest = c.part-seat.ensures.rest;
-      room = c.push_reserved.ensures.capacity ∙ inv.room;
+      capacity = c.push_reserved.ensures.capacity ∙ inv.capacity;
       seats = c.push_reserved.ensures.items ∙ ap (λ (seats : List SeatState). seats ++ c.part-seat.result ∷ []) inv.seats ∙ ap (λ (s : SeatState). new_seats pool c.loop-number.number ++ s ∷ []) seat
           ∙ sym (map-below-push (new_seat pool) c.loop-number.number);
     }

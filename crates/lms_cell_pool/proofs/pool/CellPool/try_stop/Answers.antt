@@ -37,9 +37,9 @@ invariant_of-me-in-Ok g c =
     let seen = c.load_as-found.result in
     let low : seen.taken < me.pool.value.len = omega (arith, long, c.if-found-self.false) in
     let is = still me c.me.invariant Stop seen _ c.load_as-found.ensures.rule low in
-    let told = c.in-Ok.ensures.rule in
-    let found = ap (λ (x : Places). x.taken) (same_places c.in-Ok.field-0 seen told.0) in
-    let after = told.1 me.pool.value.seats (own_hand me) is in
+    let rule = c.in-Ok.ensures.rule in
+    let found = ap (λ (x : Places). x.taken) (same_places c.in-Ok.field-0 seen rule.0) in
+    let after = rule.1 me.pool.value.seats (own_hand me) is in
     let burnt : me.pool.value.len - min c.in-Ok.field-0.taken me.pool.value.len ≡ len - seen.taken = omega (arith, found, low, long) in
     let made = subst (λ (n : ℕ). Makes Stop (Count n) (own_hand me) after.0) burnt (after.2.1 (omega (arith, found, low, long))) in
     (after_call me c.me.invariant Stop (Count (len - seen.taken)) _ after.0 after.1 made).stays (me.stopped + (len - seen.taken)) _

@@ -22,7 +22,7 @@ overflow_sub-tree_number c =
     let facts = range-leaves key c.args.k c.args.start c.args.last c.args.number there c.requires.order c.requires.from c.requires.to in
     omega (arith, facts, ap (λ h. c.args.number * 2 ^ h) same, c.tree_number-2.ensures)
 
--- the numbers from which the ends are worked out
+-- the numbers from which the ends are computed
 pub parts : (c : goal.After-min-last) → let key = hss_key_of c.args.self.now in let size = 2 ^ (level key c.args.k).lms.h in
     (c.args.k < length key.levels) × (0 < size)
     × (size ≤ 2 ^ 25)

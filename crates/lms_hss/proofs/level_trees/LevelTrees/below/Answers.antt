@@ -94,7 +94,7 @@ loop-number-preserved g c =
     (c.leaves-leaves.ensures.from i from e) (c.leaves-leaves.ensures.to i to e) c.in_ok-child.ensures) in
     record {
       count = omega (arith, c.loop-number.invariant.count, ap length more, length-append trees (tree ∷ []));
-      room = omega (arith, c.loop-number.invariant.room, c.push_reserved.ensures.capacity);
+      capacity = omega (arith, c.loop-number.invariant.capacity, c.push_reserved.ensures.capacity);
       held = subst (HoldsTrees key (k + 1) c.args.start c.args.last c.tree_number-first.result) (sym more) held;
     }
 

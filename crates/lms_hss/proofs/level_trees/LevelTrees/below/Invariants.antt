@@ -6,6 +6,6 @@ use Rattle.lms_hss.proofs.level_trees.LevelTrees.below.Given as goal
 abbrev pub invariant-loop-number : goal.invariant-loop-number
 invariant-loop-number g l = record {
   count : l.first + length l.trees.items ≡ l.number;
-  room : l.end ≤ l.first + vec_capacity l.trees;
+  capacity : l.end ≤ l.first + vec_capacity l.trees;
   held : HoldsTrees (hss_key_of l.key) (l.k + 1) l.start l.last l.first l.trees.items;
 }

@@ -1,6 +1,6 @@
 use Rattle.std.proofs.Common.{◌≡◌, ◌++◌, ◌∙◌, sym, ap, ap₂, arith, subst, length, length-drop, append_assoc, take-append-drop}
 use Rattle.std.proofs.lemmas.List.{length-take-le}
-use Rattle.lms_tree.specs.Parts.{HasSignaturesOf}
+use Rattle.lms_verification.specs.Parts.{HasSignaturesOf}
 use Rattle.lms_hss.proofs.Bottoms.{cut-long}
 use Rattle.lms_hss.proofs.SignedKeys.{accepted-long}
 use Rattle.lms_hss.proofs.verification.SignedKey.parse.Goals as goal

@@ -1,7 +1,7 @@
 use Rattle.std.proofs.Common.{ℕ, List, ◌≡◌, ◌-◌, ◌++◌, sym, subst, arith}
 use Rattle.lms_spec.specs.Bytes.{u32str}
 use Rattle.lms_spec.specs.Hss.{AcceptsThrough}
-use Rattle.lms_tree.proofs.SameParts.{parts-taken}
+use Rattle.lms_verification.proofs.SameParts.{parts-taken}
 use Rattle.lms_hss.specs.Bottoms.{Reaches}
 use Rattle.lms_hss.proofs.Bottoms.{never-reaches, no-head-by-numbers, parts-by-numbers}
 use Rattle.lms_hss.proofs.SignedKeys.{never-through}

@@ -108,7 +108,7 @@ loop-k-preserved g c =
     } in
     record {
       count = next-count _ _ _ _ _ _ _ _ _ _ _ is;
-      room = omega (arith, here.room, c.push_reserved.ensures.capacity);
+      capacity = omega (arith, here.capacity, c.push_reserved.ensures.capacity);
       on = next-on _ _ _ _ _ _ _ _ _ _ _ is;
       same = λ i other first. next-same _ _ _ _ _ _ _ _ _ _ _ is i other (omega (arith, first, c.loop-k.auto.k, c.len-k.ensures)) ∙ here.same i other first;
       signs = next-signs _ _ _ _ _ _ _ _ _ _ _ is _ here.signs;

@@ -7,7 +7,7 @@ use Rattle.lms_kept.proofs.kept_trees.KeptTrees.completed.Given as goal
 abbrev pub invariant-loop-k : goal.invariant-loop-k
 invariant-loop-k g l = record {
   count : length l.levels.items ≡ l.k;
-  room : l.count ≤ vec_capacity l.levels;
+  capacity : l.count ≤ vec_capacity l.levels;
   on : (j : ℕ) (other : KeptLevel) → j < l.k → IsOnWay (hss_key_of l.key) l.at j (get_or l.levels.items j other);
   same : (j : ℕ) (other : KeptLevel) → j < length l.initial.levels.items → get_or l.levels.items j other ≡ get_or l.initial.levels.items j other;
   signs : SignOwnKeys (hss_key_of l.key) l.at (length l.initial.levels.items) l.levels.items;

@@ -6,7 +6,7 @@ use Rattle.lms_spec.specs.Hss.{capacity_of}
 use Rattle.lms_hss.specs.declared.key.HssKey.{HssKey}
 use Rattle.lms_hss.specs.Keys.{hss_key_of}
 use Rattle.lms_kept.specs.Ways.{body_text, check_of, level_text, nodes_header}
-use Rattle.lms_kept.proofs.KeptTexts.{none-left, told}
+use Rattle.lms_kept.proofs.KeptTexts.{none-left, read_back}
 use Rattle.lms_kept.proofs.kept_trees.KeptTrees.read.Goals as goal
 
 pub returns-clause-text : goal.returns-clause-text
@@ -27,7 +27,7 @@ returns-in_default-clause-none c way is same e =
 pub returns-then-is_empty-clause-none : goal.returns-then-is_empty-clause-none
 returns-then-is_empty-clause-none c way is same e =
     let limit : capacity_of (hss_key_of c.args.key) ≤ 2 ^ 60 = omega (arith, c.capacity-capacity.ensures.capacity, c.capacity-capacity.ensures.limit) in
-    let says = told c.args.key way c.args.text.now c.in-Some.rest.now c.in-Some.at limit is same c.in-Some.ensures.some c.in-Some.ensures.fits e in
+    let says = read_back c.args.key way c.args.text.now c.in-Some.rest.now c.in-Some.at limit is same c.in-Some.ensures.some c.in-Some.ensures.fits e in
     let count = none-left c.args.key way c.in-Some.at c.in_ok-levels.levels.items c.in-Some.rest.now c.in_ok-levels.rest.now is same says.0 says.1 c.in_ok-levels.ensures.text
     c.in_ok-levels.ensures.each c.in_ok-levels.ensures.ends in
     let empty : length c.in_ok-levels.levels.items ≡ 0 = search rules in
@@ -36,7 +36,7 @@ returns-then-is_empty-clause-none c way is same e =
 pub returns-then-not-is_empty-clause-none : goal.returns-then-not-is_empty-clause-none
 returns-then-not-is_empty-clause-none c way is same e =
     let limit : capacity_of (hss_key_of c.args.key) ≤ 2 ^ 60 = omega (arith, c.capacity-capacity.ensures.capacity, c.capacity-capacity.ensures.limit) in
-    let says = told c.args.key way c.args.text.now c.in-Some.rest.now c.in-Some.at limit is same c.in-Some.ensures.some c.in-Some.ensures.fits e in
+    let says = read_back c.args.key way c.args.text.now c.in-Some.rest.now c.in-Some.at limit is same c.in-Some.ensures.some c.in-Some.ensures.fits e in
     let count = none-left c.args.key way c.in-Some.at c.in_ok-levels.levels.items c.in-Some.rest.now c.in_ok-levels.rest.now is same says.0 says.1 c.in_ok-levels.ensures.text
     c.in_ok-levels.ensures.each c.in_ok-levels.ensures.ends in
     let left : length c.in_ok-levels.rest.now ≢ 0 = search rules in

@@ -20,20 +20,20 @@ fetch_add-place-requires c =
 pub invariant_of-me : goal.invariant_of-me
 invariant_of-me c =
     let me = c.me.inside in
-    let told = c.fetch_add-place.ensures in
+    let step = c.fetch_add-place.ensures in
     let long = ap (λ (s : SeatState). s.pool.len) c.me.view_is ∙ ap (λ (p : PoolState). p.len) (c.requires.pool ∙ sym c.self.view_is) in
     let some = c.self.invariant.of_lease.lease.some in
     let sees = draw_ends me.pool.value.len c.fetch_add-place.result (omega (arith, long, some)) (omega (arith, long, c.if-place-self.true)) in
-    (after_call me c.me.invariant Claim (reply_at me.pool.value.len c.fetch_add-place.result Claim) _ _ told.2 refl).stays me.stopped true _ told.0 (omega arith) sees
+    (after_call me c.me.invariant Claim (reply_at me.pool.value.len c.fetch_add-place.result Claim) _ _ step.2 refl).stays me.stopped true _ step.0 (omega arith) sees
 
 pub invariant_of-me-else-place-self : goal.invariant_of-me-else-place-self
 invariant_of-me-else-place-self c =
     let me = c.me.inside in
-    let told = c.fetch_add-place.ensures in
+    let step = c.fetch_add-place.ensures in
     let long = ap (λ (s : SeatState). s.pool.len) c.me.view_is ∙ ap (λ (p : PoolState). p.len) (c.requires.pool ∙ sym c.self.view_is) in
     let before = subst (λ (s : SeatState). seen s < s.pool.len) (sym c.me.view_is) (subst (λ (p : PoolState). seen c.args.me.now < p.len) (sym c.requires.pool) c.requires.before) in
     let sees = not_ended me c.me.invariant before ∙ draw_leaves me.pool.value.len c.fetch_add-place.result (omega (arith, long, c.if-place-self.false)) in
-    (after_call me c.me.invariant Claim (reply_at me.pool.value.len c.fetch_add-place.result Claim) _ _ told.2 refl).stays me.stopped me.has_seen_end _ told.0 (omega arith) sees
+    (after_call me c.me.invariant Claim (reply_at me.pool.value.len c.fetch_add-place.result Claim) _ _ step.2 refl).stays me.stopped me.has_seen_end _ step.0 (omega arith) sees
 
 pub returns-then-place-self : goal.returns-then-place-self
 returns-then-place-self c =

@@ -21,14 +21,14 @@ pub invariant_of-me : goal.invariant_of-me
 invariant_of-me c =
     let me = c.me.inside in
     let before = subst (λ (s : SeatState). seen s ≡ s.pool.len) (sym c.me.view_is) (c.requires.before ∙ ap (λ (p : PoolState). p.len) (sym c.requires.pool)) in
-    let told = c.load.ensures in
-    let end = after_load me c.me.invariant c.load.result _ told.2 before in
-    (after_call me c.me.invariant Claim Ended _ _ told.2 end.0).stays me.stopped me.has_seen_end _ told.0 (omega arith) end.1
+    let step = c.load.ensures in
+    let end = after_load me c.me.invariant c.load.result _ step.2 before in
+    (after_call me c.me.invariant Claim Ended _ _ step.2 end.0).stays me.stopped me.has_seen_end _ step.0 (omega arith) end.1
 
 pub returns : goal.returns
 returns c =
     let me = c.me.inside in
     let before = subst (λ (s : SeatState). seen s ≡ s.pool.len) (sym c.me.view_is) (c.requires.before ∙ ap (λ (p : PoolState). p.len) (sym c.requires.pool)) in
-    let told = c.load.ensures in
-    let end = after_load me c.me.invariant c.load.result _ told.2 before in
-    (after_call me c.me.invariant Claim Ended _ _ told.2 end.0).makes c.args.me.now c.me.view_is
+    let step = c.load.ensures in
+    let end = after_load me c.me.invariant c.load.result _ step.2 before in
+    (after_call me c.me.invariant Claim Ended _ _ step.2 end.0).makes c.args.me.now c.me.view_is

@@ -16,10 +16,10 @@ load-found-requires c =
 pub invariant_of-me : goal.invariant_of-me
 invariant_of-me c =
     let me = c.me.inside in
-    let told = c.load-found.ensures in
+    let step = c.load-found.ensures in
     let same = ap (λ (s : SeatState). s.pool) c.me.view_is ∙ c.requires ∙ sym c.self.view_is in
     let sees = c.write_change.ensures ∙ ap (λ (p : PoolState). leb p.len c.load-found.result) (sym same) ∙ look_ends me.pool.value.len c.load-found.result in
-    (after_call me c.me.invariant calls.Look (Count (min c.load-found.result me.pool.value.len)) _ _ told.2 refl).stays me.stopped _ _ told.0 (omega arith) sees
+    (after_call me c.me.invariant calls.Look (Count (min c.load-found.result me.pool.value.len)) _ _ step.2 refl).stays me.stopped _ _ step.0 (omega arith) sees
 
 pub returns-clause-call : goal.returns-clause-call
 returns-clause-call c =

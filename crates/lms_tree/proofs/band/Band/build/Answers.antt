@@ -25,7 +25,7 @@ fill_lowest_row-requires-clause-in_tree g c κs within =
     let first = ap (λ (row : Row). row.first) c.row-lowest.ensures.row in
     let all = ap (λ (row : Row). row.place + row.count) c.row-lowest.ensures.row in
     let count = ap (λ (row : Row). row.count) c.row-lowest.ensures.row in
-    omega (arith, fits, first, all, count, lowest-ends rows, c.requires.room)
+    omega (arith, fits, first, all, count, lowest-ends rows, c.requires.count)
 
 pub fill_upper_rows-requires-clause-lowest : goal.fill_upper_rows-requires-clause-lowest
 fill_upper_rows-requires-clause-lowest g c =
@@ -33,7 +33,7 @@ fill_upper_rows-requires-clause-lowest g c =
     let row = c.row-lowest.result in
     let all = ap (λ (row : Row). row.place + row.count) c.row-lowest.ensures.row in
     let ends = lowest-ends rows in
-    let same : length c.fill_lowest_row.new.row ≡ length c.args.room.items - row.place = grind (arith, common_steps) in
+    let same : length c.fill_lowest_row.new.row ≡ length c.args.memory.items - row.place = grind (arith, common_steps) in
     in-place c.args.key row (row_of rows rows.depth) _ c.fill_lowest_row.new.row _ c.row-lowest.ensures.row
-    (length-take-le row.place c.as_mut_slice-all.result.now (omega (arith, all, ends, c.requires.room)))
-    (omega (arith, same, all, ends, c.requires.room)) c.fill_lowest_row.ensures
+    (length-take-le row.place c.as_mut_slice-all.result.now (omega (arith, all, ends, c.requires.count)))
+    (omega (arith, same, all, ends, c.requires.count)) c.fill_lowest_row.ensures

@@ -14,7 +14,7 @@ ilog2-level-requires c =
     let needed = subst (λ (v : ServedLeaves). IsNeeded (tree_of v.key).lms.h v.first v.last c.args.r) (sym c.self.view_is) c.requires in
     omega (arith, needed-in-tree h self.first self.last c.args.r c.self.invariant.in_tree needed)
 
--- where a node that is needed stands in the lower rows
+-- where a needed node is in the lower rows
 stands : (c : goal.Else-level-top) → (c.ilog2-level.result - c.depth-top.result ≤ c.self.inside.lower.rows.depth)
     × (c.self.inside.lower.rows.first * 2 ^ (c.ilog2-level.result - c.depth-top.result) ≤ c.args.r)
     × (c.args.r < (c.self.inside.lower.rows.first + c.self.inside.lower.rows.width) * 2 ^ (c.ilog2-level.result - c.depth-top.result))

@@ -6,7 +6,7 @@ use Rattle.lms_tree.specs.Held.{RowsOf}
 use Rattle.lms_tree.specs.Kept.{AreNodes, KeptNodes, subtree_root, upper_height}
 use Rattle.lms_tree.proofs.kept_tree.KeptTree.moved_to.Goals as goal
 
--- among nodes of the tree stands the root of each bottom subtree
+-- among nodes of the tree is the root of each bottom subtree
 root-stands : (kept : KeptNodes) (n : ℕ) → n < 2 ^ upper_height (tree_of kept.key).lms.h → AreNodes kept
     → get_or kept.upper (2 ^ upper_height (tree_of kept.key).lms.h - 1 + n) [] ≡ node (tree_of kept.key) (subtree_root (tree_of kept.key).lms.h n)
 root-stands kept n low genuine =

@@ -17,7 +17,7 @@ some kept r p = omega (arith, needed-in-tree (tree_of kept.key).lms.h p.0 p.0 r 
 pub ilog2-level-requires : goal.ilog2-level-requires
 ilog2-level-requires c = some c.args.self.now c.args.r c.requires
 
--- where a node that is needed stands in the rows of the bottom subtree
+-- where a needed node is in the rows of the bottom subtree
 found : (kept : KeptNodes) (r level : ℕ) → Needs kept r → 2 ^ level ≤ r → r < 2 * 2 ^ level → (upper_rows (tree_of kept.key).lms.h).depth < level
     → (level - (upper_rows (tree_of kept.key).lms.h).depth ≤ bottom_height (tree_of kept.key).lms.h)
     × ((subtree_rows (tree_of kept.key).lms.h kept.subtree).first * 2 ^ (level - (upper_rows (tree_of kept.key).lms.h).depth) ≤ r)

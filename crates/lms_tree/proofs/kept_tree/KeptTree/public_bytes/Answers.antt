@@ -6,7 +6,7 @@ use Rattle.lms_tree.specs.TreeKey.{tree_of}
 use Rattle.lms_tree.specs.Kept.{AreNodes, given_public, KeptNodes}
 use Rattle.lms_tree.proofs.kept_tree.KeptTree.public_bytes.Goals as goal
 
--- the root stands first among the tree's nodes
+-- the root is first among the tree's nodes
 root-first : (kept : KeptNodes) → AreNodes kept → get_or kept.upper 0 [] ≡ node (tree_of kept.key) 1
 root-first kept right = right.upper_are.each 0 (omega arith) 0 (omega arith)
 

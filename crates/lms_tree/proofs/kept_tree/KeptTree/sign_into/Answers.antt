@@ -26,7 +26,7 @@ parts c =
     let after = length (head ++ rest) - start in
     let ots_long : c.sig_len-path_start.result ≡ _
     = c.sig_len-path_start.ensures ∙ ap (λ (key : TreeKey). ots_signature_length (ots_set_of key.ots)) same in
-    let long : length head ≡ start = omega (arith, length-take-le start c.args.out.now (omega (arith, ots_long, c.requires.room))) in
+    let long : length head ≡ start = omega (arith, length-take-le start c.args.out.now (omega (arith, ots_long, c.requires.long))) in
     let of_key : head ≡ _
     = c.write_head.ensures
     ∙ ap (λ (key : TreeKey). u32str c.args.q ++ ots_signature (ots_set_of key.ots) key.i key.seed c.args.q c.args.c.now c.args.msg.now ++ u32str (lms_set_of key.lms).code) same in
@@ -35,7 +35,7 @@ parts c =
     ∙ (ap (λ text. head ++ text) (append-nil path) ∙ ap (λ x. x ++ path) of_key))
 
 pub returns-clause-along : goal.returns-clause-along
-returns-clause-along c = record { path = c.write_path.new.out; path_length = c.write_path.ensures.room; parts = parts c }
+returns-clause-along c = record { path = c.write_path.new.out; path_length = c.write_path.ensures.long; parts = parts c }
 
 pub returns-clause-signature : goal.returns-clause-signature
 unfolding lms_signature

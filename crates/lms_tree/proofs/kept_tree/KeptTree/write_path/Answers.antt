@@ -33,6 +33,6 @@ returns-clause-path c right =
     let tall : (lms_set_of c.self.inside.key.lms).h ≡ tree.lms.h = ap (λ (v : KeptNodes). (tree_of v.key).lms.h) c.self.view_is in
     let f : ℕ → List ℕ = λ level. node tree (sibling ((2 ^ tree.lms.h + c.args.q) / 2 ^ level)) in
     let end : c.loop-level.level ≡ tree.lms.h = omega (arith, tall, c.height-level-end.ensures, c.loop-level-test.false, c.loop-level.auto.level-end) in
-    let long : length c.loop-level.out ≡ 32 * tree.lms.h = c.loop-level.auto.out ∙ c.requires.room in
+    let long : length c.loop-level.out ≡ 32 * tree.lms.h = c.loop-level.auto.out ∙ c.requires.long in
     sym (take_all (32 * c.loop-level.level) c.loop-level.out (omega (arith, long, end)))
     ∙ (c.loop-level.invariant right ∙ ap (λ n. concat (map f (below n))) end)

@@ -1,5 +1,0 @@
-use Rattle.lms_tree.proofs.Denials.{Decides-never}
-use Rattle.lms_tree.proofs.verification.PublicKey.accepts.Goals as goal
-
-pub returns-in_default : goal.returns-in_default
-returns-in_default g c = Decides-never (c.in_default.ensures.none c.args.msg.now)
