@@ -47,14 +47,14 @@ digits-le b (suc k) m n some low each =
 record Columns (t : OtsSet) : Type 0 where
   digits : 8 * 34 / t.w ≡ t.p + t.ls / t.w
   shift : (2 ^ t.w) ^ (t.ls / t.w) ≡ 2 ^ t.ls
-  room : (2 ^ t.w) ^ (t.p - 256 / t.w) * 2 ^ t.ls ≡ 2 ^ 16
+  two_bytes : (2 ^ t.w) ^ (t.p - 256 / t.w) * 2 ^ t.ls ≡ 2 ^ 16
   more : 256 / t.w ≤ t.p
 
 columns : (t : OtsSet) → ots_set t.code ≡ Some t → Columns t
 columns t known =
     by_ots_set Columns
-    (record { digits = refl; shift = refl; room = refl; more = lit≤ tt }) (record { digits = refl; shift = refl; room = refl; more = lit≤ tt })
-    (record { digits = refl; shift = refl; room = refl; more = lit≤ tt }) (record { digits = refl; shift = refl; room = refl; more = lit≤ tt })
+    (record { digits = refl; shift = refl; two_bytes = refl; more = lit≤ tt }) (record { digits = refl; shift = refl; two_bytes = refl; more = lit≤ tt })
+    (record { digits = refl; shift = refl; two_bytes = refl; more = lit≤ tt }) (record { digits = refl; shift = refl; two_bytes = refl; more = lit≤ tt })
     t.code t known
 
 -- the sum that the checksum shifts
@@ -88,8 +88,8 @@ front-digit t hash i known long h =
     let more = col.more in
     let place : 8 * length (text_of t hash) / t.w - 1 - i ≡ (k + c) + e = ap (λ n. n - 1 - i) (digits-text t hash known long) ∙ omega arith in
     let own : 8 * length hash / t.w - 1 - i ≡ e = ap (λ n. 8 * n / t.w - 1 - i) long in
-    let room : b ^ (k + c) ≡ 2 ^ 16 = pow-add b k c ∙ (ap (λ n. b ^ k * n) col.shift ∙ col.room) in
-    let power : b ^ ((k + c) + e) ≡ 2 ^ 16 * b ^ e = pow-add b (k + c) e ∙ ap (λ n. n * b ^ e) room in
+    let two_bytes : b ^ (k + c) ≡ 2 ^ 16 = pow-add b k c ∙ (ap (λ n. b ^ k * n) col.shift ∙ col.two_bytes) in
+    let power : b ^ ((k + c) + e) ≡ 2 ^ 16 * b ^ e = pow-add b (k + c) e ∙ ap (λ n. n * b ^ e) two_bytes in
     ap (λ n. number_of (text_of t hash) / b ^ n % b) place
     ∙ (ap (λ n. number_of (text_of t hash) / n % b) power
     ∙ (ap (λ n. n % b) (sym (div-div-eq-div-mul (number_of (text_of t hash)) (2 ^ 16) (b ^ e)))
@@ -110,7 +110,7 @@ last-digit t hash j known long h =
     let col = columns t known in
     let place : 8 * length (text_of t hash) / t.w - 1 - (t.p - 1 - j) ≡ c + j = ap (λ x. x - 1 - (t.p - 1 - j)) (digits-text t hash known long) ∙ omega arith in
     let power : b ^ (c + j) ≡ 2 ^ t.ls * b ^ j = pow-add b c j ∙ ap (λ x. x * b ^ j) col.shift in
-    let whole : number_of (text_of t hash) ≡ (n * b ^ k + s) * 2 ^ t.ls = number-text t hash known ∙ omega (arith, ap (λ x. n * x) col.room) in
+    let whole : number_of (text_of t hash) ≡ (n * b ^ k + s) * 2 ^ t.ls = number-text t hash known ∙ omega (arith, ap (λ x. n * x) col.two_bytes) in
     let split : (m + 1) + j ≡ k = omega arith in
     let parts : b ^ k ≡ (b ^ m * b) * b ^ j = ap (λ x. b ^ x) (sym split) ∙ (pow-add b (m + 1) j ∙ ap (λ x. x * b ^ j) (ap (λ x. b ^ x) (add-one m) ∙ pow-suc b m)) in
     let inner : n * b ^ k + s ≡ (n * b ^ m * b) * b ^ j + s = omega (arith, ap (λ x. n * x) parts) in
@@ -140,7 +140,7 @@ guarded t hash hash' known long long' each =
     = λ i h. rw (front-digit t hash i known long h, front-digit t hash' i known long' h) at (below_text i (omega arith)) in
     let back : (j : ℕ) → j < k → total t hash / b ^ j % b ≤ total t hash' / b ^ j % b
     = λ j h. rw (last-digit t hash j known long h, last-digit t hash' j known long' h) at (below_text (t.p - 1 - j) (omega arith)) in
-    let small : total t hash * 2 ^ t.ls < b ^ k * 2 ^ t.ls = rw (← col.room) at (checksum-fits t hash known) in
+    let small : total t hash * 2 ^ t.ls < b ^ k * 2 ^ t.ls = rw (← col.two_bytes) at (checksum-fits t hash known) in
     let sums : total t hash ≤ total t hash' = digits-le b k (total t hash) (total t hash') (pow_pos t.w) (lt_of_mul-lt-mul_right (2 ^ t.ls) small) back in
     λ i h.
     let same : b - 1 - digit hash' i t.w ≡ b - 1 - digit hash i t.w

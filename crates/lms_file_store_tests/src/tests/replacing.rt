@@ -209,7 +209,7 @@ fn a_link_in_the_way_is_not_followed(rt: HostRuntime) -> Result<(), Fail> {
 const READS: usize = 5;
 
 /// Whether a read that fails so after `k` operations has this fault, and the next one reads `old`.
-fn tells(
+fn has_fault(
     rt: &HostRuntime,
     store: &mut impl StateStore,
     journal: &Journal,
@@ -223,15 +223,15 @@ fn tells(
 
 /// Whether a read that fails after `k` operations says whether it was out of memory or failed
 /// otherwise.
-fn tells_both(
+fn has_both_faults(
     rt: &HostRuntime,
     store: &mut impl StateStore,
     journal: &Journal,
     k: usize,
 ) -> Result<bool, Fail> {
-    let device = tells(rt, store, journal, k, ErrorKind::Other, ReadFault::Device)?;
+    let device = has_fault(rt, store, journal, k, ErrorKind::Other, ReadFault::Device)?;
     let (kind, fault) = (ErrorKind::OutOfMemory, ReadFault::OutOfMemory);
-    Ok(device && tells(rt, store, journal, k, kind, fault)?)
+    Ok(device && has_fault(rt, store, journal, k, kind, fault)?)
 }
 
 fn fail_to_read(
@@ -242,7 +242,7 @@ fn fail_to_read(
 ) -> Result<(), Fail> {
     assert!(end; takes(store, b"old"));
     for k in 0..READS {
-        assert!(end; tells_both(rt, store, journal, k)?, "{k}");
+        assert!(end; has_both_faults(rt, store, journal, k)?, "{k}");
     }
     journal.fail(READS, ErrorKind::Other)?;
     assert!(end; reads(rt, store, b"old"));

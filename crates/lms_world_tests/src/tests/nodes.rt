@@ -132,14 +132,14 @@ fn reads_none_of_what_is_written<W: World<Log = Log>>(
 
 /// Where it can't be known what is in their place, none are read.
 #[test]
-fn what_can_not_be_told_is_not_read(rt: HostRuntime) -> Result<(), Fail> {
-    empty_folder(&rt, "disk_world_told")?;
-    fs::write(&rt, "disk_world_told/state", b"".as_slice())?;
+fn unknown_nodes_are_not_read(rt: HostRuntime) -> Result<(), Fail> {
+    empty_folder(&rt, "disk_world_unknown")?;
+    fs::write(&rt, "disk_world_unknown/state", b"".as_slice())?;
     let poor = PoorFiles { files: &rt };
     let mut world = DiskWorld::new(&poor);
-    assert!(rt; reads_none_of_what_is_written(rt.alloc(), &mut world, "disk_world_told/state")?);
-    assert!(rt; holds(&rt, "disk_world_told/state.nodes", b"nodes"));
-    fs::remove_dir_all(&rt, "disk_world_told")?;
+    assert!(rt; reads_none_of_what_is_written(rt.alloc(), &mut world, "disk_world_unknown/state")?);
+    assert!(rt; holds(&rt, "disk_world_unknown/state.nodes", b"nodes"));
+    fs::remove_dir_all(&rt, "disk_world_unknown")?;
     Ok(())
 }
 

@@ -1,7 +1,6 @@
 use Rattle.std.proofs.Common.{◌≡◌, ◌<◌, ◌⊎◌, inl, inr, sym, ◌∙◌, arith}
 use Rattle.lms_image.proofs.Faults.{truncated, not-an-image, unknown-version, bad-levels, headed, versioned}
 use Rattle.lms_image.proofs.image.read_head.Goals as goal
-use Rattle.lms_image.proofs.image.read_head.Goals.{then-head-eq0-via-then-head-eq0, then-head-eq0-via-else-head-eq0+then-head-gt-MOST_COUNT}
 
 pub returns-in_default-clause-err : goal.returns-in_default-clause-err
 returns-in_default-clause-err c = truncated c.args.text.now c.in_default.ensures.none

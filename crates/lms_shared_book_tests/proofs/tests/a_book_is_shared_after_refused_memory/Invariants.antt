@@ -1,5 +1,3 @@
-use Rattle.std.proofs.Common.{length}
-use Rattle.lms_book.specs.History.{given_of, burnt_of}
 use Rattle.lms_shared_book_tests.proofs.tests.a_book_is_shared_after_refused_memory.Given as goal
 
 abbrev pub ghosts-two_desks-E-Ledger : goal.ghosts-two_desks-E-Ledger
