@@ -1,5 +1,6 @@
-/* verify PUBLIC MESSAGE SIGNATURE prints `valid` or `invalid`. The message is read in blocks, so it may be larger than
- * memory: SHA-256 takes the head of this key and signature, then the blocks, and the library judges by the hash. */
+/* verify PUBLIC MESSAGE SIGNATURE prints `valid` or `invalid`. The message is read in blocks, so it
+ * may be larger than memory: SHA-256 takes the head of this key and signature, then the blocks, and
+ * the library judges by the hash. */
 #include "lms.h"
 #include "sha256.h"
 #include <err.h>

@@ -1,6 +1,6 @@
 """Tries wrong bodies: crates/NAME/wrong-bodies/*.edit, which the merge check leaves out, of the
-crates that the arguments name, or of all that have some. With the argument --gate before them it
-tries the edits of must-fail/ in their place.
+crates that the arguments name, or of all that have some. With the argument --must-fail before
+them it tries the edits of must-fail/ in their place.
 
 Edits of several functions go into one check, which says of each function whether it is proved. An
 edit is refused where the function that it changes is not proved, for a reason of its own: not for a
@@ -117,13 +117,13 @@ class Said:
     def refused(self, edits):
         """The edits of these, which were made together, that are refused: of each a function that
         it changes is named, for a reason of its own. No edit of a body leaves another function
-        unproved but by a call, so where such a one is named, it tells nothing of any."""
+        unproved but by a call, so where such a one is named, nothing is known of any."""
         if not self.has_verdict:
             return []
         named = [name for before, name, kind, why in self.found if self.is_own(name, kind, why, before)]
         refused = {edit: [it for it in named if edit.changes(it)] for edit in edits}
-        is_told = len(edits) == 1 or set(named) == {it for its in refused.values() for it in its}
-        return [edit for edit, its in refused.items() if its and is_told]
+        is_known = len(edits) == 1 or set(named) == {it for its in refused.values() for it in its}
+        return [edit for edit, its in refused.items() if its and is_known]
 
     def is_own(self, name, kind, why, before):
         """Whether a function is not proved by search, or what its own proof files say of it is
@@ -141,8 +141,8 @@ class Said:
         if self.status == 0:
             return "it is still proved"
         lines = self.text.rstrip("\n").split("\n")
-        told = [it for it in lines if NO_TYPES.search(it) or re.search(r":\d+:\d+: error", it)] if self.status == 1 else []
-        return [*told, lines[-1]][0]
+        reported = [it for it in lines if NO_TYPES.search(it) or re.search(r":\d+:\d+: error", it)] if self.status == 1 else []
+        return [*reported, lines[-1]][0]
 
 
 class Copy:
@@ -229,7 +229,7 @@ class Trials:
             elif len(left) < len(edits):
                 self.groups += grouped(left)
             else:
-                # Nothing was told of any: halves, down to each alone.
+                # Nothing is known of any: halves, down to each alone.
                 half = len(left) // 2
                 self.groups += [group for part in (left[:half], left[half:]) for group in grouped(part)]
             self.turn.notify_all()
@@ -282,7 +282,7 @@ def chosen_crates(folder, names):
     names = names or [it for it in listed if (TOP / "crates" / it / folder).is_dir()]
     for name in names:
         if not (TOP / "crates" / name / folder).is_dir():
-            raise Wrong(f"crates/{name} has no {folder}; the arguments are [--gate] [CRATE ..]")
+            raise Wrong(f"crates/{name} has no {folder}; the arguments are [--must-fail] [CRATE ..]")
     return [TOP / "crates" / name for name in names]
 
 
@@ -308,7 +308,7 @@ def tried(edits):
 @checks
 def wrong_bodies(counter):
     """Each edit counts as one that passed where it is refused."""
-    folder = "must-fail" if ARGUMENTS[:1] == ["--gate"] else "wrong-bodies"
+    folder = "must-fail" if ARGUMENTS[:1] == ["--must-fail"] else "wrong-bodies"
     crates = chosen_crates(folder, ARGUMENTS[1:] if folder == "must-fail" else ARGUMENTS)
     for crate in crates:
         failed = unproved(crate)

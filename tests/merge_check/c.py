@@ -21,7 +21,7 @@ NAMES = ["llvm", "sse2", "rattle"]
 INCLUDES = [f"-I{TOP}/include", f"-I{EXAMPLES}/c"]
 WARNINGS = ["-Wall", "-Wextra", "-pedantic", "-Werror"]
 EXPORTS = ["T lms_message_head", "T lms_verify", "T lms_verify_hash", "T lms_verify_pieces"]
-# The bytes of stack that docs/C.md tells a boot loader to have.
+# The bytes of stack that docs/C.md asks of a boot loader.
 MOST_STACK = 4096
 
 
@@ -221,7 +221,7 @@ def keeps_to_itself(library):
 
 def stays_within(name, most):
     """A call of this library takes no more than so many bytes of stack."""
-    holds(most is not None, "the compiler told no bound")
+    holds(most is not None, "the compiler reported no bound")
     said_by("cc", "-std=c11", "-O2", *INCLUDES, TOP / "tests/c/stack.c", f"{name}.a", "-o", "stack")
     taken = int(said_by("./stack", PUBLIC, MESSAGE, SIGNATURE, TWO_PUBLIC, MESSAGE, TWO_SIGNATURE))
     holds(taken <= most, f"takes {taken} bytes of {most}")
@@ -300,7 +300,7 @@ def builds_by_rattle(bounds):
     """The library by Rattle's own compiler, whose bound on the stack is noted."""
     found = re.findall(r".* stack-bytes=(\d+) ", build_other("rattle", "--backend", "rattle"))
     if not found:
-        raise Wrong("the compiler told no bound")
+        raise Wrong("the compiler reported no bound")
     bounds.append(int(found[-1]))
     print(f"by Rattle's own compiler: {code_and_data('rattle.a')[0]} bytes, with at most {bounds[-1]} bytes of stack", flush=True)
 
@@ -328,9 +328,9 @@ def the_verifier_for_c(counter):
         counter.skip("the stack", "the C library has no makecontext")
     else:
         for name in NAMES:
-            counter.check(f"the stack is within what a loader is told, {name}", stays_within, name, MOST_STACK)
+            counter.check(f"the stack is within what docs/C.md states, {name}", stays_within, name, MOST_STACK)
         counter.check("the stack is within the compiler's bound", stays_within, "rattle", bound)
-        counter.check("the compiler's bound is within what a loader is told", is_at_most, bound, MOST_STACK)
+        counter.check("the compiler's bound is within what docs/C.md states", is_at_most, bound, MOST_STACK)
     counter.check("the example says what fails", example_fails, os.path.abspath("programs/llvm_verify"))
     judges_heads(counter)
     refuses_others(counter)

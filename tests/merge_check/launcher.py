@@ -93,7 +93,7 @@ def is_newer(newer):
             reported = re.search(rf"(?m)^lms_tool: {crate} is checked, [12] of 5 crates$", it.errors)
             it.holds(reported is not None, "no progress is reported")
         for number, crate in enumerate(("lms_lines", "lms_world", "lms_tool"), 3):
-            it.tells(f"{crate} is checked, {number} of 5 crates")
+            it.reports(f"{crate} is checked, {number} of 5 crates")
         it.holds(not os.path.exists(it.common), "two programs")
         runs_again(it, "fast")
 
@@ -153,7 +153,7 @@ def the_argument_build_and_another():
     with StandIns(False) as it:
         it.start("build", "--help")
         it.holds(it.status == 2 and not it.output and not it.has("builds"), "not refused")
-        it.tells("build takes no further argument but both")
+        it.reports("build takes no further argument but both")
 
 
 @test

@@ -122,8 +122,8 @@ class StandIns:
         return subprocess.Popen([*by, f"{self.top}/lms_tool", *arguments], cwd=cwd, env=environment, **how)
 
     def start(self, *arguments, by=(), cwd=None):
-        """Runs the script with these arguments and an input, and with a stream that nobody may hold
-        open after its end."""
+        """Runs the script with these arguments, an input and one end of a pipe, which must be
+        closed everywhere when the script has ended."""
         reader, writer = os.pipe()
         self.write("input", "input\n")
         files = [open(f"{self.top}/{name}", mode) for name, mode in (("input", "rb"), ("output", "wb"), ("errors", "wb"))]
@@ -184,6 +184,6 @@ class StandIns:
         builds = self.has("builds").splitlines()
         self.holds(sorted(builds[:2]) + builds[2:] == [*LIBRARIES, *(f"lms_tool {it}" for it in words)], "other builds")
 
-    def tells(self, line):
+    def reports(self, line):
         """This line was printed to standard error."""
-        self.holds(f"lms_tool: {line}" in self.errors.split("\n"), f"does not tell: {line}")
+        self.holds(f"lms_tool: {line}" in self.errors.split("\n"), f"does not report: {line}")

@@ -66,7 +66,7 @@ class Trial(StandIns):
     def was_built(self, why, *arguments):
         """The program was built, and ran with these arguments. It was said that there is no
         verdict, for this reason."""
-        self.tells(f"no verdict by a trial run: {why}; the program is built first")
+        self.reports(f"no verdict by a trial run: {why}; the program is built first")
         self.only_ran(*arguments)
 
     def only_ran(self, *arguments):

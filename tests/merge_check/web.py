@@ -39,8 +39,8 @@ FIELDS = """[...document.querySelectorAll('input')].every(
 
 
 class Browser:
-    """A browser that is told what to do over two pipes, by the DevTools protocol: JSON texts, each
-    with a zero byte after it."""
+    """A browser that is controlled over two pipes, by the DevTools protocol: JSON texts, each with
+    a zero byte after it."""
 
     def __init__(self, program, folder):
         to_read, self.to_write = os.pipe()
@@ -122,11 +122,11 @@ class Browser:
         self.value(DROP % (base64.b64encode(pathlib.Path(file).read_bytes()).decode(), count, name))
 
     def verdict(self):
-        """The verdict and what is told beside it, once Enter is pressed on the button, as from a
+        """The verdict and the outcome beside it, once Enter is pressed on the button, as from a
         keyboard."""
         self.press()
         self.wait_for("document.getElementById('verdict').textContent !== ''")
-        return self.shown(), self.value("document.getElementById('told').textContent")
+        return self.shown(), self.value("document.getElementById('outcome').textContent")
 
     def verdict_on(self, public, message, signature):
         """The same of these files, which are chosen first."""
@@ -171,11 +171,11 @@ def judges(browser, check, picture):
     """The verdicts on the example, on a key of two levels, on a long message, and on what differs
     from them in one place."""
     public, message, signature = (EXAMPLES / name for name in ("release.pub", "firmware.bin", "firmware.sig"))
-    verdict, told = browser.verdict_on(public, message, signature)
+    verdict, outcome = browser.verdict_on(public, message, signature)
     levels, size, length = int.from_bytes(public.read_bytes()[:4], "big"), message.stat().st_size, signature.stat().st_size
     parts = [f"The key has {levels} level", f"Message: firmware.bin, {size} bytes", f"Signature: {length} bytes", "Time: "]
     check("the example is valid", verdict == "valid")
-    check("levels, lengths and time are told", all(part in told for part in parts))
+    check("levels, lengths and time are shown", all(part in outcome for part in parts))
     if picture:
         browser.picture(picture)
     put("changed", message.read_bytes()[:-1] + bytes([message.read_bytes()[-1] ^ 1]))
@@ -185,10 +185,10 @@ def judges(browser, check, picture):
     put("long", signature.read_bytes() + b"\0")
     check("a signature that is too long is invalid", browser.verdict_on(public, message, "long")[0] == "invalid")
     put("other", public.read_bytes()[4:])
-    verdict, told = browser.verdict_on("other", message, signature)
-    check("a key of another kind is invalid, and said to be", verdict == "invalid" and "no HSS public key" in told)
-    verdict, told = browser.verdict_on(EXAMPLES / "c/two_levels.pub", message, EXAMPLES / "c/two_levels.sig")
-    check("a key of two levels", verdict == "valid" and "The key has 2 levels." in told)
+    verdict, outcome = browser.verdict_on("other", message, signature)
+    check("a key of another kind is invalid, and said to be", verdict == "invalid" and "no HSS public key" in outcome)
+    verdict, outcome = browser.verdict_on(EXAMPLES / "c/two_levels.pub", message, EXAMPLES / "c/two_levels.sig")
+    check("a key of two levels", verdict == "valid" and "The key has 2 levels." in outcome)
     put("empty", b"")
     check("an empty message is invalid", browser.verdict_on(public, "empty", signature)[0] == "invalid")
     large = bytes(range(256)) * (1 << 18)
@@ -231,12 +231,12 @@ def says_why_not(browser, check):
     browser.value("crypto.subtle.digest = async () => { throw new Error('no digest'); }; 0")
     check("where hashing fails there is no verdict", browser.verdict() == ("no verdict", "Reason: no digest."))
     browser.value("Object.defineProperty(File.prototype, 'size', { get: () => 2 ** 31 }); 0")
-    verdict, told = browser.verdict()
-    check("nor on a message of more than 2 GB", verdict == "no verdict" and "longer than 2 GB" in told)
+    verdict, outcome = browser.verdict()
+    check("nor on a message of more than 2 GB", verdict == "no verdict" and "longer than 2 GB" in outcome)
     check("the page sends nothing", browser.value("fetch('https://example.org/').then(() => false, () => true)"))
     check("each field has a name for a screen reader", browser.value(FIELDS))
     is_live = "document.getElementById('verdict').closest('[role=status][aria-live=polite]') !== null"
-    check("the verdict is told to a screen reader", browser.value(is_live))
+    check("the verdict is announced to a screen reader", browser.value(is_live))
 
 
 # (The arguments name files from where the tests are run.)

@@ -28,7 +28,7 @@ static void put(int record, const void *text, size_t length) {
 }
 
 /* Writes an operation down. */
-static void tell(const char *name, long first, long second, const void *text, size_t length) {
+static void record_call(const char *name, long first, long second, const void *text, size_t length) {
     static int record = -1;
     char line[100];
     if (record < 0) {
@@ -61,7 +61,7 @@ int open(const char *path, int flags, ...) {
     begin();
     int file = next(path, flags, mode);
     if (file >= 0) {
-        tell("open", file, flags, path, strlen(path));
+        record_call("open", file, flags, path, strlen(path));
     }
     return end(file);
 }
@@ -73,7 +73,7 @@ ssize_t write(int file, const void *bytes, size_t count) {
     if (written > 0) {
         /* (No stream has a place.) */
         long place = lseek(file, 0, SEEK_CUR);
-        tell("write", file, place < 0 ? -1 : place - written, bytes, written);
+        record_call("write", file, place < 0 ? -1 : place - written, bytes, written);
     }
     return end(written);
 }
@@ -83,7 +83,7 @@ int fsync(int file) {
     begin();
     int answer = next(file);
     if (!answer) {
-        tell("flush", file, 0, "", 0);
+        record_call("flush", file, 0, "", 0);
     }
     return end(answer);
 }
@@ -95,7 +95,7 @@ int rename(const char *from, const char *to) {
     if (!answer) {
         char both[2 * 4096];
         size_t length = snprintf(both, sizeof both, "%s%c%s", from, 0, to);
-        tell("rename", 0, 0, both, length);
+        record_call("rename", 0, 0, both, length);
     }
     return end(answer);
 }
@@ -105,17 +105,17 @@ int unlink(const char *path) {
     begin();
     int answer = next(path);
     if (!answer) {
-        tell("unlink", 0, 0, path, strlen(path));
+        record_call("unlink", 0, 0, path, strlen(path));
     }
     return end(answer);
 }
 
-#define UNKNOWN(name)                          \
-    void no_##name(void) __asm__(#name);       \
-    void no_##name(void) {                     \
-        begin();                               \
-        tell("unknown", 0, 0, #name, strlen(#name)); \
-        abort();                               \
+#define UNKNOWN(name)                                       \
+    void no_##name(void) __asm__(#name);                    \
+    void no_##name(void) {                                  \
+        begin();                                            \
+        record_call("unknown", 0, 0, #name, strlen(#name)); \
+        abort();                                            \
     }
 
 UNKNOWN(open64)

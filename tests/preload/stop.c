@@ -46,7 +46,7 @@ static int fails(void (*half)(const void *), const void *given) {
 }
 
 /* What an operation answers that was done, or fails all the same. */
-static long told(int is_failed, long answer) {
+static long reported(int is_failed, long answer) {
     if (is_failed) {
         errno = EIO;
         return -1;
@@ -58,9 +58,9 @@ static long told(int is_failed, long answer) {
     do {                                         \
         int is_failed = fails(NULL, NULL);       \
         if (is_failed && !number("LATE")) {      \
-            return told(1, 0);                   \
+            return reported(1, 0);               \
         }                                        \
-        return told(is_failed, (call));          \
+        return reported(is_failed, (call));      \
     } while (0)
 
 int open(const char *path, int flags, ...) {
@@ -103,7 +103,7 @@ static void write_half(const void *given) {
 ssize_t write(int file, const void *bytes, size_t count) {
     struct text text = {file, bytes, count};
     int is_failed = fails(write_half, &text);
-    return told(is_failed, write_first(&text, is_failed && !number("LATE") ? count / 2 : count));
+    return reported(is_failed, write_first(&text, is_failed && !number("LATE") ? count / 2 : count));
 }
 
 int statx(int folder, const char *restrict path, int flags, unsigned mask, struct statx *restrict found) {

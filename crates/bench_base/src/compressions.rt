@@ -2,7 +2,7 @@
 ghost use Rattle.std.specs.Prelude.{◌+◌, ◌-◌, ◌/◌, ◌^◌, ◌<◌, ◌≤◌};
 
 use lms_hss::{HssKey, LMS_KEY_LEN};
-use lms_ots::{OtsId, hasher_at};
+use lms_ots::{MESSAGE_HEAD_LEN, OtsId, hasher_at};
 use lms_params::{LmsType, OtsType, digits, lms_sig_len, split_u32};
 use sha2::Digest;
 
@@ -14,7 +14,7 @@ const DERIVATIONS: u64 = 3;
 /// identifier.
 const KEY_DERIVATIONS: u64 = 2;
 
-/// The bytes of the check value that a text of kept nodes ends with.
+/// The bytes of the check value, which is at the end of those of kept nodes.
 const CHECK_LEN: u64 = 32;
 
 /// A count as a number for ratios, up to 2^52.
@@ -22,7 +22,7 @@ pub fn real(count: u64) -> f64 {
     count.min(1 << 52) as f64
 }
 
-/// The compressions of a text of so many bytes, with its padding.
+/// The compressions of so many bytes, with their padding.
 fn compressions_of(bytes: u64) -> u64
     requires { bytes < 2 ^ 63 + 100 }
     ensures { result ≤ bytes / 64 + 2 }
@@ -55,7 +55,7 @@ pub fn tree_compressions(lms: LmsType, ots: OtsType) -> u64
     leaves * (public_hash_compressions(ots) + 1) + (leaves - 1) * 2
 }
 
-/// The compressions of reading a text of kept nodes that is right for a key: those of its check
+/// The compressions of reading bytes of kept nodes that are right for a key: those of their check
 /// value, which are the secret, the hash of the levels' typecodes with the bytes before it, and the
 /// hash of both; and those of the keys of the trees below the top.
 pub fn reading_compressions(key: &HssKey, text: &[u8]) -> u64 {
@@ -87,7 +87,7 @@ impl OneTime {
         for digit in digits(&hasher.finalize(), ots) {
             steps = steps.saturating_add(u64::from(digit));
         }
-        let hash = compressions_of(54 + msg.len() as u64);
+        let hash = compressions_of(MESSAGE_HEAD_LEN as u64 + msg.len() as u64);
         OneTime {
             signature: (hash + ots.p() as u64).saturating_add(steps),
             candidate: (hash + chain_compressions(ots)).saturating_sub(steps),
@@ -157,7 +157,7 @@ fn level(ots: OtsType, i: [u8; 16], own: &[u8], signed: &[u8]) -> Option<OneTime
     Some(OneTime::new(ots, OtsId { i, q }, c, signed))
 }
 
-/// The identifier I in an LMS public key (RFC 8554, 5.3). Of a shorter text, as a message, zeros.
+/// The identifier I in an LMS public key (RFC 8554, 5.3). Of fewer bytes, as a message, zeros.
 fn identifier(key: &[u8]) -> [u8; 16] {
     let mut i = [0; 16];
     if key.len() >= 24 {

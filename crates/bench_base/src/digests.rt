@@ -23,7 +23,7 @@ pub fn time_digests_at_once(
     };
     let start = clock(rt);
     par_for_each_mut(rt, &mut texts, |_place: usize, text: &mut [u8; 55]| {
-        // The threads' own texts are apart in memory, so no two of them share a cache line.
+        // Each thread's own bytes are apart from the others', so no two threads share a cache line.
         let mut own = *text;
         make_digests(&mut own, each);
         *text = own;
@@ -54,7 +54,7 @@ fn ensure_made(text: &[u8; 55], digests: u64) -> Result<(), Fault> {
     }
 }
 
-/// Makes so many digests, each of a text that has the one before in it.
+/// Makes so many digests, each of bytes that have the one before in them.
 fn make_digests(text: &mut [u8; 55], digests: u64) {
     for some in 0..digests.div_ceil(256) {
         let made = some.saturating_mul(256);

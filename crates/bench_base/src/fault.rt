@@ -9,7 +9,7 @@ pub enum Fault {
     Usage,
     OutOfMemory,
     /// Standard output can't be written.
-    Output,
+    WriteOutput,
     /// The levels are none of a key, or have too few indices.
     Key,
     /// A signature is shorter than its key says.
@@ -34,6 +34,6 @@ impl From<OutOfMemory> for Fault {
 
 impl From<io::Error> for Fault {
     fn from(_: io::Error) -> Self {
-        Fault::Output
+        Fault::WriteOutput
     }
 }

@@ -3,7 +3,7 @@ ghost use Rattle.std.specs.Prelude.{◌<◌, IfOk};
 
 use crate::tree_key::tree_key;
 use bench_base::{Fault, Hierarchy, SEED};
-use lms_hss::Forest;
+use lms_hss::{Forest, LMS_KEY_LEN};
 use lms_params::{LmsType, OtsType, lms_sig_len};
 use lms_tree::BandTree;
 use std::thread::Threads;
@@ -54,7 +54,7 @@ fn print_bytes(
     requires top { top_nodes < 100000 }
     requires bottom { bottom_nodes < 100000 }
 {
-    let head = 4 + lms_sig_len(LmsType::H15, OtsType::W8) + 56;
+    let head = 4 + lms_sig_len(LmsType::H15, OtsType::W8) + LMS_KEY_LEN;
     let then = 32 * bottom_nodes + head;
     let at_most = 32 * top_nodes + 4 + then;
     println!(rt;

@@ -1,10 +1,10 @@
 //! Verification and signing under keys of HSS, timed in one thread.
-ghost use Rattle.std.specs.Prelude.{◌≡◌, IfOk};
+ghost use Rattle.std.specs.Prelude.{IfOk};
 ghost use Rattle.lms_hss.specs.Covered.{IsCovered};
 
 use crate::case::Timed;
 use bench_base::{Fault, Hierarchy, Hss, MESSAGE, RANDOMIZER};
-use lms_hss::{Forest, verify};
+use lms_hss::{Forest, HSS_KEY_LEN, verify};
 use lms_params::{LmsType, OtsType};
 use std::alloc::Global;
 use std::thread::Threads;
@@ -74,7 +74,7 @@ pub fn count(hierarchy: Hierarchy, signature: &[u8]) -> Result<Hss, Fault> {
 pub struct HssBench {
     case: HssCase,
     forest: Forest,
-    public: [u8; 60],
+    public: [u8; HSS_KEY_LEN],
     signature: Vec<u8>,
     is_valid: bool,
     ghost covered: { IsCovered forest 0 },

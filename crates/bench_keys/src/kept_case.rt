@@ -1,4 +1,4 @@
-//! Signing by a text of kept nodes, timed in one thread.
+//! Signing by the bytes of kept nodes, timed in one thread.
 use crate::case::Timed;
 use crate::hss_case::{COVERED, count};
 use bench_base::{Fault, Hierarchy, MESSAGE, RANDOMIZER, reading_compressions};
@@ -17,10 +17,11 @@ pub const KEPT_CASES: [(&str, Hierarchy); 2] = [
     ),
 ];
 
-/// The index that signs. The text is that of the index before it, whose bottom subtree is the same.
+/// The index that signs. The bytes are those of the index before it, whose bottom subtree is the
+/// same.
 const INDEX: u64 = 1;
 
-/// The levels of a key with the text of its first index, and the signature by the next.
+/// The levels of a key with the nodes of its first index, as bytes, and the signature by the next.
 #[derive(Drop)]
 pub struct KeptBench {
     hierarchy: Hierarchy,
@@ -46,8 +47,8 @@ impl KeptBench {
         })
     }
 
-    /// The compressions that it needs: those of reading the text, of the message's signature and of
-    /// its verification.
+    /// The compressions that it needs: those of reading the bytes, of the message's signature and
+    /// of its verification.
     pub fn compressions(&self) -> Result<u64, Fault> {
         let counts = count(self.hierarchy, &self.signature)?;
         let reading = reading_compressions(&self.hierarchy.key()?, &self.text);
@@ -55,7 +56,7 @@ impl KeptBench {
         Ok(reading.saturating_add(signing))
     }
 
-    /// Reads the text and signs by it, and looks at the signature, so that no run can be left out.
+    /// Reads the nodes, signs by them and looks at the signature, so that no run can be left out.
     fn sign(&self) -> Result<(), Fault> {
         let Some(trees) = KeptTrees::read(self.alloc, self.hierarchy.key()?, &self.text)? else {
             return Err(Fault::Result);

@@ -51,7 +51,7 @@ fn obey(
 }
 
 /// Runs each case once, and prints what is counted. `stdout`, beside `src/`, has the compressions
-/// as programs in Python count them, of which some make the same keys, trees, texts and signatures
+/// as programs in Python count them, of which some make the same keys, trees, nodes and signatures
 /// and verify these, and the bytes by the numbers of nodes that the trees of a forest have to hold.
 fn run_once(
     rt: &(impl Print + AllocGlobal + Clock + CpuClock + Threads + Sync),

@@ -53,7 +53,7 @@ all-empty (suc n) (suc k) y e = all-empty n k y e
 pub AreAccepted-none : (public : List ℕ) (jobs : List JobText) (n : ℕ) → AreAccepted public jobs (replicate n None)
 AreAccepted-none public jobs n = record { each = λ k j y at slot. absurd (all-empty n k y slot) }
 
--- a signature in a slot was put there, or stood there before
+-- a signature in a slot was put there, or was there before
 put-or-before : (slots : List (Option (List ℕ))) (k i : ℕ) (y s : List ℕ) → slice_get (set slots k (Some y)) i ≡ Some (Some s)
     → ((k ≡ i) × (y ≡ s)) ⊎ (slice_get slots i ≡ Some (Some s))
 put-or-before [] k i y s e = inr e

@@ -1,5 +1,5 @@
 //! The workers of a batch, each in a thread of its own where one can be started.
-ghost use Rattle.std.specs.Prelude.{◌≡◌, ◌+◌, ◌<◌, ◌≤◌, ◌^◌, All, IfOk, IfErr, length, vec_len, vec_capacity};
+ghost use Rattle.std.specs.Prelude.{◌≡◌, ◌+◌, ◌<◌, ◌≤◌, All, IfOk, IfErr, length, vec_len, vec_capacity};
 ghost use Rattle.lms_batch.specs.Jobs.{most_workers, texts_of};
 ghost use Rattle.lms_batch.specs.Batches.{none_of};
 ghost use Rattle.lms_batch.specs.Answers.{IsAnswerTo};

@@ -176,9 +176,9 @@ fn stopped(lease: &OpenLease, seat: &mut DrawSeat, job: &Job) -> (u64, u64, bool
     requires { seat.old.pool ≡ lease.now }
     ensures { seat.new.pool ≡ lease.now }
 {
-    let gone = lease.look(seat);
+    let taken = lease.look(seat);
     let burnt = lease.stop(seat);
-    (gone, burnt, has_ended(lease, seat, job))
+    (taken, burnt, has_ended(lease, seat, job))
 }
 
 #[test]

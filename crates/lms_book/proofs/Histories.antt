@@ -154,9 +154,9 @@ last_counted r last i counter stored burnt at is kept =
     let all : burnt_after r.burnt r.history ≡ burnt_after r.burnt front + burnt_len e = ap (burnt_after r.burnt) ends_so ∙ burnt-push r.burnt front e in
     omega (arith, kept.burnt_is, all, ap burnt_len same)
 
--- ---- what a stop leaves
+-- ---- what a crash leaves
 
--- the text of a reservation of n indices more
+-- the bytes that a reservation of n indices more stores
 abbrev pub text_after : ReservationsState → ℕ → List ℕ
 text_after r n = image_of r.key (counter_of r.base r.history + n) (r.openings + 1) (burnt_after r.burnt r.history)
 
@@ -166,7 +166,7 @@ module _ (r : ReservationsState) (n : ℕ) (old new : StoreView)
   at_top left is =
       record { counter = counter_of r.base r.history + n; burnt = burnt_after r.burnt r.history; past = omega arith; counted = counted; text_is = is }
 
-  -- a lease more, and a stop leaves its image alone
+  -- a lease more, and a crash leaves its image alone
   pub safe_given : ((left : List ℕ) → MayLeave new left → left ≡ text_after r n)
       → IsSafe r.key (r.openings + 1) (leases r.base (r.history ++ Given n ∷ [])) (MayLeave new)
   safe_given only =
@@ -174,7 +174,7 @@ module _ (r : ReservationsState) (n : ℕ) (old new : StoreView)
       safe_at r.key (r.openings + 1) (counter_of r.base r.history + n) _ (MayLeave new)
       (ends_within r.base (counter_of r.base r.history + n) (r.history ++ Given n ∷ []) top) (λ left now. at_top left (only left now))
 
-  -- indices burnt, and a stop may leave their image too
+  -- indices burnt, and a crash may leave their image too
   pub safe_burnt : IsSafe r.key (r.openings + 1) (leases r.base r.history) (MayLeave old)
       → ((left : List ℕ) → MayLeave new left → MayLeave old left ⊎ (left ≡ text_after r n))
       → IsSafe r.key (r.openings + 1) (leases r.base (r.history ++ Burnt n ∷ [])) (MayLeave new)

@@ -1,4 +1,4 @@
--- A book's leases are disjoint and below what a stop could leave, and a reservation keeps them so.
+-- A book's leases are disjoint and below what a crash could leave, and a reservation keeps them so.
 use Rattle.std.proofs.Common.{◌≡◌, ℕ, ◌+◌, ◌≤◌, List, [], ◌∷◌, ◌++◌, sym, subst, arith}
 use Rattle.std.specs.Prelude.{AllPairs, Result, Ok, Err}
 use Rattle.std.specs.List.{AllByRecursion}

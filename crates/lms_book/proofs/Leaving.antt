@@ -1,4 +1,4 @@
--- Which texts are among those that a stop leaves.
+-- Which byte strings a crash may leave.
 use Rattle.std.proofs.Common.{◌≡◌, ◌⊎◌, inl, inr, ℕ, zero, suc, List, Some, None, sym, subst, arith}
 use Rattle.lms_book.specs.Stops.{Texts, IsAmong, only, or_else, StoreView, MayLeave, after_write, IsLeftBy, FailsToWrite}
 
@@ -19,7 +19,7 @@ or_else_has text left None either = tt
 or_else_has text left (Some texts) (inl (k, lt, at)) = (suc k, omega (arith, lt), at)
 or_else_has text left (Some texts) (inr is) = (0, omega arith, sym is)
 
--- a stop after a write leaves its text alone
+-- a crash after a write leaves its bytes alone
 pub leaves_written : (text : List ℕ) (old new : StoreView) → new ≡ after_write text old → (left : List ℕ) → MayLeave new left → left ≡ text
 leaves_written text old new is left may = among_only text left (subst (λ (store : StoreView). MayLeave store left) is may)
 
@@ -27,7 +27,7 @@ pub narrowed : (text left : List ℕ) (before after : Texts) → IsLeftBy text b
 narrowed text left before after (inl is) among = inr (among_only text left (subst (λ (texts : Texts). IsAmong texts left) is among))
 narrowed text left before after (inr is) among = among_or_else text left before (subst (λ (texts : Texts). IsAmong texts left) is among)
 
--- a stop after a write that failed leaves its text, or what it left before
+-- a crash after a write that failed leaves its bytes, or what it left before
 pub leaves_failed : (text : List ℕ) (old new : StoreView) → FailsToWrite text old new
     → (left : List ℕ) → MayLeave new left → MayLeave old left ⊎ (left ≡ text)
 leaves_failed text old new (inl is) left may = inl (subst (λ (store : StoreView). MayLeave store left) is may)

@@ -1,4 +1,4 @@
--- What a stop could leave at the moments of a reservation.
+-- What a crash could leave at the moments of a reservation.
 use Rattle.std.proofs.Common.{◌≡◌, ◌⊎◌, inl, inr, ⊎_elim, ℕ, zero, suc, List, [], ◌∷◌, ◌++◌, sym, ap, subst, arith}
 use Rattle.std.proofs.Math.Seq.{drop-append_seam, drop-length}
 use Rattle.std.specs.Prelude.{Contains, Result, Ok, Err}

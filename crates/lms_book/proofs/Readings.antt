@@ -1,4 +1,4 @@
--- What can be read of the texts that an opening leaves.
+-- What can be read of the bytes that an opening leaves.
 use Rattle.std.proofs.Common.{◌≡◌, inl, ⊎_elim, ℕ, ◌+◌, ◌≤◌, List, [], ◌∷◌, subst, arith}
 use Rattle.std.proofs.lemmas.List.Sums.{sum_by-cons}
 use Rattle.lms_spec.specs.Hss.{capacity_of}
@@ -18,7 +18,7 @@ use Rattle.lms_book.proofs.Leaving.{among_only, among_or_else}
 abbrev pub Said : Type 1
 Said = KeyOfCode → ℕ → ℕ → ℕ → Type 0
 
--- whatever is read of one of the texts, this holds of it
+-- whatever is read of one of the byte strings, this holds of it
 abbrev pub AllRead : Said → Texts → Type 0
 AllRead P texts =
     (text : List ℕ) → IsAmong texts text
@@ -64,7 +64,7 @@ opening_spelt opening is counter burnt within few =
       burnt_fits = omega (arith, limit, within, few);
     }
 
--- what holds of the texts before, and of each image of an opening, holds of the texts after
+-- what holds of the byte strings before, and of each image of an opening, holds of those after
 pub read_after : (P : Said) (key : KeyOfCode) (number counter burnt : ℕ) (history : List Entry) (texts : Texts) → AreSpelt key number
     → counter_of counter history ≤ capacity_of (hss_key_of key) → burnt ≤ counter
     → ((c b : ℕ) → counter ≤ c → P key c number b) → AllRead P texts → AllRead P (texts_after key number counter burnt history texts)
@@ -94,7 +94,7 @@ read_left P opening is holds before =
     read_after P opening.key (number_in opening) opening.base opening.burnt opening.history opening.held (opening_spelt opening is)
     is.within is.counted.burnt_within holds before
 
--- the next opening finds no other texts
+-- the next opening finds no other byte strings
 pub read_next : (P : Said) (texts : Texts) (opening : Opening) (life : List Opening) → IsNext texts (opening ∷ life) → AllRead P texts
     → AllRead P opening.held
 read_next P texts opening life next all text there = all text (next text there)

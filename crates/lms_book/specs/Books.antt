@@ -47,16 +47,16 @@ Reserves n old (Err (faults.Store start len)) new =
     × (new.history ≡ old.history ++ Burnt n ∷ [])
     × FailsToWrite (next_image n old) old.store new.store
 
--- a book was opened from a text that its store's read gave: one that a crash could have left, an
--- image of the book's key and numbers
+-- a book was opened from the bytes that its store's read gave: some that a crash could have left,
+-- an image of the book's key and numbers
 pub record IsReadFrom (store : StoreView) (book : BookState) : Type 0 where
   pub text : List ℕ
   pub left : MayLeave store text
   pub image : IsImage text book.key book.base book.openings book.burnt
   pub given : book.store ≡ having_given text store
 
--- why a store was not opened: it failed, or the text that its read gave has this fault, or memory
--- was refused
+-- why a store was not opened: it failed, or the bytes that its read gave have this fault, or
+-- memory was refused
 abbrev pub HasCause : Type 0 → StoreView → OpenFault → StoreView → Type 0
 HasCause may_fail old open_faults.Store new = may_fail × (new ≡ after_failure old)
 HasCause may_fail old (open_faults.Image fault) new =

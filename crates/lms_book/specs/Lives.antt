@@ -9,8 +9,8 @@ use Rattle.lms_image.specs.Image.{image_of, HasImage, IsImage}
 use Rattle.lms_book.specs.History.{Range, end, counter_of, given_of, leases}
 use Rattle.lms_book.specs.Stops.{Texts, IsAmong, only, or_else}
 
--- an opening: the texts of which the store held one, the key and the numbers that were read, and
--- the reservations
+-- an opening: the byte strings of which the store held one, the key and the numbers that were read,
+-- and the reservations
 pub record Opening : Type 0 where
   pub held : Texts
   pub key : KeyOfCode
@@ -35,9 +35,9 @@ opening_of held key base openings burnt history =
 abbrev pub number_in : Opening → ℕ
 number_in opening = opening.openings + 1
 
--- the texts that a crash could leave after reservations of an opening with this number: a Given
--- entry leaves its image alone, a Burnt entry adds its image. Each image counts the indices that
--- were burnt before it was written.
+-- the byte strings that a crash could leave after reservations of an opening with this number: a
+-- Given entry leaves its image alone, a Burnt entry adds its image. Each image counts the indices
+-- that were burnt before it was written.
 abbrev pub texts_after : KeyOfCode → ℕ → ℕ → ℕ → List Entry → Texts → Texts
 texts_after key number counter burnt [] texts = texts
 texts_after key number counter burnt (Given len ∷ history) texts =
@@ -47,24 +47,24 @@ texts_after key number counter burnt (Burnt len ∷ history) texts =
     texts_after key number (counter + len) (burnt + len) history
     (or_else (image_of key (counter + len) number burnt) texts)
 
--- the texts that a crash after an opening could leave
+-- the byte strings that a crash after an opening could leave
 abbrev pub texts_left : Opening → Texts
 texts_left opening =
     texts_after opening.key
     (number_in opening) opening.base opening.burnt opening.history opening.held
 
--- one of the texts is an image of this key and these numbers, of either version
+-- one of the byte strings is an image of this key and these numbers, of either version
 abbrev pub Finds : Texts → KeyOfCode → ℕ → ℕ → ℕ → Type 0
 Finds texts key counter openings burnt =
     (text : List ℕ) × IsAmong texts text × IsImage text key counter openings burnt
 
--- one of the texts was read, an image, and no reservation went past the capacity
+-- one of the byte strings was read, an image, and no reservation went past the capacity
 pub record IsOpening (opening : Opening) : Type 0 where
   pub counted : HasImage opening.key opening.base opening.openings opening.burnt
   pub found : Finds opening.held opening.key opening.base opening.openings opening.burnt
   pub within : counter_of opening.base opening.history ≤ capacity_of (hss_key_of opening.key)
 
--- the next opening, if there is one, finds a part of these texts
+-- what the next opening finds, if there is one, is among these byte strings
 abbrev pub IsNext : Texts → List Opening → Type 0
 IsNext texts [] = Unit {0}
 IsNext texts (opening ∷ life) = (text : List ℕ) → IsAmong opening.held text → IsAmong texts text

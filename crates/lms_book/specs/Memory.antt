@@ -1,4 +1,4 @@
--- A store in memory: the texts that it held, and which calls are to fail.
+-- A store in memory: the bytes that it held, and which calls are to fail.
 use Rattle.std.specs.Prelude.{◌≡◌, ◌⊎◌, ℕ, ◌-◌, ◌<◌, ◌≤◌, List, [], ◌∷◌, ◌++◌, length, get_or, drop, replicate, Option, Some, None, Bool, false, ◌||◌, map, Result, Ok, Err}
 use Rattle.std.specs.Global.{Vec}
 use Rattle.std.proofs.Math.ListN.{set}
@@ -25,7 +25,7 @@ pub record MemoryState : Type 0 where
   -- whether the program crashed in a write
   pub stopped : Bool
 
--- a crash leaves the text that is held, and none where there is none
+-- a crash leaves the byte string that is held, and none where there is none
 abbrev pub held : Option (List ℕ) → Texts
 held None = Some []
 held (Some text) = only text
@@ -51,11 +51,11 @@ pub record IsFresh (capacity : ℕ) (store : MemoryState) : Type 0 where
   pub reads : store.reads ≡ replicate 8 false
   pub stopped : store.stopped ≡ false
 
--- another text is held, and the one before recorded
+-- other bytes are held, and those before recorded
 abbrev pub holding : MemoryState → List ℕ → MemoryState
 holding store text = record store { past = store.past ++ store.text ∷ []; text = Some text }
 
--- a read gave this text
+-- a read gave these bytes
 abbrev pub giving : MemoryState → List ℕ → MemoryState
 giving store text = record store { given = Some text }
 
@@ -93,7 +93,7 @@ past_write store =
 abbrev pub past_read : MemoryState → MemoryState
 past_read store = record store { reads = drop 1 store.reads ++ false ∷ [] }
 
--- the store can take a write of this text
+-- the store can take a write of these bytes
 pub record Takes (store : MemoryState) (text : List ℕ) : Type 0 where
   pub running : store.stopped ≡ false
   pub capacity_left : length store.past < store.capacity
@@ -104,7 +104,7 @@ abbrev pub left_by : Left → MemoryState → List ℕ → MemoryState
 left_by Old store text = store
 left_by New store text = holding store text
 
--- a write fails as it is planned to, or where the store can't take it, with the old text left
+-- a write fails as it is planned to, or where the store can't take it, with the old bytes left
 abbrev pub FailsAsPlanned : MemoryState → List ℕ → MemoryState → Type 0
 FailsAsPlanned old text new =
     (Takes old text
@@ -112,7 +112,7 @@ FailsAsPlanned old text new =
     × (new ≡ failed (left_by plan.left (past_write old) text))))
     ⊎ ((¬ Takes old text) × (new ≡ failed (past_write old)))
 
--- what a write of this text answers and leaves
+-- what a write of these bytes answers and leaves
 abbrev pub Replaces : {T : Type 0} → MemoryState → List ℕ → Result T StoreFault → MemoryState
     → Type 0
 Replaces old text (Ok done) new =

@@ -52,8 +52,8 @@ pub record IsLease (key : KeyOfCode) (start len : ℕ) : Type 0 where
   pub at_most : len ≤ most_covered
   pub within : start + len ≤ capacity_of (hss_key_of key)
 
--- each text that a crash now could leave is an image of the key with this number of openings, and
--- with a counter at or after the end of each range
+-- each byte string that a crash now could leave is an image of the key with this number of
+-- openings, and with a counter at or after the end of each range
 abbrev pub IsSafe : KeyOfCode → ℕ → List Range → (List ℕ → Type 0) → Type 0
 IsSafe key number ranges may_leave =
     AllByRecursion (λ range.
@@ -75,8 +75,8 @@ pub record IsNextOf (reserved : ReservationsState) (n : ℕ) (image : Image) : T
   pub burnt : image.burnt ≡ burnt_after reserved.burnt reserved.history
   pub counted : HasImage image.key image.counter image.openings image.burnt
 
--- the store is never behind a lease; and since it held some texts, perhaps any, what was reserved
--- is an opening of which the laws of lives speak
+-- the store counts each lease as used; and since it held one of some byte strings, perhaps of all,
+-- what was reserved is an opening of which the laws of lives speak
 pub record IsBackedBy (reserved : ReservationsState) (store : StoreView) : Type 0 where
   pub safe : IsSafe reserved.key (reserved.openings + 1) (leases reserved.base reserved.history)
       (MayLeave store)
@@ -85,15 +85,15 @@ pub record IsBackedBy (reserved : ReservationsState) (store : StoreView) : Type 
       (opening_of held reserved.key reserved.base reserved.openings reserved.burnt reserved.history)
       store.now
 
--- what a book did since these texts were held is an opening of which the laws of lives speak, and
--- leaves what its store may leave now
+-- what a book did since one of these byte strings was held is an opening of which the laws of lives
+-- speak, and leaves what its store may leave now
 abbrev pub IsOpenedFrom : Texts → BookState → Type 0
 IsOpenedFrom held book =
     IsOpened
     (opening_of held book.key book.base book.openings book.burnt book.history) book.store.now
 
 -- two states of a book under one opening: its key and what was read stay, and where the first is an
--- opening of some texts, so is the second
+-- opening of some byte strings, so is the second
 pub record IsSameOpening (old new : BookState) : Type 0 where
   pub key : new.key ≡ old.key
   pub base : new.base ≡ old.base

@@ -1,16 +1,16 @@
 -- What a store is to contracts: what a crash leaves in it, now and at each moment before, what its
--- last read gave, and how many calls failed. A text is a list of bytes.
+-- last read gave, and how many calls failed. What a name calls `text` is a list of bytes.
 use Rattle.std.specs.Prelude.{◌≡◌, ◌⊎◌, ℕ, ◌+◌, ◌^◌, ◌-◌, max, min, List, [], ◌∷◌, ◌++◌, Contains, drop, length, Option, Some, None, Result, Ok, Err}
 use Rattle.std.specs.Global.{Vec}
 use Rattle.lms_book.specs.declared.fault.ReadFault.{ReadFault}
 use Rattle.lms_book.specs.declared.fault.ReadFault.TheVariants.{Device, OutOfMemory}
 
--- the most bytes of a text that a store keeps without taking memory
+-- the most bytes that a store keeps without taking memory
 abbrev pub longest_text : ℕ
 longest_text = 256
 
--- the texts of which a crash leaves one, and none where there is none; `None` where it may be any
--- text
+-- the byte strings of which a crash leaves one, and none where there is none; `None` where it may
+-- be any
 abbrev pub Texts : Type 0
 Texts = Option (List (List ℕ))
 
@@ -18,25 +18,25 @@ abbrev pub IsAmong : Texts → List ℕ → Type 0
 IsAmong None text = Unit {0}
 IsAmong (Some texts) text = Contains texts text
 
--- this text alone
+-- these bytes alone
 abbrev pub only : List ℕ → Texts
 only text = Some (text ∷ [])
 
--- this text, or one of those
+-- these bytes, or one of those byte strings
 abbrev pub or_else : List ℕ → Texts → Texts
 or_else text None = None
 or_else text (Some texts) = Some (text ∷ texts)
 
--- what contracts see of a store: the texts that a crash could leave now, those that it could leave
--- at each moment before, the first moment first, the text that the last read gave, none before one,
--- and how many calls failed
+-- what contracts see of a store: the byte strings that a crash could leave now, those that it could
+-- leave at each moment before, the first moment first, the one that the last read gave, none before
+-- a read, and how many calls failed
 pub record StoreView : Type 0 where
   pub now : Texts
   pub past : List Texts
   pub given : Option (List ℕ)
   pub failures : ℕ
 
--- a crash now could leave this text
+-- a crash now could leave these bytes
 abbrev pub MayLeave : StoreView → List ℕ → Type 0
 MayLeave store text = IsAmong store.now text
 
@@ -48,11 +48,11 @@ raised n = max n (min (n + 1) (2 ^ 64 - 1))
 abbrev pub moved : Texts → StoreView → StoreView
 moved texts store = record store { now = texts; past = store.past ++ store.now ∷ [] }
 
--- this text was stored for certain
+-- these bytes were stored for certain
 abbrev pub after_write : List ℕ → StoreView → StoreView
 after_write text store = moved (only text) store
 
--- a read gave this text
+-- a read gave these bytes
 abbrev pub having_given : List ℕ → StoreView → StoreView
 having_given text store = record store { given = Some text }
 
@@ -60,18 +60,18 @@ having_given text store = record store { given = Some text }
 abbrev pub after_failure : StoreView → StoreView
 after_failure store = record store { failures = raised store.failures }
 
--- what a crash leaves once a write of this text began and failed: the text, or the text or what it
--- left before
+-- what a crash leaves once a write of these bytes began and failed: these alone, or these or what
+-- it left before
 abbrev pub IsLeftBy : List ℕ → Texts → Texts → Type 0
 IsLeftBy text before after = (after ≡ only text) ⊎ (after ≡ or_else text before)
 
--- a write of this text failed, before it began or later
+-- a write of these bytes failed, before it began or later
 abbrev pub FailsToWrite : List ℕ → StoreView → StoreView → Type 0
 FailsToWrite text old new =
     (new ≡ after_failure old)
     ⊎ ((texts : Texts) × IsLeftBy text old.now texts × (new ≡ after_failure (moved texts old)))
 
--- what a write of this text answers and leaves
+-- what a write of these bytes answers and leaves
 abbrev pub WritesStore : {T E : Type 0} → List ℕ → StoreView → Result T E → StoreView → Type 0
 WritesStore text old (Ok done) new = new ≡ after_write text old
 WritesStore text old (Err fault) new = FailsToWrite text old new
@@ -88,7 +88,7 @@ ReadsStore may_fail old (Err OutOfMemory) new = new ≡ old
 abbrev pub moments_since : StoreView → StoreView → List Texts
 moments_since old new = drop (length old.past) new.past ++ new.now ∷ []
 
--- a crash at some moment of a call could leave this text
+-- a crash at some moment of a call could leave these bytes
 abbrev pub LeavesWithin : StoreView → StoreView → List ℕ → Type 0
 LeavesWithin old new text =
     (texts : Texts) × Contains (moments_since old new) texts × IsAmong texts text

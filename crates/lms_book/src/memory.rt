@@ -1,5 +1,5 @@
 //! A store in memory, for tests. It records the bytes that it held, and fails as planned.
-ghost use Rattle.std.specs.Prelude.{◌≡◌, ◌⊎◌, ◌-◌, ◌<◌, ◌≤◌, [], ◌∷◌, ◌++◌, length, Some, None, true, false, ◌↔◌, IsTrue, IfOk, MatchOption, OnOk, OnErr};
+ghost use Rattle.std.specs.Prelude.{◌≡◌, ◌-◌, ◌<◌, ◌≤◌, length, Some, None, true, false, ◌↔◌, IsTrue, IfOk, MatchOption};
 ghost use Rattle.std.proofs.Math.ListN.{set};
 ghost use Rattle.lms_book.specs.Stops.{longest_text};
 ghost use Rattle.lms_book.specs.Memory.{IsFresh, Takes, holding, giving, failed, planning, next_write, past_write, next_read, past_read};
@@ -24,8 +24,8 @@ pub struct MemoryStore {
     given: LastRead,
     capacity: usize,
     failures: u64,
-    writes: [Option<Plan>; 8],
-    reads: [bool; 8],
+    writes: [Option<Plan>; PLANS],
+    reads: [bool; PLANS],
     stopped: bool,
 }
 

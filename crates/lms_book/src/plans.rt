@@ -23,7 +23,7 @@ pub(crate) const PLANS: usize = 8;
 
 /// Takes what is planned for the next call. The other plans move one place forward, and `last`
 /// comes after them.
-pub(crate) fn take_first<T: Copy>(plans: &mut [T; 8], last: T) -> T
+pub(crate) fn take_first<T: Copy>(plans: &mut [T; PLANS], last: T) -> T
     ensures first { result ≡ get_or plans.old 0 last }
     ensures others { plans.new ≡ drop 1 plans.old ++ last ∷ [] }
 {

@@ -63,7 +63,7 @@ fn has_history(book: &Book<MemoryStore>, history: &[Entry]) -> bool {
 }
 
 /// Whether the book says these numbers of openings and of burnt indices.
-fn opened_and_burnt(book: &Book<MemoryStore>, openings: u64, burnt: u64) -> bool {
+fn has_opened_and_burnt(book: &Book<MemoryStore>, openings: u64, burnt: u64) -> bool {
     book.openings() == openings && book.burnt() == burnt
 }
 
@@ -92,7 +92,7 @@ fn ranges_follow_each_other(rt: HostRuntime) -> Result<(), Fail> {
     assert!(rt; has_history(&book, &history));
     let key = key_of(&LEVELS, 0x11)?;
     assert!(rt; book.key() == key);
-    assert!(rt; opened_and_burnt(&book, 0, 0));
+    assert!(rt; has_opened_and_burnt(&book, 0, 0));
     assert!(rt; leaves(book, key, 32, 1, 0));
     Ok(())
 }
@@ -148,9 +148,9 @@ fn a_failed_write_burns(rt: HostRuntime) -> Result<(), Fail> {
         let mut book = book_of(rt.alloc(), store)?;
         assert!(rt; gives(&mut book, 10, 0));
         assert!(rt; burns(&mut book, 5, 10));
-        assert!(rt; counts(&book, 0, 15, 10) && opened_and_burnt(&book, 0, 5));
+        assert!(rt; counts(&book, 0, 15, 10) && has_opened_and_burnt(&book, 0, 5));
         assert!(rt; gives(&mut book, 5, 15));
-        assert!(rt; counts(&book, 0, 20, 20) && opened_and_burnt(&book, 0, 5));
+        assert!(rt; counts(&book, 0, 20, 20) && has_opened_and_burnt(&book, 0, 5));
         let history = [
             Entry::Given { len: 10 },
             Entry::Burnt { len: 5 },
@@ -209,7 +209,7 @@ fn a_tall_key_is_used_up(rt: HostRuntime) -> Result<(), Fail> {
 #[test]
 fn an_exhausted_key_of_version_1_opens(rt: HostRuntime) -> Result<(), Fail> {
     let mut book = book_of(rt.alloc(), first_store(rt.alloc(), FIRST_EXHAUSTED)?)?;
-    assert!(rt; counts(&book, 32, 32, 32) && opened_and_burnt(&book, 0, 0));
+    assert!(rt; counts(&book, 32, 32, 32) && has_opened_and_burnt(&book, 0, 0));
     assert!(rt; refuses(&mut book, 1, 0));
     Ok(())
 }

@@ -10,7 +10,7 @@ ghost use Rattle.lms_spec.specs.Hss.{HssAccepts};
 ghost use Rattle.lms_hss.specs.Bottoms.{IsMessageHead};
 ghost use Rattle.lms_c.specs.Pieces.{joined};
 
-use lms_hss::{MESSAGE_HEAD_LEN, OneByOne, Verifier};
+use lms_hss::{HASH_LEN, MESSAGE_HEAD_LEN, OneByOne, Verifier};
 
 /// Whether a signature is accepted for a message under a public key (RFC 8554, 6.3). The three may
 /// have any length.
@@ -69,7 +69,7 @@ pub extern "C" fn lms_message_head(
 /// Whether a signature is accepted for a message under a public key (RFC 8554, 6.3), given the
 /// SHA-256 of its head and the message. Also false where there is no head.
 #[unsafe(no_mangle)]
-pub extern "C" fn lms_verify_hash(public: &[u8], signature: &[u8], hash: &[u8; 32]) -> bool
+pub extern "C" fn lms_verify_hash(public: &[u8], signature: &[u8], hash: &[u8; HASH_LEN]) -> bool
     ensures verdict { (head message : List ℕ) → IsMessageHead public.now signature.now head
         → hash.now ≡ sha256 (head ++ message)
         → (IsTrue result ↔ HssAccepts public.now message signature.now) }

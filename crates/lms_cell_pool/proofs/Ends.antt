@@ -3,7 +3,7 @@ use Rattle.std.proofs.Common.{◌≡◌, ℕ, ◌≤◌, ◌<◌, List, [], ◌�
 use Rattle.std.proofs.lemmas.List.Elements.{All-head}
 use mathlib.Core.Option.{some}
 use Rattle.atomic_table.proofs.Lists.{at_map}
-use Rattle.lms_pool.specs.declared.call_log.Entry.{Entry}
+use Rattle.lms_pool.specs.declared.call_log.LoggedCall.{LoggedCall}
 use Rattle.lms_pool.specs.Rule.{Fits}
 use Rattle.lms_pool.specs.States.{PoolState, SeatState}
 use Rattle.lms_pool.proofs.Wholes.{Whole, hand_of, hands_length, hands_of, nothing_before, whole}
@@ -16,7 +16,7 @@ abbrev pub own_view : PoolState → SeatState → View
 own_view pool seat = Some (known pool.seats (hand_of seat ∷ []))
 
 -- the length that the hands of a pool's seats know
-length_known : (len : ℕ) (log : List Entry) (pool : PoolState) (seats : List SeatState) → 0 < length seats → All (Fits len log) (hands_of seats)
+length_known : (len : ℕ) (log : List LoggedCall) (pool : PoolState) (seats : List SeatState) → 0 < length seats → All (Fits len log) (hands_of seats)
     → All (λ (s : SeatState). s.pool ≡ pool) seats → len ≡ pool.len
 length_known len log pool [] full fits own = absurd (omega arith)
 length_known len log pool (s ∷ ss) full fits own =

@@ -5,9 +5,9 @@ use Rattle.atomic_table.specs.Seated.{TableId}
 use Rattle.crossbeam_utils.specs.Seq.{cell_view}
 use Rattle.lms_pool.specs.declared.call_log.Call.{Call}
 use Rattle.lms_pool.specs.declared.call_log.Reply.{Reply}
-use Rattle.lms_pool.specs.declared.call_log.Entry.{Entry}
+use Rattle.lms_pool.specs.declared.call_log.LoggedCall.{LoggedCall}
 use Rattle.lms_pool.specs.declared.call_log.Hand.{Hand}
-use Rattle.lms_pool.specs.CallLog.{entry, calls_of, stopped_by, stopped_in}
+use Rattle.lms_pool.specs.CallLog.{logged_call, calls_of, stopped_by, stopped_in}
 use Rattle.lms_pool.specs.Rule.{hand, Makes}
 use Rattle.lms_pool.specs.States.{SeatState, IsSeatOf, Calls}
 use Rattle.lms_pool.proofs.CallLogs.{stopped_after, stopped_within}
@@ -34,7 +34,7 @@ pub record Called (me : Inside) (c : Call) (r : Reply) (w : View) : Type 0 where
   pub stays : (stopped : ℕ) (table : TableId) → table ≡ me.token.table_id → stopped ≡ me.stopped + stopped_by c r → IsCellSeat me.pool.value me.number stopped table w
 
 module _ (me : Inside) (seat : IsWell me) where
-  abbrev old_log : List Entry
+  abbrev old_log : List LoggedCall
   old_log = (hand_in (cell_view me.token)).log
 
   -- its hand became this one by a call
@@ -42,7 +42,7 @@ module _ (me : Inside) (seat : IsWell me) where
   after_call c r w k is m = subst (Called me c r) (sym is) (record {
     makes = λ before same. subst (λ (s : SeatState). Calls s c r (seat_with me (Some (known me.pool.value.seats (k ∷ []))))) same (refl, refl, m.2);
     stays = λ stopped table same adds.
-        let counted : stopped ≡ stopped_in (calls_of me.number k.log) = omega (arith, adds, seat.of_pool.counted, stopped_after me.pool.value.len old_log (entry me.number c r) k.log m.2) in
+        let counted : stopped ≡ stopped_in (calls_of me.number k.log) = omega (arith, adds, seat.of_pool.counted, stopped_after me.pool.value.len old_log (logged_call me.number c r) k.log m.2) in
         record {
           of_pool = record {
             below = seat.of_pool.below;

@@ -156,6 +156,6 @@ fills id v y e none short few x views kept at = (all, ⊎_elim first later kept,
     later : Filled x views → CellKept y (set views id all)
     later F = absurd (not_blank (known (seats_in v) (hands_in v)) (sym e ∙ F.knows id v at))
 
--- the load that tells the rule
+-- the last load, after which the rule is known to have held
 pub finds : (id : ℕ) (v : View) → Turns CellKept id v (λ x. x) found
 finds id v x views kept at = (v, subst (CellKept x) (sym (set_again views id v at)) kept, (views, id, at, kept))

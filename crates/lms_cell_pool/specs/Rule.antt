@@ -89,6 +89,6 @@ abbrev pub changed : Call → View → Places → Places → View → Type 0
 changed call v x y w =
     SeatTells (λ h k. (y ≡ x → k ≡ h) × (x.taken < y.taken → MakesAt call x h k)) v w
 
--- the last load tells that the rule held, with this token's view among the views
+-- after the last load the rule is known to have held, with this token's view among the views
 abbrev pub found : View → Places → Places → View → Type 0
 found v x y w = (views : List View) × (id : ℕ) × (get_elem? views id ≡ some v) × CellKept x views

@@ -6,7 +6,7 @@ ghost use Rattle.lms_cell_pool.specs.States.{place_reply};
 
 use crate::pass::CellPass;
 use crate::pool::CellPool;
-use crate::rule::{Draw, PeekClaim, Places};
+use crate::rule::{ClaimStep, PeekClaim, Places};
 use crate::seat::CellSeat;
 use lms_pool::Ended;
 use std::snapshot::Snapshot;
@@ -63,7 +63,7 @@ impl CellPool {
         };
         match self
             .cell
-            .compare_exchange_as::<Draw, R>(rt, &mut me.token, found, next)
+            .compare_exchange_as::<ClaimStep, R>(rt, &mut me.token, found, next)
         {
             Ok(_) => Some(Ok(found.taken)),
             Err(_) => None,

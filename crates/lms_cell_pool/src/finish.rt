@@ -1,6 +1,6 @@
 //! The end of a pool.
 ghost use Rattle.std.specs.Prelude.{◌≡◌, ◌+◌, ◌≤◌, ◌↔◌, List, All, IfOk, IfErr, IsOk, vec_len};
-ghost use Rattle.lms_pool.specs.declared.call_log.Entry.{Entry};
+ghost use Rattle.lms_pool.specs.declared.call_log.LoggedCall.{LoggedCall};
 ghost use Rattle.lms_pool.specs.Ends.{IsWhole, Tallies};
 
 use crate::pool::CellPool;
@@ -24,8 +24,8 @@ impl CellPool {
     ) -> Result<Tally, (MissingSeats, CellPool, Vec<CellSeat>)>
         requires { All (λ seat. seat.pool ≡ self) seats.items }
         ensures ok { IsOk result ↔ (self.seats ≤ vec_len seats) }
-        ensures history { IfOk result (λ t.
-            (log : List Entry) × IsWhole self.len seats.items log × Tallies self.len log t) }
+        ensures call_log { IfOk result (λ t.
+            (log : List LoggedCall) × IsWhole self.len seats.items log × Tallies self.len log t) }
         ensures sum { IfOk result (λ t. t.claimed + t.stopped + t.left ≡ self.len) }
         ensures err { IfErr result (λ e.
             (e.0.present ≡ vec_len seats) × (e.1 ≡ self) × (e.2 ≡ seats)) }

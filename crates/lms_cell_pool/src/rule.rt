@@ -72,9 +72,9 @@ impl Outcome<Places, View> for PeekClaim {
 }
 
 /// The step of a claim, n to n + 1.
-pub struct Draw;
+pub struct ClaimStep;
 
-impl Outcome<Places, View> for Draw {
+impl Outcome<Places, View> for ClaimStep {
     ghost then = { changed Claim };
 }
 

@@ -62,13 +62,13 @@ turn_of run = by_log run.logged
     obeys : (command : Command) → AreTakenAs run.words command → Obeyed command run.whole run.before run.printed → TurnOf run
     obeys command taken (turn, signatures, is, hands) = as_run run turn signatures is (inr (command, taken, hands))
 
-    by_log : LogsRun run.words run.end run.input run.rest run.before run.printed run.reported_before run.reported [] run.whole → TurnOf run
+    by_log : LogsRun run.words run.end run.input run.rest run.before run.printed run.errors_before run.errors_after [] run.whole → TurnOf run
     by_log (inl (inl (same, inl help))) = idle same (inl help.0)
     by_log (inl (inl (same, inr mistaken))) = idle same (inr mistaken.2)
     by_log (inl (inr (command, taken, is))) = obeys command taken (obeyed command run.end run.input run.rest run.before run.printed run.whole is)
-    by_log (inr (fault, at, reported, inl (same, inl refused))) = idle same (inr refused.1)
-    by_log (inr (fault, at, reported, inl (same, inr help))) = idle same (inl help.0)
-    by_log (inr (fault, at, reported, inr (command, taken, is))) = obeys command taken (failed command fault run.input run.rest run.before run.printed run.whole is)
+    by_log (inr (fault, at, grown, inl (same, inl refused))) = idle same (inr refused.1)
+    by_log (inr (fault, at, grown, inl (same, inr help))) = idle same (inl help.0)
+    by_log (inr (fault, at, grown, inr (command, taken, is))) = obeys command taken (failed command fault run.input run.rest run.before run.printed run.whole is)
 
 turns_of : (runs : List ProgramRun) → (turns : List TakenTurn) × TakeTurns runs turns
 turns_of [] = ([], tt)

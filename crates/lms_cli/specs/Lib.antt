@@ -1,6 +1,6 @@
 pub mod Application
 pub mod Commands
 pub mod Runs
-pub mod UsageWords
+pub mod UsageArguments
 pub mod RunLogs
 pub mod RunTurns

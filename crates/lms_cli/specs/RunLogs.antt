@@ -78,12 +78,12 @@ LogsRefused words fault input rest before printed old new =
     ⊎ ((command : Command) × AreTakenAs words command
     × LogsFailed command fault input rest before printed old new)
 
--- all calls of a run that ends so; at a fault no more than its line goes to the errors, of which
--- this was known before and is now
+-- all calls of a run that ends so; at a fault, what standard error is known to have taken grows by
+-- that fault's line or a beginning of it, and by nothing else
 abbrev pub LogsRun : List Text → Status → Option (List ℕ) → Option (List ℕ) → List ℕ → List ℕ
     → Option (List ℕ) → Option (List ℕ) → WorldCalls → WorldCalls → Type 0
-LogsRun words end input rest before printed reported_before reported old new =
+LogsRun words end input rest before printed errors_before errors_after old new =
     LogsAnswered words end input rest before printed old new
     ⊎ ((fault : Fault) × (end ≡ status_of fault)
-    × AppendsFront reported_before reported (fault_line fault)
+    × AppendsFront errors_before errors_after (fault_line fault)
     × LogsRefused words fault input rest before printed old new)

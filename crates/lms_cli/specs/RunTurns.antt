@@ -32,11 +32,11 @@ pub record ProgramRun : Type 0 where
   pub rest : Option (List ℕ)
   pub before : List ℕ
   pub printed : List ℕ
-  pub reported_before : Option (List ℕ)
-  pub reported : Option (List ℕ)
+  pub errors_before : Option (List ℕ)
+  pub errors_after : Option (List ℕ)
   pub whole : WorldCalls
   pub begun : WorldCalls
-  pub logged : LogsRun words end input rest before printed reported_before reported [] whole
+  pub logged : LogsRun words end input rest before printed errors_before errors_after [] whole
   pub first : IsBeginning begun whole
 
 -- nothing is called, and nothing is printed but help; or what the arguments ask for hands out these

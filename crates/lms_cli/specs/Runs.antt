@@ -168,8 +168,8 @@ KeepsNodes old new words =
     SameNodes old new ⊎ ((command : Command) × AreTakenAs words command × Keeps old new command)
 
 -- what a run of the program finds or leaves: the world, what is known of it and the calls on it;
--- the input and what is still to be read of it; what is printed to the output; the errors and what
--- is printed to them
+-- the input and what is still to be read of it; what is printed to the output; standard error and
+-- the text that it is known to have taken
 pub record Setting (W I E : Type 0) : Type 1 where
   pub world : W
   pub known : Known
@@ -178,11 +178,11 @@ pub record Setting (W I E : Type 0) : Type 1 where
   pub remaining : Option (List ℕ)
   pub output : List ℕ
   pub errors : E
-  pub reported : Option (List ℕ)
+  pub error_text : Option (List ℕ)
 
 abbrev pub setting : {W I E : Type 0} → W → Known → WorldCalls → I → Option (List ℕ) → List ℕ → E
     → Option (List ℕ) → Setting W I E
-setting world known calls input remaining output errors reported =
+setting world known calls input remaining output errors error_text =
     record {
       world = world;
       known = known;
@@ -191,7 +191,7 @@ setting world known calls input remaining output errors reported =
       remaining = remaining;
       output = output;
       errors = errors;
-      reported = reported;
+      error_text = error_text;
     }
 
 abbrev pub moment_of : {W I E : Type 0} → Setting W I E → Moment
@@ -201,7 +201,7 @@ moment_of at = moment at.known at.remaining (Some at.output)
 pub record Runs {W I E : Type 0} (old new : Setting W I E) (words : List Text)
     (end : Status) : Type 0 where
   pub logged : LogsRun words end old.remaining new.remaining old.output new.output
-      old.reported new.reported old.calls new.calls
+      old.error_text new.error_text old.calls new.calls
   pub ends : Ends (moment_of old) (moment_of new) words end
   pub quiet : status_number end < 2 → (new.errors ≡ old.errors)
       ⊎ ((end ≡ status.Negative) × AsksToRead words)

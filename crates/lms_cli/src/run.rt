@@ -116,7 +116,7 @@ fn answer<S: AsStr, W: World, I: Read, O: Write, E: Write>(
         (moment (W.known world.new) (I.remaining input.new) (Some output.new))
         (map S.text words.now)) }
     ensures quiet { IfOk result (λ status. status_number status < 2 → errors.new ≡ errors.old) }
-    ensures unreported { OnErr result (errors.new ≡ errors.old) }
+    ensures no_error_text { OnErr result (errors.new ≡ errors.old) }
     ensures silent { MatchResult result (λ status.
         2 ≤ status_number status → output.new ≡ output.old)
         (λ fault. PrintsNothing fault → output.new ≡ output.old) }

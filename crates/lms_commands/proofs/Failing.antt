@@ -10,7 +10,7 @@ use Rattle.lms_commands.specs.Faults.{of_read}
 use Rattle.lms_commands.specs.Verifying.{MayBeRefusedAt}
 use Rattle.lms_world.specs.declared.fault.WorldFault.{WorldFault}
 use Rattle.lms_world.specs.declared.fault.WorldFault.TheVariants as world
-use Rattle.lms_commands.specs.Logs.{IsReadRefused, IsUnpublished, WorldCalls}
+use Rattle.lms_commands.specs.Logs.{IsReadRefused, FailsToPublish, WorldCalls}
 use Rattle.lms_commands.specs.declared.fault.Fault.{Fault}
 use Rattle.lms_commands.specs.declared.fault.Fault.TheVariants.{BadLevels, TooManyLevels, TooTall, BadSeed, BadId, BadRandom, BadWorkers, BadJob, TooManyJobs, StateExists, StateInUse, ReadState, BadState, WriteState, WriteStateBurnt, Exhausted, OutOfMemory, OutOfMemoryBurnt, Partial, ReadInput, WriteOutput}
 
@@ -58,29 +58,29 @@ signed_still old mid new state random message signature index is stays = record 
 }
 
 -- why a key was not made once its state may have been stored
-pub not_published : (old new : Known) (key : KeyOfCode) (state public : Bytes) (bytes line before printed : List ℕ) (then now : WorldCalls)
-    → MayBeNewKey old new key state → (fault : Fault) → IsUnpublished public bytes line before printed fault then now → FailsToMakeKey old new key state fault
-not_published old new key state public bytes line before printed then now made BadLevels never = absurd never
-not_published old new key state public bytes line before printed then now made TooManyLevels never = absurd never
-not_published old new key state public bytes line before printed then now made TooTall never = absurd never
-not_published old new key state public bytes line before printed then now made BadSeed never = absurd never
-not_published old new key state public bytes line before printed then now made BadId never = absurd never
-not_published old new key state public bytes line before printed then now made BadRandom never = absurd never
-not_published old new key state public bytes line before printed then now made BadWorkers never = absurd never
-not_published old new key state public bytes line before printed then now made (BadJob bad) never = absurd never
-not_published old new key state public bytes line before printed then now made TooManyJobs never = absurd never
-not_published old new key state public bytes line before printed then now made StateExists never = absurd never
-not_published old new key state public bytes line before printed then now made StateInUse never = absurd never
-not_published old new key state public bytes line before printed then now made ReadState never = absurd never
-not_published old new key state public bytes line before printed then now made (BadState bad) never = absurd never
-not_published old new key state public bytes line before printed then now made WriteState never = absurd never
-not_published old new key state public bytes line before printed then now made (WriteStateBurnt start len) never = absurd never
-not_published old new key state public bytes line before printed then now made (Exhausted left) never = absurd never
-not_published old new key state public bytes line before printed then now made OutOfMemory is = inr made
-not_published old new key state public bytes line before printed then now made (OutOfMemoryBurnt count) never = absurd never
-not_published old new key state public bytes line before printed then now made (Partial signed asked) never = absurd never
-not_published old new key state public bytes line before printed then now made ReadInput never = absurd never
-not_published old new key state public bytes line before printed then now made WriteOutput is = made
+pub failed_publishing : (old new : Known) (key : KeyOfCode) (state public : Bytes) (bytes line before printed : List ℕ) (then now : WorldCalls)
+    → MayBeNewKey old new key state → (fault : Fault) → FailsToPublish public bytes line before printed fault then now → FailsToMakeKey old new key state fault
+failed_publishing old new key state public bytes line before printed then now made BadLevels never = absurd never
+failed_publishing old new key state public bytes line before printed then now made TooManyLevels never = absurd never
+failed_publishing old new key state public bytes line before printed then now made TooTall never = absurd never
+failed_publishing old new key state public bytes line before printed then now made BadSeed never = absurd never
+failed_publishing old new key state public bytes line before printed then now made BadId never = absurd never
+failed_publishing old new key state public bytes line before printed then now made BadRandom never = absurd never
+failed_publishing old new key state public bytes line before printed then now made BadWorkers never = absurd never
+failed_publishing old new key state public bytes line before printed then now made (BadJob bad) never = absurd never
+failed_publishing old new key state public bytes line before printed then now made TooManyJobs never = absurd never
+failed_publishing old new key state public bytes line before printed then now made StateExists never = absurd never
+failed_publishing old new key state public bytes line before printed then now made StateInUse never = absurd never
+failed_publishing old new key state public bytes line before printed then now made ReadState never = absurd never
+failed_publishing old new key state public bytes line before printed then now made (BadState bad) never = absurd never
+failed_publishing old new key state public bytes line before printed then now made WriteState never = absurd never
+failed_publishing old new key state public bytes line before printed then now made (WriteStateBurnt start len) never = absurd never
+failed_publishing old new key state public bytes line before printed then now made (Exhausted left) never = absurd never
+failed_publishing old new key state public bytes line before printed then now made OutOfMemory is = inr made
+failed_publishing old new key state public bytes line before printed then now made (OutOfMemoryBurnt count) never = absurd never
+failed_publishing old new key state public bytes line before printed then now made (Partial signed asked) never = absurd never
+failed_publishing old new key state public bytes line before printed then now made ReadInput never = absurd never
+failed_publishing old new key state public bytes line before printed then now made WriteOutput is = made
 
 -- why a message that was read was not signed under a lock, or not delivered
 pub failed_under : (old new : Known) (state random message : Bytes) (randomizer text : List ℕ) → (length randomizer ≡ 32) × (decode_of random ≡ Ok randomizer)

@@ -18,7 +18,7 @@ use Rattle.lms_commands.specs.KeygenLogs.{LogsUnmade, WritesKey, capacity_line}
 use Rattle.lms_commands.specs.declared.fault.Fault.{Fault}
 use Rattle.lms_commands.specs.declared.fault.Fault.TheVariants.{BadLevels, TooManyLevels, TooTall, BadSeed, BadId, BadRandom, BadWorkers, BadJob, TooManyJobs, StateExists, StateInUse, ReadState, BadState, WriteState, WriteStateBurnt, Exhausted, OutOfMemory, OutOfMemoryBurnt, Partial, ReadInput, WriteOutput}
 use Rattle.lms_commands.specs.Faults.{of_opening, of_signing}
-use Rattle.lms_commands.specs.Logs.{IsUnpublished, LeavesState, WorldCalls, LogsKeeping, LogsUnopened, LogsUnsigned, OpensState, ReadsState, StoresUse, TriesUse, state_of}
+use Rattle.lms_commands.specs.Logs.{FailsToPublish, LeavesState, WorldCalls, LogsKeeping, LogsUnopened, LogsUnsigned, OpensState, ReadsState, StoresUse, TriesUse, state_of}
 use Rattle.lms_commands.specs.SignLogs.{LogsSigned}
 use Rattle.lms_commands.specs.Signing.{GivesOne, SignsNothing}
 use Rattle.lms_commands.specs.declared.sign.NextFault.{NextFault}
@@ -106,7 +106,7 @@ module _ (before after_it : BookState) (view : StoreView) (old opened back : Wor
 -- a key's state was stored, and its public key or capacity not published
 pub unmade : (key : KeyOfCode) (public : Bytes) (before printed : List ℕ) (old kept new : WorldCalls)
     → ((written : Bool) → WritesKey key public written old (Written public (hss_public_key (hss_key_of key)) written ∷ kept)) → (fault : Fault)
-    → IsUnpublished public (hss_public_key (hss_key_of key)) (capacity_line key) before printed fault kept new → LogsUnmade key public before printed fault old new
+    → FailsToPublish public (hss_public_key (hss_key_of key)) (capacity_line key) before printed fault kept new → LogsUnmade key public before printed fault old new
 unmade key public before printed old kept new writes BadLevels never = absurd never
 unmade key public before printed old kept new writes TooManyLevels never = absurd never
 unmade key public before printed old kept new writes TooTall never = absurd never

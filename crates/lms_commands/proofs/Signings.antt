@@ -90,7 +90,7 @@ module _ (old new : Known) (state : Bytes) (before after : BookState) (store : S
   pub next_used : (index : ℕ) → GivesOne before after → index ≡ counter before → MayUseIndices 1 old new state before.key index
   next_used index gives at = subst (λ (n : ℕ). MayUseIndices 1 old new state before.key n) (sym (at ∙ is_fresh.used)) (uses_next gives)
 
-  -- the nodes of a text that might be kept
+  -- the nodes of bytes that might be kept
   pub nodes_kept : (text : Option (List ℕ)) (random message signature : List ℕ) (index : ℕ) (trees : Option Way) → IfSome text (old.may_keep state)
       → (is : IsSignedByText text before.key index random message signature trees) → MayBeKept old state before.key is.nodes
   nodes_kept text random message signature index trees kept is = record {

@@ -29,14 +29,14 @@ pub are_right : (at : Known) (state : Bytes) (key : KeyOfCode) (nodes : Option W
 are_right at state key None kept right = tt
 are_right at state key (Some way) kept right = right way kept.way kept.of_key kept.text
 
--- where the text of right trees is that of others, these are right
+-- where the bytes of right trees are those of others, these are right
 text_right : (kept : Option Way) (trees : Way) (key : KeyOfCode) → IsWay trees → trees.key ≡ key → AreGenuine trees → IfSome kept (λ it. it ≡ trees)
     → (way : Way) → IsWay way → way.key ≡ key → IsTextOf kept (nodes_text way) → AreGenuine way
 text_right None trees key trees_way trees_key genuine same way is of_key text_is = absurd text_is
 text_right (Some it) trees key trees_way trees_key genuine same way is of_key text_is =
     stays_genuine trees way trees_way is (trees_key ∙ sym of_key) (ap nodes_text (sym same) ∙ sym text_is) genuine
 
--- the text of trees is kept, where any is, that were made from nodes which might be kept before
+-- the bytes of trees are kept, where any are, that were made from nodes which might be kept before
 pub stays_right : (old new : Known) (state : Bytes) (key : KeyOfCode) (nodes kept : Option Way) (trees : Way) → MayBeKept old state key nodes
     → IsWay trees → trees.key ≡ key → (AreRight nodes → AreGenuine trees) → IfSome kept (λ it. it ≡ trees) → KeepsOnly kept old new → StaysRight old new state key
 stays_right old new state key nodes kept trees may_be trees_way trees_key made same only right way is of_key may =

@@ -45,7 +45,7 @@ pub data Turn : Type 0 where
   StoresNothing : Turn
   -- it finds no state, and stores that of a key of which no index is used
   Makes : (key : KeyOfCode) → Turn
-  -- it reads a text, the image of a state, and stores the image that counts so many indices more
+  -- it reads bytes, the image of a state, and stores the image that counts so many indices more
   Uses : (count : ℕ) (state : KeyState) (text : List ℕ) → Turn
 
 -- the image that it stores, for certain or not
@@ -94,7 +94,7 @@ FindsNone calls =
     (later earlier : WorldCalls) × (calls ≡ later ++ Asked false ∷ earlier)
     × (store_calls earlier ≡ [])
 
--- a text is read, the image of a state, and the image that counts so many indices more is stored,
+-- bytes are read, the image of a state, and the image that counts so many indices more is stored,
 -- for certain or not
 pub record UsesIndices (count : ℕ) (state : KeyState) (text : List ℕ)
     (calls : WorldCalls) : Type 0 where
@@ -208,11 +208,11 @@ pub record TakenTurn : Type 0 where
 abbrev pub left_in : TakenTurn → List Signature
 left_in run = if list_any hands_out run.begun then run.signatures else []
 
--- what may be stored as the state: texts, or none where there may be no state
+-- the byte strings of which one may be stored as the state, and none where there may be no state
 abbrev pub Held : Type 0
 Held = List (Option (List ℕ))
 
--- a turn finds something that may be stored: none, or the text that it reads
+-- a turn finds something that may be stored: none, or the bytes that it reads
 abbrev pub FindsHeld : Turn → Held → Type 0
 FindsHeld StoresNothing held = Unit {0}
 FindsHeld (Makes key) held = Contains held None

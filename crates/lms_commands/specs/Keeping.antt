@@ -12,12 +12,12 @@ pub record MayBeKept (at : Known) (state : Bytes) (key : KeyOfCode)
   pub of_key : IfSome nodes (λ way. way.key ≡ key)
   pub text : IfSome nodes (λ way. at.may_keep state (nodes_text way))
 
--- the text is that of these trees
+-- the bytes `text` are those of these trees
 abbrev pub IsTextOf : Option Way → Bytes → Type 0
 IsTextOf None text = ⊥
 IsTextOf (Some trees) text = text ≡ nodes_text trees
 
--- what may be kept beside each state is what might be before, or the text of these trees, where
+-- what may be kept beside each state is what might be before, or the bytes of these trees, where
 -- there are any
 abbrev pub KeepsOnly : Option Way → Known → Known → Type 0
 KeepsOnly trees old new =

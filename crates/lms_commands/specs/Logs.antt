@@ -44,7 +44,7 @@ state_in image =
 abbrev pub image_using : ℕ → KeyState → List ℕ
 image_using n state = image_of state.key (state.index + n) (state.openings + 1) state.burnt
 
--- a store that was taken out gave a text, the image of this state
+-- a store that was taken out gave bytes, the image of this state
 pub record ReadsState (state : KeyState) (taken read : StoreView) : Type 0 where
   pub text : List ℕ
   pub left : MayLeave taken text
@@ -58,7 +58,7 @@ OpensState book old new =
     (taken : StoreView) × ReadsState (state_of book) taken book.store
     × (new ≡ after (Taken (Some taken) ∷ []) old)
 
--- a state is not opened: its store fails, its text is no image, or memory runs out; nothing is
+-- a state is not opened: its store fails, its bytes are no image, or memory runs out; nothing is
 -- written
 abbrev pub LogsUnopened : Fault → WorldCalls → WorldCalls → Type 0
 LogsUnopened ReadState old new =
@@ -106,7 +106,7 @@ LogsUnsigned n (WriteStateBurnt start len) state old new =
 LogsUnsigned n (OutOfMemoryBurnt count) state old new = (count ≡ n) × StoresUse n state old new
 LogsUnsigned n _ state old new = ⊥
 
--- the text of these trees is kept, which is done or fails, or nothing is
+-- the bytes of these trees are kept, which is done or fails, or nothing is
 abbrev pub LogsKeeping : Option Way → WorldCalls → WorldCalls → Type 0
 LogsKeeping trees old new =
     (new ≡ old)
@@ -125,14 +125,14 @@ IsReadRefused ReadInput = Unit {0}
 IsReadRefused OutOfMemory = Unit {0}
 IsReadRefused _ = ⊥
 
--- these bytes are not written to a file, and then nothing is printed, or at most a beginning of the
--- line after them
-abbrev pub IsUnpublished : Bytes → List ℕ → List ℕ → List ℕ → List ℕ → Fault → WorldCalls
+-- at this fault these bytes are not written to a file and nothing is printed; or they are, and of
+-- the line after them a beginning at most is printed
+abbrev pub FailsToPublish : Bytes → List ℕ → List ℕ → List ℕ → List ℕ → Fault → WorldCalls
     → WorldCalls → Type 0
-IsUnpublished name bytes line before printed OutOfMemory old new =
+FailsToPublish name bytes line before printed OutOfMemory old new =
     (new ≡ after (Written name bytes false ∷ []) old) × (printed ≡ before)
-IsUnpublished name bytes line before printed WriteOutput old new =
+FailsToPublish name bytes line before printed WriteOutput old new =
     ((new ≡ after (Written name bytes false ∷ []) old) × (printed ≡ before))
     ⊎ ((new ≡ after (Written name bytes true ∷ Printing before ∷ []) old)
     × AppendsFront (Some before) (Some printed) line)
-IsUnpublished name bytes line before printed _ old new = ⊥
+FailsToPublish name bytes line before printed _ old new = ⊥

@@ -14,9 +14,8 @@ use lms_lines::{JobsFault, LinesFault, WriteFault};
 use lms_params::OutOfMemory;
 use lms_texts::{LevelsTextFault, print_line};
 use lms_world::WorldFault;
-use std::error::Error;
-use std::fmt;
 use std::io::Write;
+use std::{error, fmt};
 
 /// Why the program ends with a fault.
 #[derive(Clone, Copy, Debug, PartialEq, Eq)]
@@ -130,7 +129,7 @@ impl fmt::Display for Fault {
     }
 }
 
-impl Error for Fault {}
+impl error::Error for Fault {}
 
 impl From<KeyFault> for Fault {
     ghost from_gives = { λ key_fault fault. fault ≡ of_key key_fault };
@@ -243,8 +242,7 @@ impl From<BookFault> for Fault {
     }
 }
 
-/// Prints the fault's line, `error: ` and its text. Where the writer fails, a beginning of it was
-/// written.
+/// Prints the fault's line, `error: ` and its text; where the writer fails, a beginning of it.
 pub fn print_fault<W: Write>(errors: &mut W, fault: Fault) -> Result<(), WriteFault>
     ensures printed { OnOk result
         (Appends (W.contents errors.old) (W.contents errors.new) (fault_line fault)) }

@@ -24,8 +24,8 @@ pub(crate) fn kept_text<W: World>(
     world.read_nodes(alloc, log, lock, MOST_TEXT_LEN)
 }
 
-/// Keeps these trees beside the state of a lock, where that can be done. Where it can't, nothing is
-/// reported: whoever finds nothing right there computes all again.
+/// Keeps these trees beside the state of a lock, where that can be done. Where it can't, that is no
+/// fault: whoever finds nothing right there computes all again.
 pub(crate) fn keep_trees<W: World>(
     alloc: Global,
     world: &mut W,

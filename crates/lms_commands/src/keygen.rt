@@ -1,11 +1,11 @@
 //! `keygen`: a new key's state, and its public key.
-ghost use Rattle.std.specs.Prelude.{Some, [], ◌∷◌, ◌++◌, ◌≡◌, ◌≢◌, ◌⊎◌, ℕ, List, IfErr, IfOk, OnErr, OnOk, codes, false, true};
+ghost use Rattle.std.specs.Prelude.{Some, [], ◌∷◌, ◌++◌, ◌≡◌, ◌≢◌, ℕ, List, IfErr, IfOk, OnOk, codes, true};
 ghost use Rattle.std.specs.Io.KnownBytes.{Appends};
 ghost use Rattle.lms_image.specs.Image.{image_of};
 ghost use Rattle.lms_book.specs.Stops.{WritesStore};
 ghost use Rattle.lms_commands.specs.Keygen.{FailsToMakeKey, FailsToStore, IsKeyOf, IsNoKey, IsTaken, KeepsWhereStored, MakesKey};
 ghost use Rattle.lms_texts.specs.Descriptions.{number_line};
-ghost use Rattle.lms_commands.specs.Logs.{IsUnpublished};
+ghost use Rattle.lms_commands.specs.Logs.{FailsToPublish};
 ghost use Rattle.lms_commands.specs.KeygenLogs.{capacity_line, LogsKeygen, LogsKeygenFailed, LogsUnmade, LogsUnstored, PublishesKey, StoresKey};
 ghost use Rattle.lms_world.specs.Events.{Printing, Written, after};
 ghost use Rattle.lms_world.specs.Known.{SameFiles, SameFilesBut, SameNodes, Stays};
@@ -51,8 +51,7 @@ fn key_of(levels: Levels, seed: [u8; HASH_LEN], id: [u8; 16]) -> HssKey
     HssKey::new(levels, seed, id)
 }
 
-/// Stores the state of a new key with no index used, writes its public key to a file and prints its
-/// capacity.
+/// Stores the state of a new, unused key, writes its public key to a file and prints its capacity.
 ///
 /// In this order: `StateInUse` where the state's lock is not available, `StateExists` where the
 /// state is there, `WriteState` where it may not have been stored, and `WriteOutput` where the
@@ -62,7 +61,8 @@ fn key_of(levels: Levels, seed: [u8; HASH_LEN], id: [u8; 16]) -> HssKey
 /// stored, and the lock is held to the end.
 ///
 /// The top tree's nodes are kept beside the state, once that is stored, for the first signature.
-/// Where that can't be done, nothing is reported.
+/// Where that can't be done, that is no fault.
+///
 /// `progress` gets how many leaves of the top tree are computed.
 pub fn make_key<W: World, O: Write>(
     rt: &(impl Threads + Sync),
@@ -141,7 +141,7 @@ fn publish<W: World, O: Write>(
     ensures logged { OnOk result (W.events log.new ≡ after
         (Written name.now public_key.now true ∷ Printing output.old ∷ []) (W.events log.old)) }
     ensures failed { IfErr result
-        (λ fault. IsUnpublished name.now public_key.now (number_line (codes "capacity") capacity)
+        (λ fault. FailsToPublish name.now public_key.now (number_line (codes "capacity") capacity)
         output.old output.new fault (W.events log.old) (W.events log.new)) }
     ensures given { OnOk result ((W.known world.new).may_give name.now public_key.now) }
     ensures printed { OnOk result (Appends (Some output.old) (Some output.new)

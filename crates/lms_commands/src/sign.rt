@@ -1,10 +1,8 @@
 //! `sign`: a message signed with the next index of a key's state.
-ghost use Rattle.std.specs.Prelude.{[], ◌∷◌, ◌++◌, ◌≡◌, ◌≢◌, ◌+◌, ℕ, List, ◌<◌, IfErr, IfOk, IfSome, None, Ok, OnOk, Some, codes, length, option_map, true};
+ghost use Rattle.std.specs.Prelude.{[], ◌∷◌, ◌++◌, ◌≡◌, ◌≢◌, ◌+◌, ℕ, List, ◌<◌, IfErr, IfOk, IfSome, Ok, OnOk, Some, codes, length, option_map, true};
 ghost use Rattle.std.specs.Io.KnownBytes.{Appends};
 ghost use Rattle.hex.specs.Hex.{decode_of};
 ghost use Rattle.lms_spec.specs.HashLength.{hash_length};
-ghost use Rattle.lms_spec.specs.Hss.{capacity_of};
-ghost use Rattle.lms_hss.specs.Keys.{hss_key_of};
 ghost use Rattle.lms_kept.specs.Signed.{IsSignedByText};
 ghost use Rattle.lms_book.specs.Books.{counter};
 ghost use Rattle.lms_book.specs.States.{IsSameOpening};
@@ -12,7 +10,7 @@ ghost use Rattle.lms_commands.specs.Faults.{of_signing};
 ghost use Rattle.lms_texts.specs.Descriptions.{number_line};
 ghost use Rattle.lms_commands.specs.Keygen.{IsHexOf};
 ghost use Rattle.lms_world.specs.Events.{Printing, Written, after};
-ghost use Rattle.lms_commands.specs.Logs.{IsUnpublished, LogsKeeping};
+ghost use Rattle.lms_commands.specs.Logs.{FailsToPublish, LogsKeeping};
 ghost use Rattle.lms_commands.specs.SignLogs.{index_line, DeliversSignature, LogsNotSigned, LogsSign, LogsSignFailed, LogsSigned, LogsUndelivered};
 ghost use Rattle.lms_world.specs.Known.{SameFiles, SameFilesBut, SameNodes, Stays};
 ghost use Rattle.lms_commands.specs.Keeping.{KeepsOnly};
@@ -52,8 +50,7 @@ impl From<NextFault> for Fault {
     }
 }
 
-/// A signature, the index that made it, and the trees that signed, where what was read does not
-/// serve it as it is.
+/// A signature, its index, and the trees that signed, where what was read does not serve as it is.
 #[derive(Drop)]
 struct Signed {
     index: u64,
@@ -73,7 +70,8 @@ struct Signed {
 ///
 /// What is kept of the key's trees beside the state is read before the state is opened, and where
 /// the signature needed other nodes it is kept anew once the use of the index was stored, before
-/// the file is written. Where either can't be done, nothing is reported.
+/// the file is written. Where either can't be done, that is no fault.
+///
 /// `progress` gets how many leaves of the trees that the signature needs are computed.
 pub fn sign_file<W: World, O: Write>(
     rt: &(impl Threads + Sync),
@@ -164,7 +162,7 @@ fn deliver<W: World, O: Write>(
 ) -> Result<(), Fault>
     ensures logged { OnOk result (W.events log.new ≡ after (Written
         out.now signed.now.signature.items true ∷ Printing output.old ∷ []) (W.events log.old)) }
-    ensures failed { IfErr result (λ fault. (fault ≡ Fault.WriteOutput) × IsUnpublished
+    ensures failed { IfErr result (λ fault. (fault ≡ Fault.WriteOutput) × FailsToPublish
         out.now signed.now.signature.items (number_line (codes "index") signed.now.index)
         output.old output.new Fault.WriteOutput (W.events log.old) (W.events log.new)) }
     ensures given { OnOk result ((W.known world.new).may_give out.now signed.now.signature.items) }
@@ -268,7 +266,7 @@ fn sign_next<S: StateStore>(
     }
 }
 
-/// Signs a job with the index of a lease of one, by the nodes of a text where they sign what is
+/// Signs a job with the index of a lease of one, by nodes that were kept where they sign what is
 /// accepted, and else by trees that are computed. `OutOfMemory` where memory is refused; the index
 /// is spent in any case.
 fn sign_lease(

@@ -1,4 +1,4 @@
--- A text in memory, and those before it.
+-- The bytes of a state in memory, and those before them.
 use Rattle.std.specs.Prelude.{ℕ, List, [], ◌∷◌, ◌++◌, map, Option, Some, None}
 use Rattle.lms_book.specs.Stops.{Texts, StoreView, only}
 
@@ -10,7 +10,7 @@ pub record HeldTexts : Type 0 where
   pub given : Option (List ℕ)
   pub failures : ℕ
 
--- a crash leaves the text that is held, and none where there is none
+-- a crash leaves the bytes that are held, and none where there are none
 abbrev pub held : Option (List ℕ) → Texts
 held None = Some []
 held (Some text) = only text
@@ -26,6 +26,6 @@ view_of store =
           store.failures;
     }
 
--- another text is held, and the one before recorded
+-- other bytes are held, and those before recorded
 abbrev pub holding : HeldTexts → List ℕ → HeldTexts
 holding store text = record store { past = store.past ++ store.text ∷ []; text = Some text }

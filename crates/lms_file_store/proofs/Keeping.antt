@@ -1,11 +1,11 @@
--- A text that a store knows is one that a stop could leave.
+-- Bytes that a store knows are ones that a crash could leave.
 use Rattle.std.proofs.Common.{◌≡◌, ◌∙◌, ℕ, ◌<◌, ◌-◌, List, [], ◌∷◌, ◌++◌, length, reverse, take, All, Contains, Bool, true, false, Option, Some, None, ◌⊎◌, inl, inr, if◌then◌else◌, refl, sym, ap, subst, arith}
 use Rattle.std.proofs.lemmas.List.{length-reverse, get_or-reverse}
 use Rattle.std.proofs.lemmas.List.Elements.{All-cons, All-take, All-get_or, All-from_get_or, All-weaker, All-contains, All-contains_itself, Contains-append_left, Contains-push}
 use Rattle.lms_book.specs.Stops.{Texts, IsAmong, or_else}
 use Rattle.lms_file_store.specs.FileStores.{FileWrite, Knows, Leaves, kept_of, last_certain, left_after, most_tried, texts_now, tried_since}
 
--- the texts tried since the certain one, and that one after them; any where none is certain
+-- the byte strings tried since the certain one, and then that one; any where none is certain
 abbrev pub left_of : Option (List ℕ) → List (List ℕ) → Texts
 left_of None tried = None
 left_of (Some certain) tried = Some (tried ++ certain ∷ [])
@@ -19,7 +19,7 @@ left_once_more : (stored : Bool) (text : List ℕ) (certain : Option (List ℕ))
 left_once_more true text certain tried before is = refl
 left_once_more false text certain tried before is = ap (or_else text) is ∙ left_tried certain tried text
 
--- a stop leaves the last certain text, or one that was tried since
+-- a crash leaves the last certain bytes, or ones that were tried since
 pub texts_left : (writes : List FileWrite) → texts_now writes ≡ left_of (last_certain writes) (tried_since writes)
 texts_left [] = refl
 texts_left (newest ∷ older) = left_once_more newest.stored newest.text (last_certain older) (tried_since older) (texts_now older) (texts_left older)

@@ -7,25 +7,25 @@ use Rattle.lms_book.specs.declared.fault.ReadFault.TheVariants.{Device, OutOfMem
 use Rattle.lms_book.specs.declared.fault.StoreFault.{StoreFault}
 use Rattle.lms_book.specs.Stops.{Texts, IsAmong, longest_text, only, or_else, StoreView, raised}
 
--- a write: its text, and whether it was stored for certain
+-- a write: its bytes, and whether they were stored for certain
 pub record FileWrite : Type 0 where
   pub text : List ℕ
   pub stored : Bool
 
--- the writes since the store was made, the newest first, the text that the last read gave, none
+-- the writes since the store was made, the newest first, the bytes that the last read gave, none
 -- before one, and how many calls failed
 pub record FileState : Type 0 where
   pub writes : List FileWrite
   pub given : Option (List ℕ)
   pub failures : ℕ
 
--- the texts of which a crash leaves one after a write of this text, which was stored for certain or
--- not, by those before it
+-- the byte strings of which a crash leaves one after a write of these bytes, which were stored for
+-- certain or not, by those before it
 abbrev pub left_after : Bool → List ℕ → Texts → Texts
 left_after true text before = only text
 left_after false text before = or_else text before
 
--- the texts of which a crash after these writes leaves one; before any write it may be any
+-- the byte strings of which a crash after these writes leaves one; before any write it may be any
 abbrev pub texts_now : List FileWrite → Texts
 texts_now [] = None
 texts_now (newest ∷ older) = left_after newest.stored newest.text (texts_now older)
@@ -45,7 +45,7 @@ view_of store =
       failures = store.failures;
     }
 
--- a crash after these writes could leave this text
+-- a crash after these writes could leave these bytes
 abbrev pub Leaves : List FileWrite → List ℕ → Type 0
 Leaves writes text = IsAmong (texts_now writes) text
 
@@ -58,7 +58,7 @@ abbrev pub written : FileState → List ℕ → Bool → FileState
 written store text stored =
     record store { writes = record { text = text; stored = stored } ∷ store.writes }
 
--- a read gave this text
+-- a read gave these bytes
 abbrev pub giving : FileState → List ℕ → FileState
 giving store text = record store { given = Some text }
 
@@ -66,36 +66,36 @@ giving store text = record store { given = Some text }
 abbrev pub failed : FileState → FileState
 failed store = record store { failures = raised store.failures }
 
--- how many texts a store keeps at most of those that it tried since the last certain write
+-- how many writes that it tried since the last certain one a store keeps at most
 abbrev pub most_tried : ℕ
 most_tried = 3
 
--- the text that was stored for certain last
+-- the bytes that were stored for certain last
 abbrev pub last_certain : List FileWrite → Option (List ℕ)
 last_certain [] = None
 last_certain (newest ∷ older) = if newest.stored then Some newest.text else last_certain older
 
--- the texts that were tried since then, the newest first
+-- the bytes of each write that was tried since then, the newest first
 abbrev pub tried_since : List FileWrite → List (List ℕ)
 tried_since [] = []
 tried_since (newest ∷ older) = if newest.stored then [] else newest.text ∷ tried_since older
 
--- the certain text, then the newest tried ones, the oldest of them first; nothing where no text is
+-- the certain bytes, then the newest tried ones, the oldest of them first; nothing where none are
 -- certain
 abbrev pub kept_of : Option (List ℕ) → List (List ℕ) → List (List ℕ)
 kept_of None tried = []
 kept_of (Some certain) tried = certain ∷ reverse (take most_tried tried)
 
--- the texts that a store keeps after these writes
+-- the bytes of each write that a store keeps after these writes
 abbrev pub kept_after : List FileWrite → List (List ℕ)
 kept_after writes = kept_of (last_certain writes) (tried_since writes)
 
--- a store takes this text for its own after these writes: it keeps none, so that any text may be
--- there, or it keeps this one
+-- a store takes these bytes for its own after these writes: it keeps none, so that any may be
+-- there, or it keeps these
 abbrev pub Knows : List FileWrite → List ℕ → Type 0
 Knows writes text = (kept_after writes ≡ []) ⊎ Contains (kept_after writes) text
 
--- what a write of this text answers and leaves
+-- what a write of these bytes answers and leaves
 abbrev pub RecordsWrite : {T : Type 0} → FileState → List ℕ → Result T StoreFault → FileState
     → Type 0
 RecordsWrite old text (Ok done) new = (length text ≤ longest_text) × (new ≡ written old text true)
@@ -119,7 +119,7 @@ folder_by (Some (first ∷ others)) = first ∷ others
 abbrev pub folder_of : List ℕ → List ℕ
 folder_of path = folder_by (path_parent path)
 
--- the new text is written beside the state, and the folder is the one that holds both
+-- the new bytes are written beside the state, and the folder is the one that holds both
 pub record AreBeside (state draft folder : List ℕ) : Type 0 where
   pub draft_is : draft ≡ state ++ codes ".new"
   pub folder_is : folder ≡ folder_of state

@@ -72,9 +72,9 @@ fn plain_size<R: Files>(files: &R, name: &str, most: usize) -> Option<usize>
 
 /// The first bytes of a file, up to one more than `size`, in memory for these.
 fn read_up_to<R: Files>(files: &R, alloc: Global, name: &str, size: usize) -> io::Result<Vec<u8>> {
-    let capacity = size.saturating_add(1);
-    let mut text = Vec::with_capacity(alloc, capacity)?;
+    let most = size.saturating_add(1);
+    let mut text = Vec::with_capacity(alloc, most)?;
     let file = fs::open(files, name)?;
-    file.take(capacity as u64).read_to_end(&mut text)?;
+    file.take(most as u64).read_to_end(&mut text)?;
     Ok(text)
 }

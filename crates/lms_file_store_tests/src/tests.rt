@@ -29,7 +29,7 @@ fn is_missing(rt: &HostRuntime, name: &str) -> bool {
     }
 }
 
-/// Whether a store reads this text.
+/// Whether a store reads these bytes.
 fn reads(rt: &HostRuntime, store: &mut impl StateStore, text: &[u8]) -> bool {
     match store.read(rt.alloc()) {
         Ok(found) => found.as_slice() == text,
@@ -58,18 +58,18 @@ fn store_in<'a>(rt: &'a HostRuntime, name: &str) -> Result<FileStore<'a, HostRun
     Ok(store_over(rt.alloc(), rt, name)?.ok_or("the lock is free")?)
 }
 
-/// Whether a new store in the file reads this text.
+/// Whether a new store in the file reads these bytes.
 fn holds(rt: &HostRuntime, name: &str, text: &[u8]) -> Result<bool, Fail> {
     let mut store = store_in(rt, name)?;
     Ok(reads(rt, &mut store, text))
 }
 
-/// Whether a store takes this text.
+/// Whether a store takes these bytes.
 fn takes(store: &mut impl StateStore, text: &[u8]) -> bool {
     store.replace(text).is_ok()
 }
 
-/// Whether a store fails to take this text.
+/// Whether a store fails to take these bytes.
 fn refuses(store: &mut impl StateStore, text: &[u8]) -> bool {
     store.replace(text) == Err(StoreFault)
 }
@@ -82,7 +82,7 @@ fn reads_none(rt: &HostRuntime, store: &mut impl StateStore, fault: ReadFault) -
     }
 }
 
-/// Whether a store takes this text and reads it, and a new one in its file reads it, too.
+/// Whether a store takes these bytes and reads them, and a new one in its file reads them, too.
 fn keeps(
     rt: &HostRuntime,
     store: &mut impl StateStore,
@@ -192,7 +192,7 @@ fn a_long_text_touches_no_file(rt: HostRuntime) -> Result<(), Fail> {
     Ok(())
 }
 
-/// Far more than it keeps texts.
+/// Far more writes than it keeps.
 #[test]
 fn a_store_takes_many_writes(rt: HostRuntime) -> Result<(), Fail> {
     empty_folder(&rt, "file_store_many")?;
@@ -214,7 +214,7 @@ fn second_try<'a>(rt: &'a HostRuntime, name: &str) -> Result<FileStore<'a, HostR
 }
 
 /// The merge check refuses each request for memory in turn: a store is made and read at the second
-/// try at the latest, and takes each text at the first, since a write takes no memory.
+/// try at the latest, and takes each write at the first, since a write takes no memory.
 #[test]
 fn a_store_works_after_refused_memory(rt: HostRuntime) -> Result<(), Fail> {
     let _ = fs::create_dir(&rt, "file_store_memory");
@@ -249,7 +249,7 @@ fn a_link_is_followed(rt: HostRuntime) -> Result<(), Fail> {
 }
 
 /// Whether the lock on a state is had by this name, and still leads to it once the name is removed:
-/// the state is there, and its store takes a text.
+/// the state is there, and its store takes a write.
 fn leads_past(rt: &HostRuntime, name: &str, text: &[u8]) -> Result<bool, Fail> {
     let Some(held) = lock(rt, rt.alloc(), name)? else {
         return Ok(false);
@@ -316,7 +316,7 @@ fn takes_each_thing(rt: &HostRuntime, held: &StateLock<File>, name: &str) -> Res
 
 /// Whether a lock finds no state once its folder is removed, and takes it for one that is there
 /// where a file has the folder's place, so that it can't be known.
-fn can_not_tell_of_it(
+fn exists_where_not_looked_up(
     rt: &HostRuntime,
     held: &StateLock<File>,
     folder: &str,
@@ -336,7 +336,7 @@ fn what_can_not_be_looked_up_exists(rt: HostRuntime) -> Result<(), Fail> {
     assert!(rt; !held.is_of_a_state(&rt));
     assert!(rt; takes_each_thing(&rt, &held, name)?);
     assert!(rt; !held.is_of_a_state(&rt));
-    assert!(rt; can_not_tell_of_it(&rt, &held, "file_store_names/folder")?);
+    assert!(rt; exists_where_not_looked_up(&rt, &held, "file_store_names/folder")?);
     fs::remove_dir_all(&rt, "file_store_names")?;
     Ok(())
 }

@@ -21,7 +21,7 @@ signature-length-one m n signer a b =
     (sym pa.parts ∙ pb.parts) in
     a.length_is ∙ (ap₂ lms_signature_length same.0 same.1 ∙ sym b.length_is)
 
--- a text that is cut is at least as long as a signature and a key
+-- bytes that are cut are at least as long as a signature and a key
 pub cut-long : (n : ℕ) (signer text signature key rest : List ℕ)
     → HasSignaturesOf n signer → IsFirstSignedKey signer text signature key rest → n + 56 ≤ length text
 cut-long n signer text signature key rest has cut =
@@ -100,7 +100,7 @@ parts-by-numbers levels signed_keys public_key top_key signature signatures key 
     let same = reaches-one signed_keys top_key signatures key' text' key text found.3 reached in
     subst₂ HasParts same.0 same.1 is.has_parts
 
--- what the hash of a message has before it is one text, by any bottom level that is found
+-- what the hash of a message has before it is the same, by any bottom level that is found
 pub head-one : (public_key signature key text head : List ℕ)
     → IsBottom public_key signature key text → IsMessageHead public_key signature head → head ≡ lms_head key text
 head-one public_key signature key text head bottom is =

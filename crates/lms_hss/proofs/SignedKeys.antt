@@ -1,4 +1,4 @@
--- The first signed key of a text that is accepted.
+-- The first signed key of bytes that are accepted.
 use Rattle.std.proofs.Common.{ℕ, zero, suc, ◌≡◌, ◌+◌, ◌≤◌, List, ◌++◌, length, take, drop, sym, ◌∙◌, ap, arith, subst, subst₂, append_assoc, length-append}
 use Rattle.std.proofs.lemmas.List.{take_at, drop_at}
 use Rattle.lms_spec.specs.Parameters.{OtsSet, LmsSet, lms_signature_length}
@@ -9,7 +9,7 @@ use Rattle.lms_verification.specs.Parts.{IsLmsPublicKey, HasSignaturesOf}
 use Rattle.lms_verification.proofs.Acceptance.{key-of-accepted}
 use Rattle.lms_hss.specs.SignedKeys.{IsFirstSignedKey}
 
--- a text that is accepted is at least as long as a signature and a key
+-- bytes that are accepted are at least as long as a signature and a key
 pub accepted-long : (count n : ℕ) (signer message text : List ℕ)
     → HasSignaturesOf n signer → AcceptsThrough (suc count) signer message text → n + 56 ≤ length text
 accepted-long count n signer message text has accepted =
@@ -20,7 +20,7 @@ accepted-long count n signer message text has accepted =
       through-length count has.lms has.ots has.id has.root message text has.parts.lms_known has.parts.ots_known has.parts.id_length there,
     )
 
--- the parts of a text that is accepted are accepted
+-- the parts of bytes that are accepted are accepted
 pub accepted-parts : (count : ℕ) (signer message text signature key rest : List ℕ)
     → IsFirstSignedKey signer text signature key rest → AcceptsThrough (suc count) signer message text
     → LmsAccepts signer key signature × AcceptsThrough count key message rest
@@ -41,7 +41,7 @@ accepted-parts count signer message text signature key rest cut accepted =
       subst₂ (λ key rest. AcceptsThrough count key message rest) key_is rest_is parts.1,
     )
 
--- a text whose parts are accepted is accepted
+-- bytes whose parts are accepted are accepted
 pub accepts-parts : (count : ℕ) (signer message text signature key rest : List ℕ)
     → IsFirstSignedKey signer text signature key rest → LmsAccepts signer key signature → AcceptsThrough count key message rest
     → AcceptsThrough (suc count) signer message text

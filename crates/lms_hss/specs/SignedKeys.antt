@@ -1,9 +1,9 @@
--- The first signed key of a signature's text.
+-- The first signed key of a signature.
 use Rattle.std.specs.Prelude.{ℕ, ◌≡◌, List, ◌++◌, length}
 use Rattle.lms_spec.specs.Parameters.{lms_public_key_length}
 use Rattle.lms_verification.specs.Parts.{HasSignaturesOf}
 
--- the text begins with as many bytes as the signer's signatures have, and then as many as a public
+-- the bytes begin with as many as the signer's signatures have, and then as many as a public
 -- key has (6.2)
 pub record IsFirstSignedKey (signer text signature key rest : List ℕ) : Type 0 where
   pub signature_length : HasSignaturesOf (length signature) signer

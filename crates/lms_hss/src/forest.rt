@@ -118,7 +118,7 @@ impl Forest {
     {
         let bottom = self.key.levels.as_slice().len() - 1;
         let tree = self.bottom_tree(g, bottom);
-        tree.signed(self.alloc, self.key.place(g, bottom), c, msg)
+        tree.signed(self.alloc, self.key.leaf_of(g, bottom), c, msg)
     }
 
     /// The tree of the bottom level that index g goes through.

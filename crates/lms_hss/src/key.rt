@@ -1,7 +1,7 @@
 //! The private key of HSS, and what its indices go through.
-ghost use Rattle.std.specs.Prelude.{ℕ, ◌≡◌, ◌↔◌, ◌+◌, ◌-◌, ◌*◌, ◌/◌, ◌%◌, ◌^◌, ◌<◌, ◌≤◌, ◌++◌, length, map, drop, min, replicate, IfOk, IsTrue};
+ghost use Rattle.std.specs.Prelude.{ℕ, ◌≡◌, ◌↔◌, ◌+◌, ◌-◌, ◌*◌, ◌/◌, ◌%◌, ◌^◌, ◌<◌, ◌≤◌, ◌++◌, length, map, min, replicate, IfOk, IsTrue};
 ghost use Rattle.lms_spec.specs.Bytes.{below, u32str};
-ghost use Rattle.lms_spec.specs.Hss.{height_of, hss_signature_length, capacity_of, level, most_levels};
+ghost use Rattle.lms_spec.specs.Hss.{hss_signature_length, capacity_of, level, most_levels};
 ghost use Rattle.lms_spec.specs.Profile.{hss_public_key, leaf_at, tree_at};
 ghost use Rattle.lms_tree.specs.TreeKey.{tree_of};
 ghost use Rattle.lms_hss.specs.Levels.{levels_of, most_height};
@@ -77,7 +77,7 @@ impl HssKey {
     {
         let mut places = [0; MOST_LEVELS];
         for k in 0..self.levels.as_slice().len() {
-            places[k] = self.place(g, k);
+            places[k] = self.leaf_of(g, k);
         }
         places
     }
@@ -135,13 +135,13 @@ impl HssKey {
         let mut tree = self.top_tree();
         for j in 0..k {
             let sets = self.levels.as_slice()[j + 1];
-            tree = child_key(&tree, self.place(g, j), sets);
+            tree = child_key(&tree, self.leaf_of(g, j), sets);
         }
         tree
     }
 
     /// The leaf of level k's tree that index g goes through.
-    pub fn place(&self, g: u64, k: usize) -> u32
+    pub fn leaf_of(&self, g: u64, k: usize) -> u32
         requires { k < length self.now.levels }
         ensures { result ≡ leaf_at (hss_key_of self.now) g k }
     {

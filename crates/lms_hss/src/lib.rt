@@ -4,7 +4,8 @@
 //! `Forest::sign` must never use an index twice.
 //!
 //! What a caller needs of the lower crates is exported here, too: the sets of a level (`LmsType`,
-//! `OtsType`), `OutOfMemory`, `Progress`, and how chains are taken to their ends (`ChainEnds`).
+//! `OtsType`), `HASH_LEN`, `OutOfMemory`, `Progress`, and how chains are taken to their ends
+//! (`ChainEnds`).
 #![tactic(auto)]
 
 mod child_key;
@@ -24,6 +25,6 @@ pub use crate::key::{HSS_KEY_LEN, HssKey, public_key_bytes, same_key};
 pub use crate::levels::{Levels, MOST_LEVELS};
 pub use crate::text::LevelsText;
 pub use crate::verification::{Verifier, verify, verify_with};
-pub use lms_params::{LmsType, OtsType, OutOfMemory};
+pub use lms_params::{HASH_LEN, LmsType, OtsType, OutOfMemory};
 pub use lms_tree::{LMS_KEY_LEN, Progress, Unwatched};
 pub use lms_verification::{ByEights, ChainEnds, MESSAGE_HEAD_LEN, OneByOne};

@@ -1,4 +1,4 @@
--- A text of bytes, cut into the parts of an image.
+-- Bytes, cut into the parts of an image.
 use Rattle.std.proofs.Common.{ℕ, zero, suc, ◌≡◌, ◌+◌, ◌*◌, ◌^◌, ◌<◌, ◌≤◌, List, ◌++◌, length, take, drop, get_or, All, ⊎_elim, refl, sym, ◌∙◌, ap, ap₂, arith, subst, length-take, length-drop, take-append-drop}
 use Rattle.std.specs.List.{concat}
 use Rattle.std.specs.Simd.{first_chunks}

@@ -1,4 +1,4 @@
--- A text of bytes without a fault is an image of some key and its numbers.
+-- Bytes without a fault are an image of some key and its numbers.
 use Rattle.std.proofs.Common.{ℕ, ◌≡◌, ◌+◌, ◌*◌, ◌^◌, ◌<◌, ◌≤◌, List, [], ◌∷◌, ◌++◌, length, map, take, drop, get_or, All, Bool, true, false, cond, Option, Some, None, ◌==◌, ◌||◌, nat_lt, is_some, sum_by, refl, sym, ◌∙◌, ap, ap₂, arith, ⊎_elim, length-drop, take-append-drop}
 use Rattle.std.specs.List.{list_all}
 use Rattle.std.specs.Simd.{first_chunks}
@@ -85,7 +85,7 @@ named-levels (text ∷ texts) eight small known =
     let others = named-levels texts (All-tail Is8 text texts eight) (All-tail IsBytes text texts small) both.1 in
     (first.0 ∷ others.0, ap₂ (λ x xs. x ∷ xs) first.1 others.1)
 
--- ---- the faults that a text has not
+-- ---- the faults that bytes have not
 
 not-taken : {X : Type 0} (b : Bool) (x : X) (rest : Option X) → cond b (Some x) rest ≡ None → (b ≡ false) × (rest ≡ None)
 not-taken true x rest e = absurd (none-some x (sym e))
@@ -95,7 +95,7 @@ passed : (text : List ℕ) (f : ImageFault) (fs : List ImageFault) → first_amo
     → (has_fault f text ≡ false) × (first_among fs text ≡ None)
 passed text f fs e = not-taken (has_fault f text) f (first_among fs text) e
 
--- a text that has none of the faults
+-- bytes that have none of the faults
 record IsClear (text : List ℕ) : Type 0 where
   long : 12 ≤ length text
   start : take 4 text ≡ magic
@@ -181,7 +181,7 @@ after_id text = drop 16 (drop 32 (after_levels text))
 levels_of_text : List ℕ → List (List ℕ)
 levels_of_text text = first_chunks 8 (count_in text) (take (8 * count_in text) (drop 12 text))
 
--- what a text says, with these numbers after the counter
+-- what the bytes say, with these numbers after the counter
 fields_in : Version → List ℕ → ℕ → ℕ → Fields
 fields_in v text openings burnt = record {
   version = v;
@@ -287,7 +287,7 @@ bytes-of text small i =
     (λ (ge : length text ≤ i). let past : get_or text i 0 ≡ 0 = get_or_past text i 0 ge in omega arith)
     (cases_lt i (length text))
 
--- a text of bytes has no fault exactly where it is an image
+-- bytes have no fault exactly where they are an image
 pub faultless-are-images : FaultlessAreImages
 unfolding IsSomeImage
 faultless-are-images text small = (

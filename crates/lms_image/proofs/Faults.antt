@@ -1,4 +1,4 @@
--- The first fault of a text, fault by fault.
+-- The first fault of bytes, fault by fault.
 use Rattle.std.proofs.Common.{ℕ, ◌≡◌, ◌+◌, ◌^◌, ◌<◌, ◌⊎◌, List, [], ◌∷◌, ◌++◌, length, take, drop, true, false, ◌==◌, ◌||◌, find, Option, Some, not, ⊎_elim, refl, sym, ◌∙◌, ap, subst, arith, append_assoc, length-append}
 use Rattle.std.proofs.lemmas.Bool.{cond-true, cond-false, lt-ltb, le-ltb, eq-eqb, ne_eqb, or_left, or_right, or_from, not_from_true, not_from_false, not-false}
 use Rattle.std.proofs.lemmas.Slice.Eq.{bytes_eq-Decides}
@@ -12,7 +12,7 @@ use Rattle.lms_image.specs.Image.{magic, code_of, version_in, count_in, has_faul
 use Rattle.lms_image.specs.Reading.{IsHeaded}
 use Rattle.lms_image.proofs.Fields.{part-at, u32-at}
 
--- the first of these faults that a text has
+-- the first of these faults that the bytes have
 abbrev pub first_among : List ImageFault → List ℕ → Option ImageFault
 first_among fs text = find (λ fault. has_fault fault text) fs
 
@@ -114,7 +114,7 @@ code-fits : (v : Version) → code_of v < 2 ^ 32
 code-fits First = omega arith
 code-fits Second = omega arith
 
--- what is known of a text that begins as an image
+-- what is known of bytes that begin as an image
 pub front-of : (text rest : List ℕ) (v : Version) (count : ℕ) → IsHeaded text rest v count → IsFront text magic rest (code_of v) count
 front-of text rest v count is =
     let most = is.eight_at_most in

@@ -1,4 +1,4 @@
--- The numbers in a text.
+-- The numbers in bytes.
 use Rattle.std.proofs.Common.{ℕ, ◌≡◌, ◌^◌, ◌<◌, List, ◌++◌, length, take, drop, refl, ◌∙◌, ap, arith}
 use Rattle.std.proofs.lemmas.List.{take_at, drop_at}
 use Rattle.lms_spec.specs.Bytes.{u32str, u64str, number_of}

@@ -53,7 +53,7 @@ spelt key counter openings burnt is =
       burnt_fits = omega arith;
     }
 
--- the text of an image of a version
+-- the bytes of an image of a version
 abbrev pub text_of : Version → KeyOfCode → ℕ → ℕ → ℕ → List ℕ
 text_of v key counter openings burnt = sealed (body_text (fields_of v key counter openings burnt))
 
@@ -185,7 +185,7 @@ body-parts f g same s s' i i' e =
       same-front 16 f.id g.id (numbers f) (numbers g) i i' after_seed,
     )
 
--- a text of two images is that of one key and of one of each number
+-- bytes of two images are those of one key and of one of each number
 pub spelt-same : (text : List ℕ) (key other : KeyOfCode) (counter counter' openings openings' burnt burnt' : ℕ)
     → IsSpelt key counter openings burnt → IsSpelt other counter' openings' burnt'
     → IsImage text key counter openings burnt → IsImage text other counter' openings' burnt'
@@ -212,9 +212,9 @@ image-same text key other counter counter' openings openings' burnt burnt' is is
     spelt-same text key other counter counter' openings openings' burnt burnt' (spelt key counter openings burnt is)
     (spelt other counter' openings' burnt' is')
 
--- ---- a text that was read
+-- ---- bytes that were read
 
--- a text whose levels are those of a key is that key's image
+-- bytes whose levels are those of a key are that key's image
 pub read-image : (text : List ℕ) (f : Fields) (key : KeyOfCode) (levels : List (LmsType × OtsType)) → IsWhole text f
     → map level_text levels ≡ f.levels → key.levels ≡ levels → key.seed ≡ f.seed → key.i ≡ f.id → AreLater f.version f.openings f.burnt
     → IsImage text key f.counter f.openings f.burnt
@@ -244,7 +244,7 @@ read-counted f count rest digest key levels cut admitted el es ei within low few
   burnt_within = few;
 }
 
--- what is known of a text once its levels were read as those of a key
+-- what is known of bytes once their levels were read as those of a key
 pub record IsRead (text : List ℕ) (f : Fields) (key : KeyOfCode) : Type 0 where
   pub all : IsWhole text f
   pub levels_known : IsKeyed f

@@ -135,7 +135,7 @@ levels-more levels i other there =
     ∙ (concat-append (map level_text (take i levels)) (level_text (get_or levels i other) ∷ [])
     ∙ ap (λ rest. concat (map level_text (take i levels)) ++ rest) (append-nil (level_text (get_or levels i other)))))
 
--- a text of levels, with the bytes of one more after it
+-- the bytes of levels, with those of one more after them
 pub head-more : (prefix text next last : List ℕ) (levels : List (LmsType × OtsType)) (i a b : ℕ) (other : LmsType × OtsType) → i < length levels
     → text ≡ prefix ++ concat (map level_text (take i levels)) → next ≡ text ++ u32str a → last ≡ next ++ u32str b
     → a ≡ (lms_set_of (get_or levels i other).0).code → b ≡ (ots_set_of (get_or levels i other).1).code
@@ -148,7 +148,7 @@ head-more prefix text next last levels i a b other there et en el ea eb =
     ∙ (append_assoc prefix before (level_text (get_or levels i other))
     ∙ ap (λ x. prefix ++ x) (sym (levels-more levels i other there))))))
 
--- the text of all levels
+-- the bytes of all levels
 pub head-whole : (text : List ℕ) (v : Version) (code i : ℕ) (levels own : List (LmsType × OtsType)) → code ≡ code_of v → levels ≡ own → length levels ≤ i
     → text ≡ magic ++ u32str code ++ u32str (length levels) ++ concat (map level_text (take i levels))
     → text ≡ head_text v (map level_text own)
@@ -181,7 +181,7 @@ level-read text rest last a b lms ots eight e e' el eo =
     ap₂ (λ a b. u32str a ++ u32str b) (code-lms_set a (lms_set_of lms) el) (code-ots_set b (ots_set_of ots) eo)
     ∙ sym (e ∙ ap (λ x. u32str a ++ x) (e' ∙ ap (λ x. u32str b ++ x) none))
 
--- ---- texts that are read
+-- ---- bytes that are read
 
 -- one level more is read
 pub sets-more : (sets : List (LmsType × OtsType)) (texts : List (List ℕ)) (k : ℕ) (s : LmsType × OtsType) → k < length sets → k < length texts
@@ -192,7 +192,7 @@ sets-more sets texts k s in_sets in_texts before e =
     ∙ (map-append level_text (take k sets) (s ∷ [])
     ∙ (ap₂ (λ x y. x ++ y ∷ []) before e ∙ sym (take_more texts k [] in_texts)))
 
--- what `Levels::new` refuses is a fault of the texts
+-- what `Levels::new` refuses is a fault of the bytes
 pub refused-reads : (levels : List (LmsType × OtsType)) (texts : List (List ℕ)) → map level_text levels ≡ texts → 1 ≤ length texts → length texts ≤ 8
     → (fault : KeyFault) → JudgesLevels levels (Err fault) → ReadsLevels texts (Err (refused_as fault))
 refused-reads levels texts e some most NoLevels judged = absurd (omega (arith, ap length e, length-map levels level_text))

@@ -1,4 +1,4 @@
--- The parts of an image, where they are in its text.
+-- The parts of an image, where they are in its bytes.
 use Rattle.std.proofs.Common.{ℕ, suc, ◌≡◌, ◌+◌, ◌-◌, ◌*◌, ◌^◌, ◌<◌, ◌≤◌, List, [], ◌∷◌, ◌++◌, length, take, drop, All, true, false, ◌==◌, if◌then◌else◌, Some, None, not, sum_by, refl, sym, ◌∙◌, ap, ap₂, arith, subst, append_assoc, length-append}
 use Rattle.std.specs.List.{concat, list_all}
 use Rattle.std.specs.Prelude.Result.{Err}
@@ -20,7 +20,7 @@ use Rattle.lms_image.proofs.Fields.{u64-at}
 use Rattle.lms_image.proofs.LevelTexts.{Is8, length-texts}
 use Rattle.lms_image.proofs.Faults.{first_among, found, missed, clear-head, front-of, front-length, version-of, count-of}
 
--- where the parts of a text of the right length are
+-- where the parts of bytes of the right length are
 pub record IsLaidOut (text : List ℕ) (f : Fields) (digest : List ℕ) : Type 0 where
   pub clear : fault_of text ≡ first_among (drop 5 faults) text
   pub parts : text ≡ body_text f ++ digest
@@ -84,7 +84,7 @@ pub length-by-code : (v : Version) (count : ℕ) → stated_length (code_of v) c
 length-by-code First count = omega arith
 length-by-code Second count = omega arith
 
--- the length that the text states
+-- the length that the bytes state
 stated-length : (text rest : List ℕ) (v : Version) (count : ℕ) → IsHeaded text rest v count
     → stated_length (version_in text) (count_in text) ≡ 100 + later_length v + 8 * count
 stated-length text rest v count is =
@@ -207,7 +207,7 @@ unfolding has_fault
 damaged text f digest is other =
     is.clear ∙ found text Damaged (drop 6 faults) (ap (λ d. not (bytes_eq d (sha256 (body_in text)))) is.digest_is ∙ other)
 
--- what is known of a text whose digest is right
+-- what is known of bytes whose digest is right
 pub record IsWhole (text : List ℕ) (f : Fields) : Type 0 where
   pub clear : fault_of text ≡ first_among (drop 6 faults) text
   pub text_is : text ≡ sealed (body_text f)
@@ -306,7 +306,7 @@ no-fault text f is keyed within low few =
     clear-openings text f is keyed within low
     ∙ missed text BurntTooHigh (drop 11 faults) (le-ltb (counter_in text) (burnt_in text) (omega (arith, is.counter_is, is.burnt_are, few)))
 
--- the fault of the levels is the text's
+-- the fault of the levels is that of the bytes
 pub fault-read : (text : List ℕ) (f : Fields) → IsWhole text f → (fault : ImageFault) → ReadsLevels f.levels (Err fault) → fault_of text ≡ Some fault
 fault-read text f is BadType reads = bad-type text f is reads
 fault-read text f is TooTall reads = too-tall text f is reads.0 reads.1

@@ -1,6 +1,6 @@
--- The state image, in its two versions: the text that a store keeps of a key, of how many of its
+-- The state image, in its two versions: the bytes that a store keeps of a key, of how many of its
 -- indices are used, of how many openings stored something and of how many indices were burnt. Its
--- numbers are big-endian. A text is a list of bytes, numbers below 256.
+-- numbers are big-endian. Bytes are a list of numbers below 256.
 use Rattle.std.specs.Prelude.{ℕ, ◌≡◌, ◌⊎◌, ◌+◌, ◌-◌, ◌*◌, ◌^◌, ◌<◌, ◌≤◌, Bool, not, ◌||◌, ◌&&◌, ◌==◌, nat_lt, if◌then◌else◌, List, [], ◌∷◌, ◌++◌, length, map, take, drop, sum_by, find, All, Option, is_some, option_map, unwrap_or, codes}
 use Rattle.std.specs.List.{concat, list_all}
 use Rattle.std.specs.Str.{bytes_eq}
@@ -111,7 +111,7 @@ body_text f =
     head_text f.version f.levels ++ f.seed ++ f.id ++ u64str f.counter
     ++ later_text f.version f.openings f.burnt
 
--- a text with its digest after it
+-- bytes with their digest after them
 unfoldable pub sealed : List ℕ → List ℕ
 sealed body = body ++ sha256 body
 
@@ -137,7 +137,7 @@ image_of key counter openings burnt =
 unfoldable pub first_image_of : KeyOfCode → ℕ → List ℕ
 first_image_of key counter = sealed (body_text (fields_of First key counter 0 0))
 
--- the text is an image of these: version 2, or version 1, which counts no openings and no burnt
+-- the bytes are an image of these: version 2, or version 1, which counts no openings and no burnt
 -- indices
 abbrev pub IsImage : List ℕ → KeyOfCode → ℕ → ℕ → ℕ → Type 0
 IsImage text key counter openings burnt =
@@ -165,15 +165,15 @@ pub record IsImageFrom (key : KeyOfCode) (number floor : ℕ) (text : List ℕ) 
   pub counted : HasImage key counter number burnt
   pub text_is : text ≡ image_of key counter number burnt
 
--- the number in n bytes of a text, from byte k on
+-- the number in n bytes of `text`, from byte k on
 abbrev pub number_at : ℕ → ℕ → List ℕ → ℕ
 number_at k n text = number_of (take n (drop k text))
 
--- the version that a text states
+-- the version that the bytes state
 abbrev pub version_in : List ℕ → ℕ
 version_in text = number_at 4 4 text
 
--- the number of levels that a text states
+-- the number of levels that the bytes state
 abbrev pub count_in : List ℕ → ℕ
 count_in text = number_at 8 4 text
 
@@ -228,11 +228,11 @@ is_level level = is_some (lms_set (number_at 0 4 level)) && is_some (ots_set (nu
 unfoldable pub height_in : List ℕ → ℕ
 height_in level = unwrap_or (option_map (λ m. m.h) (lms_set (number_at 0 4 level))) 0
 
--- the heights of the levels of a text, added up
+-- the heights of the levels in the bytes, added up
 abbrev pub heights_in : List ℕ → ℕ
 heights_in text = sum_by height_in (levels_in text)
 
--- whether a text has a fault, whatever other faults it has
+-- whether the bytes have a fault, whatever other faults they have
 unfoldable pub has_fault : ImageFault → List ℕ → Bool
 has_fault Truncated text = nat_lt (length text) head_size
 has_fault NotAnImage text = not (bytes_eq (take 4 text) magic)
@@ -253,6 +253,6 @@ faults =
     ∷ CounterTooHigh
     ∷ OpeningTooHigh ∷ BurntTooHigh ∷ []
 
--- the first fault that a text has
+-- the first fault that the bytes have
 unfoldable pub fault_of : List ℕ → Option ImageFault
 fault_of text = find (λ fault. has_fault fault text) faults

@@ -7,7 +7,8 @@ use Rattle.lms_image.specs.Image.{IsImage, fault_of, HasImage}
 abbrev pub IsText : List ℕ → Type 0
 IsText text = All (λ b. b < 256) text
 
--- a text has no fault exactly where it is an image, of either version, of some key and its numbers
+-- bytes have no fault exactly where they are an image, of either version, of some key and its
+-- numbers
 abbrev pub FaultlessAreImages : Type 0
 FaultlessAreImages =
     (text : List ℕ) → IsText text

@@ -15,8 +15,7 @@ use Rattle.lms_image.specs.declared.version.Version.{Version}
 use Rattle.lms_image.specs.declared.version.Version.TheVariants.{First, Second}
 use Rattle.lms_image.specs.Image.{Fields, magic, code_of, later_length, later_text, level_text, is_level, height_in, head_size, level_size, seed_size, id_size, digest_size}
 
--- a text that begins as the image of this version and of this many levels does, and goes on with
--- these bytes
+-- bytes that begin as the image of this version and of this many levels does, and go on with these
 pub record IsHeaded (text rest : List ℕ) (version : Version) (count : ℕ) : Type 0 where
   pub some_level : 1 ≤ count
   pub eight_at_most : count ≤ most_levels
@@ -31,7 +30,7 @@ abbrev pub AreLater : Version → ℕ → ℕ → Type 0
 AreLater First openings burnt = (openings ≡ 0) × (burnt ≡ 0)
 AreLater Second openings burnt = (openings < 2 ^ 64) × (burnt < 2 ^ 64)
 
--- these numbers are read from the front of a text, and these bytes follow
+-- these numbers are read from the front of the bytes `text`, and these bytes follow
 pub record ReadsLater (version : Version) (text : List ℕ) (openings burnt : ℕ)
     (rest : List ℕ) : Type 0 where
   pub are : AreLater version openings burnt

@@ -2,8 +2,7 @@
 ghost use Rattle.std.specs.Prelude.{Some};
 ghost use Rattle.lms_image.specs.Faults.{image_fault_text};
 
-use std::error::Error;
-use std::fmt;
+use std::{error, fmt};
 
 /// What is wrong with bytes that should be an image: the first of these, in this order.
 #[derive(Clone, Copy, Debug, PartialEq, Eq)]
@@ -52,4 +51,4 @@ impl fmt::Display for ImageFault {
     }
 }
 
-impl Error for ImageFault {}
+impl error::Error for ImageFault {}

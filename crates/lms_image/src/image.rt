@@ -1,7 +1,6 @@
 //! Writes and reads the state image.
 ghost use Rattle.std.specs.Prelude.{◌≡◌, ◌+◌, ◌*◌, ◌≤◌, ◌<◌, ◌^◌, ◌≢◌, ◌++◌, length, map, take, None, Some, IfOk, IfErr, IfSome, IfNone, MatchResult, IsFalse};
 ghost use Rattle.std.specs.List.{list_all};
-ghost use Rattle.sha2.specs.Sha256.{sha256};
 ghost use Rattle.lms_spec.specs.Bytes.{u32str};
 ghost use Rattle.lms_spec.specs.Hss.{capacity_of, most_levels};
 ghost use Rattle.lms_hss.specs.Keys.{hss_key_of};

@@ -68,7 +68,7 @@ fn image_of(
     }
 }
 
-/// The fault of a text, if it has one.
+/// The fault of these bytes, if they have one.
 fn fault(text: &[u8]) -> Option<ImageFault> {
     decode_image(text).err()
 }
@@ -159,7 +159,7 @@ fn check_cut(rt: &impl Abort, text: &[u8], cut: usize) {
     );
 }
 
-/// The text of these fields is an image of this length, and no other number of its bytes is.
+/// The bytes of these fields are an image of this length, and no other number of them is one.
 fn check_lengths(
     rt: &(impl Abort + AllocGlobal),
     sound: Fields,
@@ -182,7 +182,7 @@ fn refuses_each_other_length(rt: HostRuntime) -> Result<(), Fail> {
     check_lengths(&rt, SOUND_NOW, 124)
 }
 
-/// The text of these fields is refused where any byte is changed.
+/// The bytes of these fields are refused where any one is changed.
 fn check_bytes(rt: &(impl Abort + AllocGlobal), fields: Fields) -> Result<(), Fail> {
     let sound = fields.text(rt.alloc())?;
     for (place, byte) in sound.iter().enumerate() {
@@ -207,7 +207,7 @@ fn refuses_each_changed_byte(rt: HostRuntime) -> Result<(), Fail> {
     check_bytes(&rt, SOUND_NOW)
 }
 
-/// The fault of the text of these fields once a byte is written over, with no digest made anew.
+/// The fault of the bytes of these fields once one is written over, with no digest made anew.
 fn fault_with(
     alloc: Global,
     fields: Fields,

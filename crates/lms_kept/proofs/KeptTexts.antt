@@ -1,4 +1,4 @@
--- The text of a file of nodes, and what it tells.
+-- The bytes of a file of nodes, and what they determine.
 use Rattle.std.proofs.Common.{ℕ, zero, suc, ◌-◌, ◌≤◌, ◌≡◌, ◌+◌, ◌*◌, ◌/◌, ◌%◌, ◌^◌, ◌<◌, List, [], ◌∷◌, ◌++◌, length, get_or, refl, sym, ◌∙◌, ap, ap₂, arith, length-append, take-append-drop, append_assoc, pow_mono, subst}
 use Rattle.std.specs.Prelude.{Option, IfNone}
 use Rattle.std.specs.Prelude.Option.{Some, None}
@@ -25,7 +25,7 @@ pub in-any-case : {A P : Type 0} (r : Option A) → P → IfNone r P
 in-any-case None p = p
 in-any-case (Some a) p = tt
 
--- two texts that end with as many bytes are the same before these, too
+-- two equal byte strings that end with as many bytes are equal before these, too
 pub before-same : (a b x y : List ℕ) → length x ≡ length y → a ++ x ≡ b ++ y → a ≡ b
 before-same a b x y long e =
     let whole = ap length e in
@@ -39,7 +39,7 @@ after-same a b x y long e =
 pub check-length : (key : HssKey) (body : List ℕ) → length (check_of key body) ≡ 32
 check-length key body = length-sha256 _
 
--- a text of a check value and what is before it
+-- bytes of a check value and what is before it
 pub too-short : (key : HssKey) (text : List ℕ) → length text < 32 → (body : List ℕ) → ¬ (text ≡ body ++ check_of key body)
 too-short key text short body e = omega (arith, short, ap length e, length-append body (check_of key body), check-length key body)
 
@@ -50,7 +50,7 @@ cut-there key text body check n is end other e =
     let long : length check ≡ length (check_of key other) = omega (arith, is.4, end, check-length key other) in
     after-same body other check (check_of key other) long whole ∙ ap (check_of key) (sym (before-same body other check (check_of key other) long whole))
 
--- one text has one body
+-- the same bytes have the same body
 pub body-same : (key : HssKey) (a b : List ℕ) → a ++ check_of key a ≡ b ++ check_of key b → a ≡ b
 body-same key a b e = before-same a b (check_of key a) (check_of key b) (check-length key a ∙ sym (check-length key b)) e
 
@@ -82,7 +82,7 @@ same-levels at at' rest rest' e =
     let whole = sym (header-parts at rest) ∙ (e ∙ header-parts at' rest') in
     rest-same (at % 2 ^ 32) (at' % 2 ^ 32) rest rest' (rest-same (at / 2 ^ 32) (at' / 2 ^ 32) _ _ (rest-same nodes_version nodes_version _ _ (rest-same nodes_word nodes_word _ _ whole)))
 
--- other numbers at the front are those of no such text
+-- other numbers at the front are those of no such bytes
 pub other-word : (body rest : List ℕ) (word : ℕ) → word < 2 ^ 32 → body ≡ u32str word ++ rest → ¬ (word ≡ nodes_word)
     → (at : ℕ) (after : List ℕ) → ¬ (body ≡ nodes_header at ++ after)
 other-word body rest word fits parts differs at after e =
@@ -93,7 +93,7 @@ pub other-version : (body rest : List ℕ) (word version : ℕ) → version < 2 
 other-version body rest word version fits parts differs at after e =
     differs (first-number-same version nodes_version rest _ fits (omega arith) (rest-same word nodes_word _ _ (sym parts ∙ (e ∙ header-parts at after))))
 
--- the text of one more level
+-- the bytes of one more level
 pub one-more-text : (levels : List KeptLevel) (level : KeptLevel) (text rest after : List ℕ) → text ≡ flat_map level_text levels ++ rest → rest ≡ level_text level ++ after
     → text ≡ flat_map level_text (levels ++ level ∷ []) ++ after
 one-more-text levels level text rest after e e' =
@@ -108,7 +108,7 @@ length-nodes (x ∷ xs) sizes =
     let rest = length-nodes xs (λ i low. sizes (suc i) (omega (arith, low))) in
     length-append x (flat_map (λ node. node) xs) ∙ omega (arith, first, rest)
 
--- how long the text of a level on the way is
+-- how many bytes a level on the way has
 pub length-level : (key : HssKey) (g k : ℕ) (level : KeptLevel) → IsOnWay key g k level → length (level_text level) ≡ level_length key k
 length-level key g k level on =
     let h : (tree_of level.tree.key).lms.h ≡ (level_at key k).lms.h = ap (λ (t : Tree). t.lms.h) on.tree ∙ ap (λ (l : LmsSet). l.h) (level-lms key g k) in
@@ -126,7 +126,7 @@ some-bytes key k =
     let two : 2 ^ 1 ≤ 2 ^ (upper_height (level_at key k).lms.h + 1) = pow_mono {i = 1} {j = upper_height (level_at key k).lms.h + 1} (omega arith) in
     omega (arith, two)
 
--- how long the texts of so many levels are, from level i on
+-- how many bytes so many levels have, from level i on
 unfoldable pub sum-from : HssKey → ℕ → ℕ → ℕ
 sum-from key i zero = 0
 sum-from key i (suc n) = level_length key i + sum-from key (suc i) n
@@ -162,7 +162,7 @@ length-levels key g i (level ∷ levels) each =
     let rest = length-levels key g (suc i) levels (rest-on key g i level levels each) in
     length-append (level_text level) (flat_map level_text levels) ∙ omega (arith, length-level key g i level (first-on key g i level levels each), rest)
 
--- as many levels as a text is long enough for are all that it has
+-- as many levels as there are bytes for are all that they have
 same-count : (key : HssKey) (i m n r most : ℕ) → sum-from key i m + r ≡ sum-from key i n → (m < most → r < level_length key (i + m)) → n ≤ most
     → (m ≡ n) × (r ≡ 0)
 unfolding sum-from
@@ -177,7 +177,7 @@ same-count key i (suc m) (suc n) r most e ends within =
     let below = same-count key (suc i) m n r (most - 1) (omega (arith, e)) (λ low. subst (λ k. r < level_length key k) next (ends (omega (arith, low)))) (omega (arith, within)) in
     (ap suc below.0, below.1)
 
--- what a text with the right check value says, where it is that of a way
+-- what bytes with the right check value say, where they are those of a way
 pub read_back : (key : KeyOfCode) (way : Way) (text rest : List ℕ) (at : ℕ) → capacity_of (hss_key_of key) ≤ 2 ^ 60 → IsWay way → way.key ≡ key
     → text ≡ (nodes_header at ++ rest) ++ check_of (hss_key_of key) (nodes_header at ++ rest) → at < 2 ^ 64 → text ≡ nodes_text way
     → (at ≡ way.at) × (rest ≡ flat_map level_text way.levels)

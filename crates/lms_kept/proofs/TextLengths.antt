@@ -1,4 +1,4 @@
--- How long the text of kept nodes can be.
+-- How many bytes kept nodes can have.
 use Rattle.std.proofs.Common.{ℕ, zero, suc, ◌≡◌, ◌+◌, ◌*◌, ◌^◌, ◌<◌, ◌≤◌, List, length, drop, get_or, refl, ◌∙◌, ap, arith, length-append, lit≤, subst}
 use Rattle.std.specs.List.{flat_map}
 use Rattle.lms_spec.specs.HashLength.{hash_length}
@@ -52,7 +52,7 @@ signed-level : (key : KeyOfCode) (k : ℕ) → k < length key.levels → signed_
 signed-level key zero low = omega arith
 signed-level key (suc k) low = by-sets (λ l. lms_signature_length l.lms l.ots + lms_public_key_length ≤ 9380) signed-at-most key k (omega (arith, low))
 
--- the text of a level
+-- the bytes of a level
 level-at-most : (key : KeyOfCode) (k : ℕ) → k < length key.levels → level_length (hss_key_of key) k ≤ 9380 + 86505 * (level_at (hss_key_of key) k).lms.h
 level-at-most key k low =
     let nodes = by-sets (λ l. hash_length * (nodes_in (upper_rows l.lms.h) + nodes_in (subtree_rows l.lms.h 0)) ≤ 86505 * l.lms.h) (λ lms ots. nodes-at-most lms) key k low in
@@ -61,7 +61,7 @@ level-at-most key k low =
 pub level-limit : (key : KeyOfCode) (k : ℕ) → k < length key.levels → level_length (hss_key_of key) k ≤ 2 ^ 22
 level-limit key k low = omega (arith, level-at-most key k low, by-sets (λ l. l.lms.h ≤ 25) (λ lms ots. height-at-most lms) key k low)
 
--- the text of a level, by the level's sets
+-- the bytes of a level, by the level's sets
 pub level-by-sets : (key : KeyOfCode) (levels : List (LmsType × OtsType)) (k signed upper lower : ℕ) → k < length key.levels → levels ≡ key.levels
     → signed ≡ signed_length (hss_key_of key) k → upper ≡ nodes_in (upper_rows (lms_set_of (get_or levels k (H5, W1)).0).h)
     → lower ≡ nodes_in (subtree_rows (lms_set_of (get_or levels k (H5, W1)).0).h 0) → signed + 32 * (upper + lower) ≡ level_length (hss_key_of key) k
@@ -69,7 +69,7 @@ level-by-sets key levels k signed upper lower low same signed_is upper_is lower_
     let h : (lms_set_of (get_or levels k (H5, W1)).0).h ≡ (level_at (hss_key_of key) k).lms.h = ap (λ (l : Level). l.lms.h) (sets-of key levels k (H5, W1) same low) in
     omega (arith, signed_is, upper_is, lower_is, ap (λ h. nodes_in (upper_rows h)) h, ap (λ h. nodes_in (subtree_rows h 0)) h)
 
--- the texts of so many levels
+-- the bytes of so many levels
 sum-at-most : (key : KeyOfCode) (i n : ℕ) → i + n ≤ length key.levels → sum-from (hss_key_of key) i n ≤ 9380 * n + 86505 * height_of (drop i (hss_key_of key).levels)
 unfolding sum-from
 sum-at-most key i zero low = omega arith
@@ -80,7 +80,7 @@ sum-at-most key i (suc n) low =
     = height-more (hss_key_of key) i (omega (arith, low, levels-count key)) ∙ ap (λ i'. (level_at (hss_key_of key) i).lms.h + height_of (drop i' levels)) next in
     omega (arith, level-at-most key i (omega (arith, low)), sum-at-most key (suc i) n (omega (arith, low)), more)
 
--- the whole text
+-- all the bytes
 pub text-length : (way : Way) → IsWay way → length (nodes_text way) ≡ 48 + sum-from (hss_key_of way.key) 0 (length way.levels)
 text-length way is =
     let key = hss_key_of way.key in

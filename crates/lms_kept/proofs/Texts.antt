@@ -1,4 +1,4 @@
--- A text of kept nodes tells its trees.
+-- The bytes of kept nodes determine their trees.
 use Rattle.std.proofs.Common.{ℕ, suc, ◌≡◌, ◌/◌, ◌^◌, ◌<◌, ◌==◌, List, [], ◌∷◌, ◌++◌, length, cond, map, get_or, refl, sym, ◌∙◌, ap, ap₂, arith, length-append, subst, subst₂}
 use Rattle.std.specs.List.{flat_map}
 use Rattle.std.proofs.Math.ListN.{get_or-map}
@@ -63,7 +63,7 @@ nodes-same : (xs ys : List (List ℕ)) → length xs ≡ length ys → AreHashes
 nodes-same xs ys count sizes sizes' e =
     concat-same xs ys count (All-from_get_or Is32 xs [] sizes) (All-from_get_or Is32 ys [] sizes') (concat_is xs ∙ (e ∙ sym (concat_is ys)))
 
--- the text of a level on the way tells what was given for it
+-- the bytes of a level on the way determine what was given for it
 level-same : (key : HssKey) (g k : ℕ) (x y : KeptLevel) → IsOnWay key g k x → IsOnWay key g k y → level_text x ≡ level_text y → given_of x ≡ given_of y
 level-same key g k x y on on' e =
     let U = flat_map (λ node. node) x.tree.upper in
@@ -85,13 +85,13 @@ level-same key g k x y on on' e =
     let signed = before-same x.signed.items y.signed.items U U' upper_long front in
     λ i. (record { key = own i; subtree = subtree i; upper = upper i; lower = lower i }, signed i)
 
--- the text of levels is not empty
+-- levels have some bytes
 some-text : (key : HssKey) (g i : ℕ) (level : KeptLevel) (levels : List KeptLevel) → AreFrom key g i (level ∷ levels) → ¬ ([] ≡ flat_map level_text (level ∷ levels))
 some-text key g i level levels each e =
     let long = length-level key g i level (first-on key g i level levels each) in
     omega (arith, long, some-bytes key i, ap length e, length-append (level_text level) (flat_map level_text levels))
 
--- the texts of levels from level i on tell what was given for them
+-- the bytes of levels from level i on determine what was given for them
 levels-same : (key : HssKey) (g i : ℕ) (xs ys : List KeptLevel) → AreFrom key g i xs → AreFrom key g i ys
     → flat_map level_text xs ≡ flat_map level_text ys → map given_of xs ≡ map given_of ys
 levels-same key g i [] [] each each' e = refl
@@ -110,7 +110,7 @@ levels-same key g i (x ∷ xs) (y ∷ ys) each each' e =
 index-fits : (way : Way) → IsWay way → way.at < 2 ^ 64
 index-fits way is = omega (arith, is.within, capacity-limit way.key is.admitted)
 
--- a text tells the index, and what was given for each level
+-- the bytes determine the index, and what was given for each level
 same-by-text : (a b : Way) → IsWay a → IsWay b → a.key ≡ b.key → nodes_text a ≡ nodes_text b → (a.at ≡ b.at) × (map given_of a.levels ≡ map given_of b.levels)
 same-by-text a b is is' same e =
     let key = hss_key_of a.key in
@@ -130,7 +130,7 @@ level-genuine : (key : HssKey) (g k : ℕ) (x y : KeptLevel) → given_of x ≡ 
 level-genuine key g k x y same genuine =
     record { nodes = subst AreNodes (ap (λ given. given.0) same) genuine.nodes; signed = ap (λ given. given.1) (sym same) ∙ genuine.signed }
 
--- trees that have the text of genuine ones are genuine
+-- trees that have the bytes of genuine ones are genuine
 pub stays_genuine : (a b : Way) → IsWay a → IsWay b → a.key ≡ b.key → nodes_text a ≡ nodes_text b → AreGenuine a → AreGenuine b
 stays_genuine a b is is' same e genuine k other low =
     let both = same-by-text a b is is' same e in

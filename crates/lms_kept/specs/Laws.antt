@@ -1,4 +1,4 @@
--- A law over texts of kept nodes.
+-- Laws over the bytes of kept nodes.
 use Rattle.std.specs.Prelude.{ℕ, ◌≡◌, ◌≤◌, List, length, map}
 use Rattle.lms_tree.specs.Kept.{KeptNodes}
 use Rattle.lms_kept.specs.declared.kept_level.KeptLevel.{KeptLevel}
@@ -9,13 +9,13 @@ use Rattle.lms_kept.specs.Ways.{AreGenuine, IsWay, most_text_length, nodes_text,
 abbrev pub given_of : KeptLevel → KeptNodes × List ℕ
 given_of level = (level.tree, level.signed.items)
 
--- trees of one key with one text are on the way of one index, as many and with the same given for
--- each, and so are genuine together
+-- trees of one key with the same bytes are on the way of one index, as many and with the same given
+-- for each, and so are genuine together
 abbrev pub ATextTellsItsTrees : Type 0
 ATextTellsItsTrees = (a b : Way) → IsWay a → IsWay b → a.key ≡ b.key → nodes_text a ≡ nodes_text b
     → (a.at ≡ b.at) × (map given_of a.levels ≡ map given_of b.levels)
     × (AreGenuine a → AreGenuine b)
 
--- no text is longer than this
+-- no kept nodes have more bytes than this
 abbrev pub TextsAreShort : Type 0
 TextsAreShort = (way : Way) → IsWay way → length (nodes_text way) ≤ most_text_length

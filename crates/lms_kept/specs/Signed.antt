@@ -1,4 +1,4 @@
--- Signatures by the nodes of a text, or by trees that were computed.
+-- Signatures by the nodes in some bytes, or by trees that were computed.
 use Rattle.std.specs.Prelude.{ℕ, ◌≡◌, ◌⊎◌, Bool, List, Some, None, Option, IfSome, IfNone, IsTrue, IsFalse}
 use Rattle.lms_spec.specs.Hss.{HssAccepts}
 use Rattle.lms_spec.specs.Profile.{hss_public_key, hss_signature}
@@ -45,19 +45,19 @@ abbrev pub AlreadyServe : Option Way → ℕ → Type 0
 AlreadyServe None index = ⊥
 AlreadyServe (Some way) index = Serves way index
 
--- the nodes of a text, where there are any, are of this key
+-- the nodes in the bytes, where there are any, are of this key
 pub record AreNodesOf (text : Option (List ℕ)) (key : KeyOfCode) (nodes : Option Way) : Type 0 where
   pub way : IfSome nodes IsWay
   pub of_key : IfSome nodes (λ way. way.key ≡ key)
   pub text_is : IfSome nodes (λ way. text ≡ Some (nodes_text way))
 
--- a text is that of no genuine trees of a key
+-- the bytes are those of no genuine trees of a key
 abbrev pub IsNotRight : Option (List ℕ) → KeyOfCode → Type 0
 IsNotRight text key =
     (way : Way) → IsWay way → way.key ≡ key → text ≡ Some (nodes_text way) → ¬ AreGenuine way
 
--- a signature by the nodes of a text, or by none where it is not right. The trees that signed are
--- to be kept just where the nodes do not serve the index as they are
+-- a signature by the nodes in the bytes, or by none where these are not right. The trees that signed
+-- are to be kept just where the nodes do not serve the index as they are
 pub record IsSignedByText (text : Option (List ℕ)) (key : KeyOfCode) (index : ℕ)
     (randomizer message signature : List ℕ) (kept : Option Way) : Type 0 where
   pub nodes : Option Way
@@ -68,8 +68,8 @@ pub record IsSignedByText (text : Option (List ℕ)) (key : KeyOfCode) (index : 
   pub changed : IfSome kept (λ _. ¬ AlreadyServe nodes index)
   pub unchanged : IfNone kept (AlreadyServe nodes index)
 
--- trees for an index of a key, made from the nodes of a text, or, where these are held to serve it,
--- they themselves
+-- trees for an index of a key, made from the nodes in the bytes, or, where these are held to serve
+-- it, they themselves
 pub record AreTreesOf (text : List ℕ) (key : KeyOfCode) (index : ℕ) (trees : Way)
     (held : Bool) : Type 0 where
   pub nodes : Way

@@ -1,4 +1,4 @@
--- The trees on the way of an index, from the top down, with nodes that were given, and the text
+-- The trees on the way of an index, from the top down, with nodes that were given, and the bytes
 -- that keeps them.
 use Rattle.std.specs.Prelude.{ℕ, zero, suc, ◌≡◌, ◌⊎◌, ◌+◌, ◌-◌, ◌*◌, ◌/◌, ◌%◌, ◌^◌, ◌<◌, ◌≤◌, List, [], ◌++◌, length, slice_index_or}
 use Rattle.std.specs.List.{flat_map}
@@ -101,8 +101,8 @@ pub record EndsAlong (way : Way) (g : ℕ) (randomizer message signature : List 
   pub along : IsSignatureAlong (tree_at (hss_key_of way.key) g (bottom_of way.key))
       (leaf_at (hss_key_of way.key) g (bottom_of way.key)) randomizer message last
 
--- what is signed of level k + 1 is the public key of its own tree, which no text gave, under the
--- randomizer of the leaf above: whatever was given, that one-time key signs no other text
+-- what is signed of level k + 1 is the public key of its own tree, which no bytes gave, under the
+-- randomizer of the leaf above: whatever was given, that one-time key signs nothing else
 pub record SignsOwnKey (key : HssKey) (g k : ℕ) (level : KeptLevel) : Type 0 where
   pub signature : List ℕ
   pub along : IsSignatureAlong (tree_at key g k) (leaf_at key g k)
@@ -156,7 +156,7 @@ pub record IsMoved (level : KeptLevel) (leaf : ℕ) (moved : KeptLevel) : Type 0
   pub nodes : AreNodes level.tree → AreNodes moved.tree
   pub signed : moved.signed ≡ level.signed
 
--- the text of a level: what is signed of it, and its nodes
+-- the bytes of a level: what is signed of it, and its nodes
 abbrev pub level_text : KeptLevel → List ℕ
 level_text level =
     level.signed.items ++ flat_map (λ node. node) level.tree.upper
@@ -168,7 +168,7 @@ level_length key k =
     signed_length key k + hash_length *
     (nodes_in (upper_rows (level key k).lms.h) + nodes_in (subtree_rows (level key k).lms.h 0))
 
--- the first bytes of each text of kept nodes: a word, the version, and the index
+-- the first bytes of all kept nodes: a word, the version, and the index
 abbrev pub nodes_word : ℕ
 nodes_word = 0x4853534e
 
@@ -194,10 +194,10 @@ check_of key body =
 abbrev pub body_text : Way → List ℕ
 body_text way = nodes_header way.at ++ flat_map level_text way.levels
 
--- the text of kept nodes
+-- the bytes of kept nodes
 abbrev pub nodes_text : Way → List ℕ
 nodes_text way = body_text way ++ check_of (hss_key_of way.key) (body_text way)
 
--- no text has more bytes
+-- no kept nodes have more bytes
 abbrev pub most_text_length : ℕ
 most_text_length = 0x600000

@@ -221,7 +221,7 @@ fn split_nodes(text: &[u8], count: usize) -> Option<(&[[u8; HASH_LEN]], &[u8])>
     ensures rest { IfSome result (λ r. length r.1.now + 32 * count ≡ length text.now) }
     ensures none { IfNone result (length text.now < 32 * count) }
 {
-    let length = count.checked_mul(32)?;
+    let length = count.checked_mul(HASH_LEN)?;
     let (nodes, rest) = text.split_at_checked(length)?;
     let (nodes, _) = nodes.as_chunks::<HASH_LEN>();
     Some((nodes, rest))

@@ -1,5 +1,5 @@
 //! The trees that an index goes through, with nodes that were given.
-ghost use Rattle.std.specs.Prelude.{ℕ, ◌≡◌, ◌+◌, ◌-◌, ◌*◌, ◌^◌, ◌<◌, ◌≤◌, ◌↔◌, ◌++◌, length, slice_index_or, IsTrue, IfOk, IfSome, IfNone};
+ghost use Rattle.std.specs.Prelude.{ℕ, ◌≡◌, ◌+◌, ◌-◌, ◌<◌, ◌≤◌, ◌↔◌, ◌++◌, length, slice_index_or, IsTrue, IfOk, IfSome, IfNone};
 ghost use Rattle.std.specs.List.{flat_map};
 ghost use Rattle.lms_spec.specs.Bytes.{u32str};
 ghost use Rattle.lms_spec.specs.Hss.{capacity_of, HssAccepts};
@@ -123,7 +123,7 @@ impl KeptTrees {
         let Some(last) = levels.pop() else {
             unreachable!()
         };
-        let leaf = key.place(g, shared - 1);
+        let leaf = key.leaf_of(g, shared - 1);
         levels.reserve(key.levels.as_slice().len() - levels.len())?;
         let begun = Begun::new(progress, last.leaves_to(leaf) + leaves_from(&key, shared));
         let Some(last) = last.moved_to(rt, alloc, leaf, &begun)? else {
@@ -232,7 +232,7 @@ impl KeptTrees {
         ensures genuine { IfOk result AreGenuine }
     {
         let mut levels = Vec::with_capacity(alloc, key.levels.as_slice().len())?;
-        let (tree, leaf) = (key.tree_key(at, 0), key.place(at, 0));
+        let (tree, leaf) = (key.tree_key(at, 0), key.leaf_of(at, 0));
         levels.push_reserved(KeptLevel::top(rt, alloc, tree, leaf, begun)?);
         Ok(KeptTrees { key, at, levels })
     }
@@ -267,9 +267,9 @@ impl KeptTrees {
             let child = levels[k - 1].child(
                 rt,
                 alloc,
-                key.place(at, k - 1),
+                key.leaf_of(at, k - 1),
                 key.tree_key(at, k),
-                key.place(at, k),
+                key.leaf_of(at, k),
                 begun,
             )?;
             levels.push_reserved(child);
@@ -297,7 +297,7 @@ impl KeptTrees {
         let bottom = self.key.levels.as_slice().len() - 1;
         let mut text = self.signed_keys(alloc)?;
         self.level(bottom)
-            .append_signature(self.key.place(g, bottom), c, msg, &mut text)?;
+            .append_signature(self.key.leaf_of(g, bottom), c, msg, &mut text)?;
         Ok(text)
     }
 
@@ -357,7 +357,7 @@ fn split_levels<'a>(
     let mut rest = text;
     for k in 0..key.levels.as_slice().len() {
         let tree = key.tree_key(at, k);
-        match KeptLevel::split(alloc, tree, key.place(at, k), signed_len(key, k), rest)? {
+        match KeptLevel::split(alloc, tree, key.leaf_of(at, k), signed_len(key, k), rest)? {
             Some((level, after)) => {
                 levels.push(level)?;
                 rest = after;

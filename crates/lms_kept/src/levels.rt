@@ -6,7 +6,7 @@ ghost use Rattle.lms_hss.specs.Levels.{levels_of};
 ghost use Rattle.lms_kept.specs.Ways.{leaves_of, level_length, signed_length};
 
 use lms_hss::{HssKey, LMS_KEY_LEN};
-use lms_params::{LmsType, OtsType, lms_sig_len};
+use lms_params::{HASH_LEN, LmsType, OtsType, lms_sig_len};
 use lms_tree::KeptTree;
 
 /// For how many levels, from the top on, two indices go through the same tree.
@@ -71,5 +71,5 @@ pub(crate) fn level_len(key: &HssKey, k: usize) -> usize
 {
     let (lms, _) = key.levels.as_slice()[k];
     let (upper, lower) = KeptTree::counts(lms);
-    signed_len(key, k) + 32 * (upper + lower)
+    signed_len(key, k) + HASH_LEN * (upper + lower)
 }

@@ -99,7 +99,7 @@ fn check_index(
     Ok(())
 }
 
-/// What a text keeps signs an index, moved on where it doesn't serve it, and is kept again.
+/// What these bytes keep signs an index, moved on where it doesn't serve it, and is kept again.
 fn check_next(
     rt: &(impl Abort + AllocGlobal + Threads + Sync),
     key: HssKey,
@@ -209,8 +209,8 @@ fn check_by_text(
     Ok(signed)
 }
 
-/// By no text; by one that serves the index; by one that is moved on; by that of another key, and
-/// by one that is damaged.
+/// By no kept bytes; by some that serve the index; by some that are moved on; by those of another
+/// key, and by some that are damaged.
 #[test]
 fn signs_by_a_text_or_anew(rt: HostRuntime) -> Result<(), Fail> {
     let key = key_of(&[QUICK; 2])?;

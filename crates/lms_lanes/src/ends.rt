@@ -1,6 +1,5 @@
 //! Hashes over the ends of the chains of eight keys, side by side.
-ghost use Rattle.std.specs.Prelude.{◌≡◌, ℕ, List, ◌+◌, ◌*◌, ◌<◌, ◌++◌, [], length, slice_index_or};
-ghost use Rattle.std.specs.Int.{to_be_bytes, w16};
+ghost use Rattle.std.specs.Prelude.{◌≡◌, ℕ, List, ◌+◌, ◌*◌, ◌<◌, [], length, slice_index_or};
 ghost use Rattle.sha2.specs.Sha256.{digest_bytes, sha256};
 ghost use Rattle.lms_lanes.specs.Lanes.{AreVectors, lane_of};
 ghost use Rattle.lms_lanes.specs.Ends.{HasFront, ends_text, end_of};

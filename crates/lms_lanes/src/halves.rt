@@ -1,6 +1,6 @@
 //! The blocks of a head of 22 bytes and the values after it, in each lane. A block has two values,
 //! so a word is of two halves.
-ghost use Rattle.std.specs.Prelude.{◌≡◌, ℕ, List, ◌+◌, ◌*◌, ◌/◌, ◌^◌, ◌<◌, [], ◌++◌, drop, take, slice_index, slice_index_or};
+ghost use Rattle.std.specs.Prelude.{◌≡◌, ℕ, List, ◌+◌, ◌*◌, ◌/◌, ◌^◌, ◌<◌, ◌++◌, drop, take, slice_index};
 ghost use Rattle.std.specs.Int.{to_be_bytes, w16};
 ghost use Rattle.sha2.specs.Sha256.{add32, digest_bytes, first_words};
 ghost use Rattle.lms_lanes.specs.Lanes.{AreVectors, EachLane, lane_of};

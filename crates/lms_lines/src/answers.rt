@@ -1,5 +1,5 @@
 //! Answer lines.
-ghost use Rattle.std.specs.Prelude.{◌≡◌, ◌++◌, ◌∷◌, ◌<◌, ◌≤◌, ◌+◌, ◌^◌, codes, length, take, map, decimal, OnOk, OnErr, IfOk, Some};
+ghost use Rattle.std.specs.Prelude.{◌<◌, ◌≤◌, ◌+◌, length, take, decimal, OnOk, OnErr, IfOk, Some};
 ghost use Rattle.std.specs.Io.KnownBytes.{Appends, Keeps};
 ghost use Rattle.hex.specs.Hex.{encode_lower};
 ghost use Rattle.lms_lines.specs.AnswerLines.{answer_line, answer_text, AppendsFront};

@@ -1,5 +1,5 @@
 //! Jobs gathered from the blocks of job lines.
-ghost use Rattle.std.specs.Prelude.{◌≡◌, ℕ, List, [], ◌+◌, ◌<◌, ◌≤◌, ◌↔◌, ◌++◌, ◌⊎◌, length, take, map, slice_index, Err, OnOk, IfOk, IfErr, IsTrue, MatchOption};
+ghost use Rattle.std.specs.Prelude.{◌≡◌, ℕ, List, [], ◌+◌, ◌<◌, ◌≤◌, ◌↔◌, ◌++◌, length, take, map, slice_index, Err, OnOk, IfOk, IfErr, IsTrue, MatchOption};
 ghost use Rattle.lms_batch.specs.Jobs.{most_jobs, text_of, JobText};
 ghost use Rattle.lms_lines.specs.JobLines.{longest_line, IsJobLine};
 ghost use Rattle.lms_lines.specs.JobsTexts.{IsJobsText, IsFaultOf};

@@ -26,8 +26,8 @@ pub struct Meter<'r, C, P> {
     is_on_terminal: bool,
     to_do: AtomicU64,
     done: AtomicU64,
-    /// The nanoseconds on the clock when it was last printed, or at first when the work began.
-    reported_at: AtomicU64,
+    /// When its line was last printed, or at first when the work began: nanoseconds on the clock.
+    printed_at: AtomicU64,
     /// Whether its line is on the terminal.
     is_shown: AtomicBool,
 }
@@ -40,7 +40,7 @@ impl<'r, C: Clock, P: Print> Meter<'r, C, P> {
             is_on_terminal,
             to_do: AtomicU64::new(0),
             done: AtomicU64::new(0),
-            reported_at: AtomicU64::new(0),
+            printed_at: AtomicU64::new(0),
             is_shown: AtomicBool::new(false),
         }
     }
@@ -65,16 +65,17 @@ impl<'r, C: Clock, P: Print> Meter<'r, C, P> {
         } else {
             ELSEWHERE
         };
-        let reported_at = self.reported_at.load(Ordering::SeqCst);
+        let printed_at = self.printed_at.load(Ordering::SeqCst);
         let now = self.now();
-        now.saturating_sub(reported_at) >= between
+        now.saturating_sub(printed_at) >= between
             && self
-                .reported_at
-                .compare_exchange(reported_at, now, Ordering::SeqCst, Ordering::SeqCst)
+                .printed_at
+                .compare_exchange(printed_at, now, Ordering::SeqCst, Ordering::SeqCst)
                 .is_ok()
     }
 
-    fn report(&self, done: u64) {
+    /// Prints how many leaves are done of how many: in its line on a terminal, else in a new one.
+    fn print_count(&self, done: u64) {
         let to_do = self.to_do.load(Ordering::SeqCst);
         if self.is_on_terminal {
             self.is_shown.store(true, Ordering::SeqCst);
@@ -93,13 +94,13 @@ impl<'r, C: Clock + Sync, P: Print + Sync> Progress for Meter<'r, C, P> {
     fn begin(&self, leaves: u64) {
         self.to_do.store(leaves, Ordering::SeqCst);
         self.done.store(0, Ordering::SeqCst);
-        self.reported_at.store(self.now(), Ordering::SeqCst);
+        self.printed_at.store(self.now(), Ordering::SeqCst);
     }
 
     fn done(&self, leaves: u64) {
         let before = self.done.fetch_add(leaves, Ordering::SeqCst);
         if self.is_due() {
-            self.report(before.saturating_add(leaves));
+            self.print_count(before.saturating_add(leaves));
         }
     }
 }

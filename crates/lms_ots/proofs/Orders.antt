@@ -54,13 +54,13 @@ right-next xs f chains n c v lt at right so_far j below = by (ltb j n) refl
         ap (λ i. get_or (set xs c v) i []) same ∙ (get_or-set_same xs c v [] lt ∙ (right ∙ ap f (sym same)))
 
 -- the next eight places of an order
-pub right-eight : (before after : List (List ℕ)) (f : ℕ → List ℕ) (order chains : List ℕ) (n count : ℕ)
+pub right-group : (before after : List (List ℕ)) (f : ℕ → List ℕ) (order chains : List ℕ) (n count : ℕ)
     → ((m : ℕ) → m < 8 * n → m < count → get_or before (chain_in order m) [] ≡ f (chain_in order m))
     → ((i : ℕ) → get_or before i [] ≡ f i → get_or after i [] ≡ f i)
     → ((k : ℕ) → k < 8 → get_or after (slice_index chains k) [] ≡ f (slice_index chains k))
     → ((k : ℕ) → k < 8 → slice_index chains k ≡ chain_in order (min (8 * n + k) (count - 1)))
     → (m : ℕ) → m < 8 * (n + 1) → m < count → get_or after (chain_in order m) [] ≡ f (chain_in order m)
-right-eight before after f order chains n count so_far stay come at m below lt = by (ltb m (8 * n)) refl
+right-group before after f order chains n count so_far stay come at m below lt = by (ltb m (8 * n)) refl
   where
     by : (b : Bool) → ltb m (8 * n) ≡ b → get_or after (chain_in order m) [] ≡ f (chain_in order m)
     by true e = stay (chain_in order m) (so_far m (ltb-true m (8 * n) e) lt)

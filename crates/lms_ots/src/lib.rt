@@ -6,8 +6,8 @@
 
 mod chain_ends;
 mod chain_hashes;
-mod eights;
 mod hashing;
+mod lanes;
 mod neighbours;
 mod one_time_key;
 mod signing;
@@ -20,3 +20,4 @@ pub use crate::neighbours::eight_public_hashes;
 pub use crate::one_time_key::{OtsId, chain, public_hash, secret};
 pub use crate::signing::{MESSAGE_HEAD_LEN, sign_into};
 pub use crate::verification::{Verifier, candidate};
+pub use lms_lanes::LANES;

@@ -5,8 +5,8 @@ ghost use Rattle.lms_spec.specs.Ots.{chain as chain_of, last_digit as last_digit
 ghost use Rattle.lms_params.specs.OtsType.{ots_set_of};
 
 use crate::chain_hashes::{chain_head, hash_after};
-use crate::eights::eight_values;
 use crate::hashing::hasher_at;
+use crate::lanes::lane_values;
 use lms_lanes::LANES;
 use lms_params::{HASH_LEN, OtsType};
 use sha2::Digest;
@@ -29,9 +29,9 @@ pub fn public_hash(t: OtsType, seed: &[u8; HASH_LEN], id: OtsId) -> [u8; HASH_LE
     let last = last_digit(t);
     let mut hasher = hasher_at(&id.i, id.q);
     hasher.update(D_PBLC.to_be_bytes());
-    'eights: for eight in 0..t.p().div_ceil(LANES) {
-        let first = LANES * eight;
-        let ends = eight_values(id, first as u16, last, seed);
+    'groups: for group in 0..t.p().div_ceil(LANES) {
+        let first = LANES * group;
+        let ends = lane_values(id, first as u16, last, seed);
         let count = (t.p() - first).min(LANES);
         'ends: for k in 0..count {
             hasher.update(ends[k]);

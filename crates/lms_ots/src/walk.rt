@@ -1,6 +1,6 @@
 //! All chains of a key, each from its start to its end, those with most hashes first, so that few
 //! lanes idle.
-ghost use Rattle.std.specs.Prelude.{◌≡◌, ℕ, ◌+◌, ◌-◌, ◌%◌, ◌<◌, ◌≤◌, List, [], ◌++◌, length, min, slice_index, slice_index_or};
+ghost use Rattle.std.specs.Prelude.{◌≡◌, ℕ, ◌+◌, ◌-◌, ◌%◌, ◌<◌, List, [], ◌++◌, length, min, slice_index, slice_index_or};
 ghost use Rattle.lms_lanes.specs.Chains.{walked};
 ghost use Rattle.lms_spec.specs.Parameters.{most_chains};
 ghost use Rattle.lms_spec.specs.Bytes.{u16str};
@@ -8,7 +8,7 @@ ghost use Rattle.lms_spec.specs.Hashing.{hash_prefix};
 ghost use Rattle.lms_params.specs.OtsType.{ots_set_of};
 ghost use Rattle.lms_ots.specs.Orders.{chain_in, IsOrder};
 
-use crate::eights::walk_eight;
+use crate::lanes::walk_lanes;
 use crate::one_time_key::OtsId;
 use lms_lanes::LANES;
 use lms_params::{HASH_LEN, MOST_CHAINS, OtsType};
@@ -31,8 +31,8 @@ pub(crate) fn walk_all(
         (slice_index_or starts.now (min i (length starts.now - 1)) []) }
 {
     let order = longest_first(t, steps);
-    'eights: for eight in 0..t.p().div_ceil(LANES) {
-        let chains = eight_of(t, &order, LANES * eight);
+    'groups: for group in 0..t.p().div_ceil(LANES) {
+        let chains = lane_chains(t, &order, LANES * group);
         let values = walk_some(id, &chains, firsts, steps, starts);
         put(ends, &chains, &values);
     }
@@ -52,7 +52,7 @@ fn longest_first(t: OtsType, steps: &[u16; MOST_CHAINS]) -> [u32; MOST_CHAINS]
 }
 
 /// The eight chains from a place of an order on. Past the order's end its last chain is repeated.
-fn eight_of(t: OtsType, order: &[u32; MOST_CHAINS], from: usize) -> [u16; LANES]
+fn lane_chains(t: OtsType, order: &[u32; MOST_CHAINS], from: usize) -> [u16; LANES]
     requires { from < (ots_set_of t).p }
     ensures { (k : ℕ) → k < 8
         → slice_index result k ≡ chain_in order.now (min (from + k) ((ots_set_of t).p - 1)) }
@@ -91,7 +91,7 @@ fn walk_some(
         lane_steps[k] = steps[i];
         lane_starts[k] = starts[i.min(starts.len() - 1)];
     }
-    walk_eight(id, chains, &lane_firsts, &lane_steps, &lane_starts)
+    walk_lanes(id, chains, &lane_firsts, &lane_steps, &lane_starts)
 }
 
 /// Puts the values of eight chains into their places.

@@ -10,11 +10,11 @@ use Rattle.lms_pool.specs.declared.call_log.Call.{Call}
 use Rattle.lms_pool.specs.declared.call_log.Call.TheVariants.{Claim, Look, Stop}
 use Rattle.lms_pool.specs.declared.call_log.Reply.{Reply}
 use Rattle.lms_pool.specs.declared.call_log.Reply.TheVariants.{Place, Ended}
-use Rattle.lms_pool.specs.declared.call_log.Entry.{Entry}
+use Rattle.lms_pool.specs.declared.call_log.LoggedCall.{LoggedCall}
 use Rattle.lms_pool.specs.declared.call_log.Hand.{Hand}
 use Rattle.lms_pool.specs.declared.rule.Shape.{Shape}
 use Rattle.lms_pool.specs.declared.seat.DrawSeat.TheInside.{Inside}
-use Rattle.lms_pool.specs.CallLog.{turn, state_after, entry, taken, IsLegal, IsLegalFrom, Extends, calls_of, stopped_by, stopped_in}
+use Rattle.lms_pool.specs.CallLog.{turn, state_after, logged_call, taken, IsLegal, IsLegalFrom, Extends, calls_of, stopped_by, stopped_in}
 use Rattle.lms_pool.specs.Rule.{Seated, counting_word, hand, the_hand, Makes, reply_at, took_effect}
 use Rattle.lms_pool.specs.States.{PoolState, SeatState, IsPool, IsSeat, Calls, seen}
 use Rattle.lms_pool.proofs.CallLogs.{claim_next, claim_end, taken_more, taken_within, state-append, stopped_after, stopped_within}
@@ -27,7 +27,7 @@ pub claim_over : (len n : ℕ) → len ≤ n → reply_at len n Claim ≡ Ended
 claim_over len n l = ap (λ (t : Reply × ℕ). t.0) (claim_end len (min n len) (omega arith))
 
 -- the last reply of a legal call log
-last_legal : (len n : ℕ) (xs : List Entry) (e : Entry) → IsLegalFrom len n (xs ++ e ∷ []) → e.reply ≡ (turn len (state_after len n xs) e.call).0
+last_legal : (len n : ℕ) (xs : List LoggedCall) (e : LoggedCall) → IsLegalFrom len n (xs ++ e ∷ []) → e.reply ≡ (turn len (state_after len n xs) e.call).0
 last_legal len n [] e l = l.0
 last_legal len n (x ∷ xs) e l = last_legal len (turn len n x.call).1 xs e l.1
 
@@ -37,11 +37,11 @@ place_is len n p e = dite (dec_lt n len)
     (λ g. let r : Place p ≡ Ended = e ∙ ap (λ (t : Reply × ℕ). t.0) (claim_end len n (omega arith)) in absurd (cc))
 
 -- a claim's place is one that the seat had not seen taken
-pub place_from : (len x p : ℕ) (old new : List Entry) → Extends len old (entry x Claim (Place p)) new → taken len old ≤ p
+pub place_from : (len x p : ℕ) (old new : List LoggedCall) → Extends len old (logged_call x Claim (Place p)) new → taken len old ≤ p
 place_from len x p old new ext =
     let whole = subst (IsLegal len) ext.1.1 ext.0 in
-    let before : List Entry = old ++ ext.1.0 in
-    let r = place_is len (taken len before) p (last_legal len 0 before (entry x Claim (Place p)) whole) in
+    let before : List LoggedCall = old ++ ext.1.0 in
+    let r = place_is len (taken len before) p (last_legal len 0 before (logged_call x Claim (Place p)) whole) in
     omega (arith, r, taken_more len old ext.1.0)
 
 end_is : (len n : ℕ) → Ended ≡ (turn len n Claim).0 → len ≤ n
@@ -50,21 +50,21 @@ end_is len n e = dite (dec_lt n len)
     (λ g. omega arith)
 
 -- a claim ends only where no place is left
-pub end_from : (len x : ℕ) (old new : List Entry) → Extends len old (entry x Claim Ended) new → taken len new ≡ len
+pub end_from : (len x : ℕ) (old new : List LoggedCall) → Extends len old (logged_call x Claim Ended) new → taken len new ≡ len
 end_from len x old new ext =
     let whole = subst (IsLegal len) ext.1.1 ext.0 in
-    let before : List Entry = old ++ ext.1.0 in
-    let e : Entry = entry x Claim Ended in
+    let before : List LoggedCall = old ++ ext.1.0 in
+    let e : LoggedCall = logged_call x Claim Ended in
     let over = end_is len (taken len before) (last_legal len 0 before e whole) in
     omega (arith, ap (taken len) ext.1.1, state-append len 0 before (e ∷ []), ap (λ (t : Reply × ℕ). t.1) (claim_end len (taken len before) over), over, taken_within len before)
 
 -- a seat that has seen the end gets no place
-pub end_again : (len x : ℕ) (r : Reply) (old new : List Entry) → taken len old ≡ len → Extends len old (entry x Claim r) new → r ≡ Ended
+pub end_again : (len x : ℕ) (r : Reply) (old new : List LoggedCall) → taken len old ≡ len → Extends len old (logged_call x Claim r) new → r ≡ Ended
 end_again len x r old new end ext =
     let whole = subst (IsLegal len) ext.1.1 ext.0 in
-    let before : List Entry = old ++ ext.1.0 in
+    let before : List LoggedCall = old ++ ext.1.0 in
     let over : len ≤ taken len before = omega (arith, end, taken_more len old ext.1.0) in
-    last_legal len 0 before (entry x Claim r) whole ∙ ap (λ (t : Reply × ℕ). t.0) (claim_end len (taken len before) over)
+    last_legal len 0 before (logged_call x Claim r) whole ∙ ap (λ (t : Reply × ℕ). t.0) (claim_end len (taken len before) over)
 
 -- the reply of a call tells the state after it
 state_shown : (len m n : ℕ) (c : Call) → m ≤ len → n ≤ len → (turn len m c).0 ≡ (turn len n c).0 → (turn len m c).1 ≡ (turn len n c).1
@@ -78,11 +78,11 @@ state_shown len m n Look k l e = let same : m ≡ n = cc in same
 state_shown len m n Stop k l e = refl
 
 -- what is taken after a call that found this word
-taken_after : (len x n : ℕ) (c : Call) (old new : List Entry) → Extends len old (entry x c (reply_at len n c)) new → taken len new ≡ (turn len (min n len) c).1
+taken_after : (len x n : ℕ) (c : Call) (old new : List LoggedCall) → Extends len old (logged_call x c (reply_at len n c)) new → taken len new ≡ (turn len (min n len) c).1
 taken_after len x n c old new ext =
     let whole = subst (IsLegal len) ext.1.1 ext.0 in
-    let before : List Entry = old ++ ext.1.0 in
-    let e : Entry = entry x c (reply_at len n c) in
+    let before : List LoggedCall = old ++ ext.1.0 in
+    let e : LoggedCall = logged_call x c (reply_at len n c) in
     ap (taken len) ext.1.1
     ∙ state-append len 0 before (e ∷ [])
     ∙ state_shown len (taken len before) (min n len) c (taken_within len before) (omega arith) (sym (last_legal len 0 before e whole))
@@ -117,14 +117,14 @@ asks me pool shape f then same is seat allowed =
     )
 
 -- an addition that found the last place, or none, saw the end
-pub draw_ends : (len n : ℕ) → 1 ≤ len → len - 1 ≤ n → true ≡ nat_eq (turn len (min n len) Claim).1 len
-draw_ends len n some le = dite (dec_lt n len)
+pub claim_step_ends : (len n : ℕ) → 1 ≤ len → len - 1 ≤ n → true ≡ nat_eq (turn len (min n len) Claim).1 len
+claim_step_ends len n some le = dite (dec_lt n len)
     (λ l. let t : true ≡ nat_eq (min n len + 1) len = grind (arith, nat_tests) in t ∙ ap (λ (t : Reply × ℕ). nat_eq t.1 len) (sym (claim_next len (min n len) (omega arith))))
     (λ g. let t : true ≡ nat_eq (min n len) len = grind (arith, nat_tests) in t ∙ ap (λ (t : Reply × ℕ). nat_eq t.1 len) (sym (claim_end len (min n len) (omega arith))))
 
 -- another one did not
-pub draw_leaves : (len n : ℕ) → n < len - 1 → false ≡ nat_eq (turn len (min n len) Claim).1 len
-draw_leaves len n l =
+pub claim_step_leaves : (len n : ℕ) → n < len - 1 → false ≡ nat_eq (turn len (min n len) Claim).1 len
+claim_step_leaves len n l =
     let t : false ≡ nat_eq (min n len + 1) len = grind (arith, nat_tests) in
     t ∙ ap (λ (t : Reply × ℕ). nat_eq t.1 len) (sym (claim_next len (min n len) (omega arith)))
 
@@ -139,11 +139,11 @@ pub is_len : (len : ℕ) → true ≡ nat_eq len len
 is_len len = grind (arith, nat_tests)
 
 -- what a call leaves of a seat's view
-record Left (len number : ℕ) (old : List Entry) (c : Call) (r : Reply) (w : Seated) : Type 0 where
+record Left (len number : ℕ) (old : List LoggedCall) (c : Call) (r : Reply) (w : Seated) : Type 0 where
   pub alone : w ≡ one (hand number len (the_hand w.0).log)
-  pub log : Extends len old (entry number c r) (the_hand w.0).log
+  pub log : Extends len old (logged_call number c r) (the_hand w.0).log
 
-left_by : (len number : ℕ) (old : List Entry) (c : Call) (r : Reply) (w : Seated) (k : Hand) → w ≡ one k → Makes c r (hand number len old) k → Left len number old c r w
+left_by : (len number : ℕ) (old : List LoggedCall) (c : Call) (r : Reply) (w : Seated) (k : Hand) → w ≡ one k → Makes c r (hand number len old) k → Left len number old c r w
 left_by len number old c r w k e m =
     subst (Left len number old c r) (sym e) (record { alone = λ i. one (hand (m.0 i) (m.1 i) k.log); log = m.2 })
 
@@ -155,7 +155,7 @@ pub record Called (me : Inside) (c : Call) (r : Reply) (n : ℕ) (w : Seated) : 
       → has_seen_end ≡ nat_eq (turn me.pool.value.len (min n me.pool.value.len) c).1 me.pool.value.len → IsSeat me.pool.value me.number stopped has_seen_end table w
 
 module _ (me : Inside) (seat : IsWell me) where
-  abbrev old_log : List Entry
+  abbrev old_log : List LoggedCall
   old_log = (the_hand me.seat.me.0).log
 
   -- a step that is a call's
@@ -169,7 +169,7 @@ module _ (me : Inside) (seat : IsWell me) where
       record {
         makes = λ before is. subst (λ (s : SeatState). Calls s c r (seat_with me w)) is (refl, refl, left.log);
         stays = λ stopped has_seen_end table same adds sees.
-            let counted : stopped ≡ stopped_in (calls_of me.number new) = omega (arith, adds, seat.of_pool.counted, stopped_after len old_log (entry me.number c r) new left.log) in
+            let counted : stopped ≡ stopped_in (calls_of me.number new) = omega (arith, adds, seat.of_pool.counted, stopped_after len old_log (logged_call me.number c r) new left.log) in
             record {
               of_pool = record {
                 below = seat.of_pool.below;

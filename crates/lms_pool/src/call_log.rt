@@ -21,7 +21,7 @@ pub enum Reply {
 
 /// One call of the seat of this number, with its reply.
 #[derive(Clone, Copy)]
-pub struct Entry {
+pub struct LoggedCall {
     pub seat: usize,
     pub call: Call,
     pub reply: Reply,
@@ -32,5 +32,5 @@ pub struct Entry {
 pub struct Hand {
     pub number: usize,
     pub len: u64,
-    pub log: LinkedList<Entry, Global>,
+    pub log: LinkedList<LoggedCall, Global>,
 }

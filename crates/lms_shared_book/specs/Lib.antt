@@ -1,3 +1,2 @@
 pub mod Desks
-pub mod Faults
 pub mod Shared

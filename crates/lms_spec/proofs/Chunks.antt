@@ -1,4 +1,4 @@
--- Texts cut into pieces of 32 bytes.
+-- Bytes cut into pieces of 32.
 use Rattle.std.proofs.Common.{ℕ, zero, suc, ◌≡◌, ◌*◌, ◌≤◌, List, ◌++◌, length, All, take, drop, refl, sym, ◌∙◌, ap, arith, length-drop, take-append-drop}
 use Rattle.std.specs.List.{concat}
 use Rattle.std.specs.Simd.{first_chunks}

@@ -1,4 +1,4 @@
--- The parts of a hierarchy's signature: how long they are, and that its bytes tell them.
+-- The parts of a hierarchy's signature: how long they are, and that its bytes determine them.
 use Rattle.std.proofs.Common.{ℕ, zero, suc, ◌≡◌, ◌+◌, ◌-◌, ◌*◌, ◌≤◌, List, [], ◌++◌, map, length, take, drop, get_or, sum_by, Some, sym, ◌∙◌, ap, ap₂, subst₂, arith, length-append, append_assoc}
 use Rattle.std.specs.List.{concat, range_with_len}
 use Rattle.std.proofs.lemmas.List.{take_at, drop_at, drop_all}

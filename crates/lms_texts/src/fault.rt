@@ -4,8 +4,7 @@ ghost use Rattle.lms_texts.specs.Faults.{levels_fault_text};
 
 use lms_params::OutOfMemory;
 use std::alloc::AllocError;
-use std::error::Error;
-use std::fmt;
+use std::{error, fmt};
 
 /// Why no levels were read from a text.
 #[derive(Clone, Copy, Debug, PartialEq, Eq)]
@@ -27,7 +26,7 @@ impl fmt::Display for LevelsTextFault {
     }
 }
 
-impl Error for LevelsTextFault {}
+impl error::Error for LevelsTextFault {}
 
 impl From<AllocError> for LevelsTextFault {
     ghost use Rattle.std.specs.Prelude.{◌≡◌};

@@ -18,16 +18,16 @@ fn main(rt: HostRuntime) -> ExitCode {
     let held = hold_closed_streams(&rt);
     let meter_output = rt.stderr();
     let meter = Meter::new(&rt, &meter_output, meter_output.is_terminal());
-    let words = if held.is_ok() {
-        words(&rt)
+    let arguments = if held.is_ok() {
+        arguments(&rt)
     } else {
         Err(Fault::ReadInput)
     };
-    let status = match words {
-        Ok(words) => run_watched(
+    let status = match arguments {
+        Ok(arguments) => run_watched(
             &rt,
             rt.alloc(),
-            words.as_slice(),
+            arguments.as_slice(),
             &mut DiskWorld::new(&rt),
             &mut Log::new(),
             &mut rt.reader(),
@@ -44,9 +44,11 @@ fn main(rt: HostRuntime) -> ExitCode {
 
 /// The program's arguments. `ReadInput` where one is no UTF-8 text, `OutOfMemory` where memory ran
 /// out.
-fn words<R: Env + AllocGlobal>(rt: &R) -> Result<Vec<String>, Fault> {
+fn arguments<R: Env + AllocGlobal>(rt: &R) -> Result<Vec<String>, Fault> {
     match env::args(rt) {
-        Ok(words) => words.collect(rt.alloc()).map_err(|_| Fault::OutOfMemory),
+        Ok(arguments) => arguments
+            .collect(rt.alloc())
+            .map_err(|_| Fault::OutOfMemory),
         Err(error) if error.kind() == ErrorKind::OutOfMemory => Err(Fault::OutOfMemory),
         Err(_) => Err(Fault::ReadInput),
     }

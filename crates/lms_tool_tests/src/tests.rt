@@ -33,13 +33,13 @@ const VERIFY: [&str; 8] = [
 
 /// What a run left.
 #[derive(Drop)]
-struct Ended {
+struct ProgramEnd {
     status: u8,
     output: Vec<u8>,
     errors: Vec<u8>,
 }
 
-impl Ended {
+impl ProgramEnd {
     fn output(&self) -> &str {
         text_of(&self.output)
     }
@@ -88,11 +88,11 @@ fn end_of<W: World<Log = Log>>(
     rt: &(impl Threads + Wait + AllocGlobal + Sync),
     arguments: &[&str],
     world: &mut W,
-) -> Ended {
+) -> ProgramEnd {
     let mut output = Vec::new(rt.alloc());
     let mut errors = Vec::new(rt.alloc());
     let status = status_of(rt, arguments, world, &mut output, &mut errors);
-    Ended {
+    ProgramEnd {
         status,
         output,
         errors,

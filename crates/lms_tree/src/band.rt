@@ -227,7 +227,7 @@ fn fill_upper_rows(key: &TreeKey, rows: Rows, nodes: &mut [[u8; HASH_LEN]])
 fn fill_row(key: &TreeKey, row: Row, nodes: &mut [[u8; HASH_LEN]])
     requires from_root { 1 ≤ row.first }
     requires inner { row.first + row.count ≤ 2 ^ (tree_of key.now).lms.h }
-    requires long { row.place + 3 * row.count ≤ length nodes.old }
+    requires fits { row.place + 3 * row.count ≤ length nodes.old }
     requires below { HoldsRow key.now (row_below row) nodes.old }
     ensures count { length nodes.new ≡ length nodes.old }
     ensures row { HoldsRow key.now row nodes.new }

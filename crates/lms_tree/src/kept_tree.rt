@@ -4,7 +4,6 @@ ghost use Rattle.lms_spec.specs.Parameters.{greatest_height};
 ghost use Rattle.lms_spec.specs.Tree.{node as node_of};
 ghost use Rattle.lms_params.specs.LmsType.{lms_set_of};
 ghost use Rattle.lms_tree.specs.TreeKey.{tree_of, path_length_under, path_text, public_text, signature_length_under, signature_text};
-ghost use Rattle.lms_tree.specs.Bands.{bottom_height as bottom_height_of};
 ghost use Rattle.lms_tree.specs.Held.{AreInTree, nodes_in};
 ghost use Rattle.lms_tree.specs.Kept.{AreNodes, FillsRows, given_public, HasShape, IsSignatureAlong, MovesTo, ServesLeaf, subtree_root, subtree_rows as subtree_rows_of, upper_height, upper_rows as upper_rows_of};
 ghost use Rattle.lms_tree.specs.Served.{IsNeeded};
@@ -202,7 +201,7 @@ impl KeptTree {
         let leaf = leaf_count(self.key.lms) + q;
         for level in 0..self.key.lms.height() as usize {
             let value = self.node(sibling(leaf >> level));
-            out[32 * level..32 * level + 32].copy_from_slice(&value);
+            out[HASH_LEN * level..HASH_LEN * level + HASH_LEN].copy_from_slice(&value);
         }
     }
 }

@@ -1,7 +1,8 @@
 //! LMS, the Merkle tree of one-time keys (RFC 8554, section 5).
 //!
 //! A leaf signs one message. Two messages under one leaf let a forger sign others: a caller of
-//! `sign_into` must never use a leaf twice.
+//! `sign_into` must never use a leaf twice. What verifies is in `lms_verification`, and is here by
+//! its names, too.
 #![tactic(auto)]
 
 mod band;

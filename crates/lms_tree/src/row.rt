@@ -9,6 +9,7 @@ use crate::band::Band;
 use crate::progress::Progress;
 use crate::tree_key::TreeKey;
 use crate::workers::Workers;
+use lms_ots::LANES;
 use lms_params::HASH_LEN;
 use lms_verification::leaf_count;
 use rayon::current_num_threads;
@@ -139,7 +140,11 @@ fn left_len(nodes: usize, own: usize, threads: usize) -> usize
     ensures others { result < nodes }
 {
     let share = nodes * own / threads;
-    let whole = if share < 64 { share } else { share / 8 * 8 };
+    let whole = if share < 64 {
+        share
+    } else {
+        share / LANES * LANES
+    };
     whole.clamp(1, nodes - 1)
 }
 
@@ -178,7 +183,7 @@ fn piece_len<R, P>(work: &Work<R, P>, first: u32) -> usize
 {
     let is_leaf = first >= leaf_count(work.key.lms);
     if is_leaf && work.lower.is_none() {
-        8
+        LANES
     } else {
         1
     }
@@ -200,11 +205,11 @@ fn fill_next<R: Threads + Sync, P: Progress>(
     ensures nodes { (i : ℕ) → i < result
         → slice_index_or part.new i [] ≡ node_of (tree_of work.now.key) (first + i) }
 {
-    if part.len() >= 8 && piece_len(work, first) == 8 {
+    if part.len() >= LANES && piece_len(work, first) == LANES {
         let q = first - leaf_count(work.key.lms);
-        part[..8].copy_from_slice(&work.key.eight_leaves(q));
-        work.progress.done(8);
-        8
+        part[..LANES].copy_from_slice(&work.key.neighbouring_leaves(q));
+        work.progress.done(LANES as u64);
+        LANES
     } else {
         part[0] = node(work, first);
         1

@@ -67,7 +67,7 @@ fn write_path<N: NodeSource>(source: &N, q: u32, out: &mut [u8])
     let leaf = leaf_count(key.lms) + q;
     for level in 0..key.lms.height() as usize {
         let value = source.node(sibling(leaf >> level));
-        out[32 * level..32 * level + 32].copy_from_slice(&value);
+        out[HASH_LEN * level..HASH_LEN * level + HASH_LEN].copy_from_slice(&value);
     }
 }
 

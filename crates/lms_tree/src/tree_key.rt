@@ -3,7 +3,7 @@ ghost use Rattle.std.specs.Prelude.{ℕ, ◌≡◌, ◌+◌, ◌*◌, ◌^◌, �
 ghost use Rattle.lms_spec.specs.Tree.{node};
 ghost use Rattle.lms_tree.specs.TreeKey.{tree_of};
 
-use lms_ots::{OtsId, eight_public_hashes, public_hash};
+use lms_ots::{LANES, OtsId, eight_public_hashes, public_hash};
 use lms_params::{HASH_LEN, LmsType, OtsType};
 use lms_verification::{inner_hash, leaf_count, leaf_hash};
 
@@ -28,7 +28,7 @@ impl TreeKey {
     }
 
     /// The values of eight neighbouring leaves from leaf q on, which is at most 2^h - 8 (5.3).
-    pub(crate) fn eight_leaves(&self, q: u32) -> [[u8; HASH_LEN]; 8]
+    pub(crate) fn neighbouring_leaves(&self, q: u32) -> [[u8; HASH_LEN]; LANES]
         requires { q + 8 ≤ 2 ^ (tree_of self.now).lms.h }
         ensures long { length result ≡ 8 }
         ensures values { (k : ℕ) → k < 8
@@ -37,8 +37,8 @@ impl TreeKey {
     {
         let first = leaf_count(self.lms) + q;
         let ots_publics = eight_public_hashes(self.ots, &self.seed, OtsId { i: self.i, q });
-        let mut values = [[0; HASH_LEN]; 8];
-        'lanes: for k in 0..8 {
+        let mut values = [[0; HASH_LEN]; LANES];
+        'lanes: for k in 0..LANES {
             values[k] = leaf_hash(&self.i, first + k as u32, &ots_publics[k]);
         }
         values
@@ -52,7 +52,7 @@ impl TreeKey {
         requires to { 4 * r < 2 ^ (tree_of self.now).lms.h }
         ensures { result ≡ node (tree_of self.now) r }
     {
-        let leaves = self.eight_leaves(8 * r - leaf_count(self.lms));
+        let leaves = self.neighbouring_leaves(8 * r - leaf_count(self.lms));
         let first = inner_hash(&self.i, 4 * r, &leaves[0], &leaves[1]);
         let second = inner_hash(&self.i, 4 * r + 1, &leaves[2], &leaves[3]);
         let third = inner_hash(&self.i, 4 * r + 2, &leaves[4], &leaves[5]);

@@ -230,7 +230,7 @@ fn signs_from_a_band(rt: HostRuntime) -> Result<(), Fail> {
     Ok(())
 }
 
-/// Whether these hexadecimal digits are the SHA-256 of a text.
+/// Whether these hexadecimal digits are the SHA-256 of these bytes.
 fn has_digest(text: &[u8], digits: &str) -> bool {
     let digest: Result<[u8; 32], _> = FromHex::from_hex(digits);
     digest.is_ok_and(|digest| Sha256::digest(text) == digest)

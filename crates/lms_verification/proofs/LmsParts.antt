@@ -20,7 +20,7 @@ length-lms_key m t id root public_key is =
     let last = is.root_length in
     ap length is.parts ∙ (length-append (u32str m.code ++ u32str t.code ++ id) root ∙ omega arith)
 
--- for the goals where a text is too short or too long
+-- for the goals where the bytes are too few or too many
 pub ruleset key_lengths = (length-lms_key)
 
 -- the sets of a key are those of the typecodes at its front
@@ -36,7 +36,7 @@ sets-of-key m t id root public_key rest last a b ha hb ea eb is =
     let ots : t.code ≡ b = first-number-same t.code b (id ++ root) last (small-ots_code t is.ots_known) hb e' in
     (ap lms_set (sym lms) ∙ is.lms_known, ap ots_set (sym ots) ∙ is.ots_known)
 
--- a text cut at a key's parts is that key
+-- bytes cut at a key's parts are that key
 pub key-parts : (m : LmsSet) (t : OtsSet) (id root public_key rest last : List ℕ) (a b : ℕ)
     → public_key ≡ u32str a ++ rest → rest ≡ u32str b ++ last → m.code ≡ a → t.code ≡ b → last ≡ id ++ root
     → public_key ≡ lms_public_key m t id root
@@ -56,7 +56,7 @@ length-lms_parts m t q ots_part path signature is =
     ∙ (length-append (u32str q ++ ots_part ++ u32str m.code) (concat path)
     ∙ omega (arith, length-append (u32str q ++ ots_part) (u32str m.code)))
 
--- the parts that are cut from a text of the right length, with the key's typecode in its place
+-- the parts that are cut from as many bytes as are right, with the key's typecode in its place
 pub lms-parts : (m : LmsSet) (t : OtsSet) (q : ℕ) (signature rest ots_part after last : List ℕ) (path : List (List ℕ))
     → length signature ≡ lms_signature_length m t → q < 2 ^ m.h → signature ≡ u32str q ++ rest
     → ots_part ≡ take (ots_signature_length t) rest → after ≡ drop (ots_signature_length t) rest

@@ -1,5 +1,5 @@
 //! Verification (RFC 8554, 5.4.2).
-ghost use Rattle.std.specs.Prelude.{ℕ, ◌≡◌, ◌^◌, ◌<◌, ◌↔◌, ◌++◌, List, [], IsTrue, IfSome, IfNone};
+ghost use Rattle.std.specs.Prelude.{ℕ, ◌≡◌, ◌<◌, ◌↔◌, ◌++◌, List, [], IsTrue, IfSome, IfNone};
 ghost use Rattle.lms_spec.specs.Parameters.{OtsSet, LmsSet};
 ghost use Rattle.sha2.specs.Sha256.{sha256};
 ghost use Rattle.lms_spec.specs.Tree.{climb as climb_of, leaf_hash as leaf_hash_of, LmsAccepts};

@@ -12,7 +12,7 @@ pub data Event : Type 0 where
   -- bytes were written to a file
   Written : (name : Bytes) (bytes : List ℕ) (done : Bool) → Event
   -- a state was locked, and its lock handed back
-  Locked : (name : Bytes) (got : Bool) → Event
+  Locked : (name : Bytes) (acquired : Bool) → Event
   Unlocked : Event
   -- it was asked whether there is the state of the lock
   Asked : (there : Bool) → Event
@@ -43,10 +43,10 @@ bytes_of (Ok bytes) = Some bytes.items
 bytes_of (Err fault) = None
 
 -- whether a lock was acquired
-abbrev pub is_got : {T E : Type 0} → Result (Option T) E → Bool
-is_got (Ok (Some lock)) = true
-is_got (Ok None) = false
-is_got (Err fault) = false
+abbrev pub is_acquired : {T E : Type 0} → Result (Option T) E → Bool
+is_acquired (Ok (Some lock)) = true
+is_acquired (Ok None) = false
+is_acquired (Err fault) = false
 
 -- the taking out of a store, if it was
 abbrev pub taking_of : {S E : Type 0} → (S → StoreView) → Result S E → Event

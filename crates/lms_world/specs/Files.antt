@@ -32,7 +32,7 @@ answer_of world name = entry_answer (entry_of world name)
 abbrev pub MayRefuse : MemoryWorld → List ℕ → WorldFault → Type 0
 MayRefuse world name fault = (answer_of world name ≡ Err fault) ⊎ (fault ≡ OutOfMemory)
 
--- the text of a state: with no store there is none
+-- the bytes of a state: with no store there are none
 abbrev pub state_text : Option MemoryState → Option (List ℕ)
 state_text None = None
 state_text (Some store) = store.text

@@ -42,7 +42,7 @@ pub record Stays (old new : Known) (state : Bytes) : Type 0 where
   pub kept : (text : List ℕ) → old.may_hold state text → new.may_hold state text
   pub only : (text : List ℕ) → new.holds state text → old.may_hold state text
 
--- the state of the name is known to hold nothing but what it might hold before, or this text
+-- the state of the name is known to hold nothing but what it might hold before, or these bytes
 abbrev pub IsOldOr : List ℕ → Known → Known → Bytes → Type 0
 IsOldOr image old new state =
     (text : List ℕ) → new.holds state text → old.may_hold state text ⊎ (text ≡ image)

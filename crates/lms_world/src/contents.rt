@@ -1,5 +1,5 @@
 //! What a file holds, handed over piece by piece.
-ghost use Rattle.std.specs.Prelude.{◌≡◌, ℕ, ◌++◌, List, [], IfErr, OnOk};
+ghost use Rattle.std.specs.Prelude.{ℕ, ◌++◌, List, [], IfErr, OnOk};
 
 use crate::fault::WorldFault;
 

@@ -97,15 +97,24 @@ where
     ) -> Result<Option<StateLock<R::File>>, OutOfMemory> {
         match lock(self.files, alloc, name) {
             Ok(Some(found)) => {
-                *log = log.and(&Call::Locked { name, got: true });
+                *log = log.and(&Call::Locked {
+                    name,
+                    acquired: true,
+                });
                 Ok(Some(found))
             }
             Ok(None) => {
-                *log = log.and(&Call::Locked { name, got: false });
+                *log = log.and(&Call::Locked {
+                    name,
+                    acquired: false,
+                });
                 Ok(None)
             }
             Err(fault) => {
-                *log = log.and(&Call::Locked { name, got: false });
+                *log = log.and(&Call::Locked {
+                    name,
+                    acquired: false,
+                });
                 Err(fault)
             }
         }

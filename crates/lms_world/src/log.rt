@@ -38,7 +38,7 @@ pub(crate) enum Call<'a> {
     },
     Locked {
         name: &'a str,
-        got: bool,
+        acquired: bool,
     },
     Unlocked,
     Asked {

@@ -277,9 +277,9 @@ impl World for MemoryWorld {
         log: &mut Log,
         name: &str,
     ) -> Result<Option<MemoryLock>, OutOfMemory> {
-        let got = !self.in_use;
-        *log = log.and(&Call::Locked { name, got });
-        if got {
+        let acquired = !self.in_use;
+        *log = log.and(&Call::Locked { name, acquired });
+        if acquired {
             Ok(Some(MemoryLock(())))
         } else {
             Ok(None)

@@ -1,7 +1,7 @@
 //! What a world of files and states owes.
 ghost use Rattle.std.specs.Prelude.{◌≡◌, ◌≤◌, ◌⊎◌, ◌↔◌, ◌∷◌, ℕ, List, None, option_map, true, false, length, IfErr, IfOk, IfSome, OnOk};
 ghost use Rattle.lms_book.specs.Stops.{MayLeave};
-ghost use Rattle.lms_world.specs.Events.{Event, Read, Opened, Written, Locked, Unlocked, Asked, PutBack, NodesRead, NodesWritten, Printing, bytes_of, is_done, is_got, taking_of};
+ghost use Rattle.lms_world.specs.Events.{Event, Read, Opened, Written, Locked, Unlocked, Asked, PutBack, NodesRead, NodesWritten, Printing, bytes_of, is_done, is_acquired, taking_of};
 ghost use Rattle.lms_world.specs.Known.{Known, MayBeRead, MayExist, SameFiles, SameFilesBut, SameNodes, Stays, Bytes};
 
 use crate::contents::Contents;
@@ -86,7 +86,7 @@ pub trait World {
         log: &mut Self::Log,
         name: &str,
     ) -> Result<Option<Self::Lock>, OutOfMemory>
-        ensures logged { events log.new ≡ Locked name.now (is_got result) ∷ events log.old }
+        ensures logged { events log.new ≡ Locked name.now (is_acquired result) ∷ events log.old }
         ensures used { IfOk result (λ found.
             found ≡ None → (known self.now).may_be_in_use name.now) }
         ensures locked { IfOk result (λ found. IfSome found (λ lock. is_lock_of lock name.now)) };

@@ -150,7 +150,7 @@ fn reads<W: World<Log = Log>>(alloc: Global, world: &W, name: &str, bytes: &[u8]
     }
 }
 
-/// Compares what it takes with a text.
+/// Compares what it takes with other bytes.
 #[derive(Drop)]
 struct Comparing<'a> {
     left: &'a [u8],
@@ -225,7 +225,7 @@ fn large_text(alloc: Global) -> Result<String, Fail> {
 
 const LARGE: &str = "disk_world_large/text";
 
-/// A large text is read and written whole.
+/// Many bytes are read and written whole.
 #[test]
 fn a_large_file_is_whole(rt: HostRuntime) -> Result<(), Fail> {
     empty_folder(&rt, "disk_world_large")?;

@@ -60,8 +60,8 @@ pub(crate) fn opened(
 /// A job of this message, whose first byte fills its randomizer.
 pub(crate) fn job(alloc: Global, message: &[u8]) -> Result<Job, Fail> {
     let first = message.first().copied().unwrap_or(0x33);
-    let text = Vec::from_slice(alloc, message);
-    let message = text.or_else(|_| Vec::from_slice(alloc, message))?;
+    let bytes = Vec::from_slice(alloc, message);
+    let message = bytes.or_else(|_| Vec::from_slice(alloc, message))?;
     Ok(Job {
         c: [first; 32],
         message,

@@ -1,6 +1,6 @@
 ghost use Rattle.std.specs.Prelude.{◌≡◌, ◌≤◌, [], IfOk};
 
-use super::{burns, counts, gives, leaves, opened_and_burnt, refuses, reopened};
+use super::{burns, counts, gives, has_opened_and_burnt, leaves, refuses, reopened};
 use crate::tests::fixtures::{FIRST_SMALL, LEVELS, first_store, small_store};
 use lms_book::{Book, BookFault, Left, MemoryStore};
 use lms_fixtures::{book_of, key_of, reserved};
@@ -18,7 +18,7 @@ fn a_life_of_failed_writes(rt: HostRuntime) -> Result<(), Fail> {
     assert!(rt; burns(&mut book, 4, 8));
     assert!(rt; counts(&book, 0, 12, 4));
     let mut book = reopened(rt.alloc(), book)?;
-    assert!(rt; counts(&book, 8, 8, 8) && opened_and_burnt(&book, 1, 0));
+    assert!(rt; counts(&book, 8, 8, 8) && has_opened_and_burnt(&book, 1, 0));
     assert!(rt; gives(&mut book, 24, 8));
     assert!(rt; refuses(&mut book, 1, 0));
     assert!(rt; leaves(book, key_of(&LEVELS, 0x11)?, 32, 2, 0));
@@ -38,12 +38,12 @@ fn first_book_burns(alloc: Global, left: Left) -> Result<Book<MemoryStore>, Fail
 fn version_1_is_replaced_by_the_first_write(rt: HostRuntime) -> Result<(), Fail> {
     let key = key_of(&LEVELS, 0x11)?;
     let mut book = first_book_burns(rt.alloc(), Left::New)?;
-    assert!(rt; counts(&book, 10, 10, 10) && opened_and_burnt(&book, 0, 0));
+    assert!(rt; counts(&book, 10, 10, 10) && has_opened_and_burnt(&book, 0, 0));
     assert!(rt; burns(&mut book, 5, 10));
-    assert!(rt; opened_and_burnt(&book, 0, 5));
+    assert!(rt; has_opened_and_burnt(&book, 0, 5));
     assert!(rt; gives(&mut book, 5, 15));
     let mut book = reopened(rt.alloc(), book)?;
-    assert!(rt; counts(&book, 20, 20, 20) && opened_and_burnt(&book, 1, 5));
+    assert!(rt; counts(&book, 20, 20, 20) && has_opened_and_burnt(&book, 1, 5));
     assert!(rt; gives(&mut book, 1, 20));
     assert!(rt; leaves(book, key, 21, 2, 5));
     Ok(())
@@ -56,7 +56,7 @@ fn a_failed_first_write_over_version_1(rt: HostRuntime) -> Result<(), Fail> {
         let mut book = first_book_burns(rt.alloc(), left)?;
         assert!(rt; burns(&mut book, 5, 10));
         let book = reopened(rt.alloc(), book)?;
-        assert!(rt; counts(&book, base, base, base) && opened_and_burnt(&book, openings, 0));
+        assert!(rt; counts(&book, base, base, base) && has_opened_and_burnt(&book, openings, 0));
     }
     Ok(())
 }
@@ -83,7 +83,7 @@ fn a_write_after_a_failed_first_one(rt: HostRuntime) -> Result<(), Fail> {
 fn an_opening_that_stores_nothing_is_not_counted(rt: HostRuntime) -> Result<(), Fail> {
     let book = book_of(rt.alloc(), first_store(rt.alloc(), FIRST_SMALL)?)?;
     let book = reopened(rt.alloc(), book)?;
-    assert!(rt; counts(&book, 10, 10, 10) && opened_and_burnt(&book, 0, 0));
+    assert!(rt; counts(&book, 10, 10, 10) && has_opened_and_burnt(&book, 0, 0));
     assert!(rt; book.close().text() == first_store(rt.alloc(), FIRST_SMALL)?.text());
     Ok(())
 }
@@ -121,7 +121,7 @@ fn mark(given: &mut [bool; 32], range: (u64, u64)) -> Result<(), Fail> {
     Ok(())
 }
 
-/// A book whose k-th write fails, or stops.
+/// A book at whose k-th write the store fails, or the program crashes.
 fn failing_book(
     alloc: Global,
     k: usize,

@@ -11,12 +11,12 @@ fn store_of_a(alloc: Global) -> Result<MemoryStore, Fail> {
     }
 }
 
-/// Whether a store takes this text.
+/// Whether a store takes these bytes.
 fn takes(store: &mut MemoryStore, text: &[u8]) -> bool {
     store.replace(text) == Ok(())
 }
 
-/// Whether a store holds this text.
+/// Whether a store holds these bytes.
 fn holds(store: &MemoryStore, text: &[u8]) -> bool {
     store.text() == Some(text)
 }
@@ -52,7 +52,7 @@ fn a_store_fails_as_planned(rt: HostRuntime) -> Result<(), Fail> {
     Ok(())
 }
 
-/// Whether a store gives this text.
+/// Whether a store gives these bytes.
 fn gives(alloc: Global, store: &mut MemoryStore, text: &[u8]) -> bool {
     let given = match store.read(alloc) {
         Err(ReadFault::OutOfMemory) => store.read(alloc),

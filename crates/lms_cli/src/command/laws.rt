@@ -1,6 +1,6 @@
 //! What the program's usage promises, over clap's definition of it.
 
-ghost use Rattle.lms_cli.specs.UsageWords.{BatchIsTaken, InfoIsTaken, KeygenIsTaken, SignIsTaken, VerifyIsTaken};
+ghost use Rattle.lms_cli.specs.UsageArguments.{BatchIsTaken, InfoIsTaken, KeygenIsTaken, SignIsTaken, VerifyIsTaken};
 
 /// `keygen --levels=L --seed=S --id=I --state=K --public=P` is taken for any five texts, as
 /// `keygen` with these.

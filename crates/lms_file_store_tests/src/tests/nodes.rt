@@ -93,7 +93,7 @@ fn what_is_kept_is_read(rt: HostRuntime) -> Result<(), Fail> {
     Ok(())
 }
 
-/// As long as the longest text of nodes, about 4.5 MB.
+/// As many bytes as nodes take at most, about 4.5 MB.
 #[test]
 fn a_long_text_is_kept(rt: HostRuntime) -> Result<(), Fail> {
     empty_folder(&rt, "kept_nodes_long")?;
@@ -156,8 +156,8 @@ fn stops_at_a_draft(rt: &HostRuntime, kept: &Kept<HostRuntime>) -> Result<bool, 
     Ok(began && refused && kept.keeps(b"new"))
 }
 
-/// Whether a link in the place of what is kept is not read, and gives way to the next text, which
-/// is not written through it.
+/// Whether a link in the place of what is kept is not read, and gives way to the next bytes,
+/// which are not written through it.
 fn takes_no_link(rt: &HostRuntime, kept: &Kept<HostRuntime>, original: &str) -> Result<bool, Fail> {
     symlink(rt, original, WAY)?;
     let unread = kept.gives_none(usize::MAX);

@@ -27,10 +27,10 @@ const STEPS: [&str; 9] = [
     "sync all of file_store_steps",
 ];
 
-/// How many of them are done before an older new text is removed.
+/// How many of them are done before an older new file is removed.
 const REMOVED: usize = 1;
 
-/// How many of them are done once the new text is in its place.
+/// How many of them are done once the new file is in its place.
 const PLACED: usize = 8;
 
 /// The first of them, a line each.
@@ -58,7 +58,7 @@ fn stops_after(
     Ok(began && stored == (k == STEPS.len()) && journal.lines()? == steps)
 }
 
-/// Whether a store and its file hold this text, and `next` after the next write.
+/// Whether a store and its file hold these bytes, and `next` after the next write.
 fn goes_on(rt: &HostRuntime, store: &mut impl StateStore, left: &[u8]) -> Result<bool, Fail> {
     let left_is_held = holds(rt, STATE, left)? && reads(rt, store, left);
     Ok(
@@ -69,8 +69,8 @@ fn goes_on(rt: &HostRuntime, store: &mut impl StateStore, left: &[u8]) -> Result
     )
 }
 
-/// Whether after `k` operations a write stops, the file holds one of both texts whole, and the
-/// store goes on with it.
+/// Whether after `k` operations a write stops, the file holds the old or the new bytes whole,
+/// and the store goes on with those.
 fn stops_and_goes_on(
     rt: &HostRuntime,
     store: &mut impl StateStore,
@@ -84,7 +84,8 @@ fn stops_and_goes_on(
 }
 
 /// A store writes `new` over `old`, where after `k` operations one alone fails. No operation
-/// follows the one that fails, the file holds one of both texts whole, and the next write succeeds.
+/// follows the one that fails, the file holds the old or the new bytes whole, and the next write
+/// succeeds.
 #[test]
 fn a_write_stops_where_a_step_fails(rt: HostRuntime) -> Result<(), Fail> {
     for k in 0..=STEPS.len() {
@@ -97,8 +98,8 @@ fn a_write_stops_where_a_step_fails(rt: HostRuntime) -> Result<(), Fail> {
 
 const TRIED: &str = "file_store_tried/state";
 
-/// Whether a store fails to take these texts, one after another, each where the operation after `k`
-/// others fails.
+/// Whether a store fails to take each of these, one after another, each where the operation after
+/// `k` others fails.
 fn fails_to_take(
     store: &mut impl StateStore,
     journal: &Journal,
@@ -114,9 +115,10 @@ fn fails_to_take(
     Ok(all)
 }
 
-/// Whether a store knows a text in its file that it failed to store for certain, also where two
-/// others came after it, and not where a third did; and whether it knows its last certain text
-/// then. The text is as long as `new`, so that it is placed by as many operations.
+/// Whether a store knows bytes in its file that it failed to store for certain, also where two
+/// other writes came after, and not where a third did; and whether it knows its last certain bytes
+/// then. The bytes first tried are as many as `new` has, so that they are placed by as many
+/// operations.
 fn knows_three(
     rt: &HostRuntime,
     store: &mut impl StateStore,
@@ -193,7 +195,7 @@ fn pass_a_link(
     Ok(())
 }
 
-/// Where a link gets in the way of the new text after the older one was removed, nothing is written
+/// Where a link gets in the way of the new file after the older one was removed, nothing is written
 /// through it.
 #[test]
 fn a_link_in_the_way_is_not_followed(rt: HostRuntime) -> Result<(), Fail> {
@@ -223,7 +225,7 @@ fn has_fault(
 
 /// Whether a read that fails after `k` operations says whether it was out of memory or failed
 /// otherwise.
-fn has_both_faults(
+fn names_its_fault(
     rt: &HostRuntime,
     store: &mut impl StateStore,
     journal: &Journal,
@@ -242,7 +244,7 @@ fn fail_to_read(
 ) -> Result<(), Fail> {
     assert!(end; takes(store, b"old"));
     for k in 0..READS {
-        assert!(end; has_both_faults(rt, store, journal, k)?, "{k}");
+        assert!(end; names_its_fault(rt, store, journal, k)?, "{k}");
     }
     journal.fail(READS, ErrorKind::Other)?;
     assert!(end; reads(rt, store, b"old"));
@@ -264,7 +266,7 @@ const BEFORE_A_LOCK: usize = 2;
 
 /// Whether out of memory at an operation of locking is reported, and another failure there gives no
 /// lock.
-fn tells_of_a_lock<R: Files>(
+fn lock_reports_out_of_memory<R: Files>(
     alloc: Global,
     files: &R,
     journal: &Journal,
@@ -347,7 +349,10 @@ pub(super) fn over_recorded_files(
     }
     if let Scenario::Lock = scenario {
         for k in 0..BEFORE_A_LOCK {
-            assert!(end; tells_of_a_lock(rt.alloc(), &files, &journal, k)?, "{k}");
+            assert!(end;
+                lock_reports_out_of_memory(rt.alloc(), &files, &journal, k)?,
+                "{k}"
+            );
         }
     }
     let mut store = store_over(rt.alloc(), &files, name)?.ok_or("the lock is free")?;

@@ -12,7 +12,7 @@ fn verifies(texts: &PlantedTexts) -> bool {
     verify(&texts.public, b"abc", &texts.signature)
 }
 
-/// A text with four of its bytes replaced.
+/// These bytes with four of them replaced.
 fn with_number(alloc: Global, text: &[u8], at: usize, number: u32) -> Result<Vec<u8>, AllocError> {
     let mut changed = Vec::from_slice(alloc, text)?;
     let mut place = at;
@@ -25,7 +25,7 @@ fn with_number(alloc: Global, text: &[u8], at: usize, number: u32) -> Result<Vec
     Ok(changed)
 }
 
-/// A text with the lowest bit of one byte changed.
+/// These bytes with the lowest bit of one changed.
 fn with_flip(alloc: Global, text: &[u8], at: usize) -> Result<Vec<u8>, AllocError> {
     let mut changed = Vec::from_slice(alloc, text)?;
     if let Some(byte) = changed.get_mut(at) {
@@ -47,7 +47,7 @@ fn refuses_longer(texts: PlantedTexts) -> Result<bool, Fail> {
     Ok(!verify(&texts.public, b"abc", &longer))
 }
 
-/// Where a text is changed: at its first byte, in its middle and at its last byte.
+/// Where bytes are changed: at the first one, in the middle and at the last one.
 fn places(text: &[u8]) -> [usize; 3] {
     [0, text.len() / 2, text.len().saturating_sub(1)]
 }
@@ -374,7 +374,7 @@ fn below_a_top(alloc: Global, child: &PlantedTexts) -> Result<PlantedTexts, Allo
     Ok(PlantedTexts { public, signature })
 }
 
-/// The texts of a child with typecode 10 in its key and in its signature.
+/// The key and the signature of a child with typecode 10 in both.
 fn with_typecode(alloc: Global, child: &PlantedTexts) -> Result<PlantedTexts, AllocError> {
     let public = with_number(alloc, &child.public, 4, 10)?;
     let signature = with_number(alloc, &child.signature, 8524, 10)?;

@@ -1,9 +1,9 @@
-//! Texts that may be no image, by their fields.
+//! Bytes that may be no image, by their fields.
 use lms_image::ImageFault;
 use sha2::{Digest, Sha256};
 use std::alloc::{AllocError, Global};
 
-/// The fields of a text that may be no image.
+/// The fields of bytes that may be no image.
 #[derive(Clone, Copy)]
 pub(super) struct Fields {
     pub(super) start: [u8; 4],
@@ -28,7 +28,7 @@ impl Fields {
         Ok(text)
     }
 
-    /// The text before the digest.
+    /// The bytes before the digest.
     fn body(&self, alloc: Global) -> Result<Vec<u8>, AllocError> {
         let mut text = self.head(alloc)?;
         text.extend_from_slice(&[0x11; 32])?;
@@ -41,7 +41,7 @@ impl Fields {
         Ok(text)
     }
 
-    /// The text, with the right digest at its end.
+    /// The bytes, with the right digest at their end.
     pub(super) fn text(&self, alloc: Global) -> Result<Vec<u8>, AllocError> {
         let mut text = self.body(alloc)?;
         let digest = Sha256::digest(text.as_slice());
@@ -78,7 +78,7 @@ pub(super) const SOUND_NOW: Fields = Fields {
     ..SOUND
 };
 
-/// Texts with their digest, where two faults hold for the first.
+/// Bytes with their digest, and their fault: the first where two hold.
 const WITH_THEIR_DIGEST: [(Fields, Option<ImageFault>); 20] = [
     (
         Fields {

@@ -1,4 +1,4 @@
-//! Which texts are read.
+//! Which bytes are read.
 use crate::tests::{LEVEL, compute, key_of};
 use lms_fixtures::Sums;
 use lms_hss::{HssKey, KeyFault, Levels};
@@ -8,12 +8,12 @@ use std::alloc::Global;
 use std::process::Abort;
 use std::test::Fail;
 
-/// Whether a key takes a text for its own.
+/// Whether a key takes these bytes for its own.
 fn is_taken(alloc: Global, key: &HssKey, text: &[u8]) -> Result<bool, OutOfMemory> {
     Ok(KeptTrees::read(alloc, *key, text)?.is_some())
 }
 
-/// The first length below its own to which a text is cut and taken.
+/// The first length below their own to which these bytes are cut and taken.
 fn taken_cut(alloc: Global, key: &HssKey, text: &[u8]) -> Result<Option<usize>, OutOfMemory> {
     for length in 0..text.len() {
         if is_taken(alloc, key, text.get(..length).unwrap_or(&[]))? {
@@ -30,7 +30,7 @@ fn flip(text: &mut [u8], at: usize) {
     }
 }
 
-/// The first byte with whose lowest bit changed a text is taken.
+/// The first byte with whose lowest bit changed these bytes are taken.
 fn taken_change(
     alloc: Global,
     key: &HssKey,
@@ -46,8 +46,8 @@ fn taken_change(
     Ok(None)
 }
 
-/// The text of index 40 of 5/8,5/8: 16 bytes; 64 nodes of the top tree; a signed key of 1348 bytes
-/// and 64 nodes of the bottom tree; 32 bytes.
+/// The bytes kept for index 40 of 5/8,5/8: 16 bytes; 64 nodes of the top tree; a signed key of 1348
+/// bytes and 64 nodes of the bottom tree; 32 bytes.
 #[test]
 fn takes_its_own_text_alone(rt: HostRuntime) -> Result<(), Fail> {
     let key = key_of(&[LEVEL; 2])?;

@@ -1,4 +1,4 @@
-//! Texts with the right check value and wrong nodes, as only a holder of the seed can make them.
+//! Bytes with the right check value and wrong nodes, as only a holder of the seed can make them.
 ghost use Rattle.std.specs.Prelude.{◌≡◌, IfOk};
 
 use crate::tests::{QUICK, TALL_ABOVE, compute, expected, key_of, moved, signed};
@@ -36,7 +36,7 @@ fn digest(key: &HssKey, body: &[u8]) -> [u8; 32] {
     hasher.finalize()
 }
 
-/// Gives a text the check value that is right for the bytes before it.
+/// Makes the check value, at the end of the bytes, the right one for those before it.
 fn check_again(key: &HssKey, text: &mut [u8]) {
     let length = text.len().saturating_sub(32);
     let (body, check) = text.split_at_mut(length);
@@ -48,7 +48,7 @@ fn check_again(key: &HssKey, text: &mut [u8]) {
     }
 }
 
-/// The 32 bytes at a place of a text.
+/// The 32 bytes from a place on.
 fn at(text: &[u8], start: usize) -> [u8; 32] {
     let mut value = [0; 32];
     if let Some(part) = text.get(start..start.saturating_add(32)) {
@@ -75,7 +75,7 @@ fn node(r: u32, left: &[u8; 32], right: &[u8; 32]) -> [u8; 32] {
     hasher.finalize()
 }
 
-/// Where node r of a top tree of height 5 is in a text: after the root, which is there once more.
+/// Where node r of a top tree of height 5 is kept: after the root, which is there once more.
 fn place(r: u32) -> usize {
     TOP.saturating_add(32)
         .saturating_add(32 * (r as usize).saturating_sub(1))
@@ -94,7 +94,7 @@ fn change_consistently(key: &HssKey, text: &mut [u8]) {
     check_again(key, text);
 }
 
-/// What a changed text keeps, which the key takes.
+/// What changed bytes keep, which the key takes.
 fn taken(rt: &impl AllocGlobal, key: HssKey, text: &[u8]) -> Result<KeptTrees, Fail>
     ensures { IfOk result (λ trees. trees.key ≡ key) }
 {
@@ -171,7 +171,7 @@ fn goes_on_to_no_other_subtree(rt: HostRuntime) -> Result<(), Fail> {
     Ok(())
 }
 
-/// Whether the key takes a text whose check value is made anew.
+/// Whether the key takes these bytes once their check value is made anew.
 fn is_taken(rt: &impl AllocGlobal, key: &HssKey, text: &[u8]) -> Result<bool, Fail> {
     let mut text = Vec::from_slice(rt.alloc(), text)?;
     check_again(key, &mut text);

@@ -1,7 +1,7 @@
 //! `batch`: job lines signed by the whole program.
 use super::arguments::{CHEAP, ONE, TWO, keygen};
 use super::states::{is_with, keyed};
-use super::{Ended, VERIFY, says, text_of};
+use super::{ProgramEnd, VERIFY, says, text_of};
 use lms_cli::run::run;
 use lms_world::{Log, MemoryWorld, Printer, World};
 use std::sync::Wait;
@@ -39,7 +39,7 @@ pub(super) fn end_of_batch(
     world: &mut MemoryWorld,
     workers: &str,
     input: &str,
-) -> Ended {
+) -> ProgramEnd {
     let output = Vec::new(rt.alloc());
     end_of_batch_to(rt, world, workers, input, output)
 }
@@ -51,7 +51,7 @@ pub(super) fn end_of_batch_to(
     workers: &str,
     input: &str,
     output: Vec<u8>,
-) -> Ended {
+) -> ProgramEnd {
     let mut rest = input.as_bytes();
     let mut output = output;
     let mut errors = Vec::new(rt.alloc());
@@ -66,7 +66,7 @@ pub(super) fn end_of_batch_to(
         &mut Printer::new(&mut output),
         &mut errors,
     );
-    Ended {
+    ProgramEnd {
         status: status.code(),
         output,
         errors,

@@ -2,7 +2,7 @@
 use super::arguments::{CHEAP, ONE, TWO};
 use super::batch::{FOUR_LINES, TWO_LINES, batch, end_of_batch, end_of_batch_to};
 use super::states::{is_with, keyed, store_at};
-use super::{Closed, Ended, Stuck, text_of};
+use super::{Closed, ProgramEnd, Stuck, text_of};
 use lms_book::Left;
 use lms_cli::run::run;
 use lms_commands::Status;
@@ -155,8 +155,8 @@ fn cannot_write_answers(rt: HostRuntime) -> Result<(), Fail> {
     Ok(())
 }
 
-/// The state of an unused key of 5/8,5/8, whose next write fails, and leaves the old text or the
-/// new one.
+/// The state of an unused key of 5/8,5/8, whose next write fails, and leaves the old bytes or the
+/// new ones.
 fn unwritable(alloc: Global, left: Left) -> Result<MemoryWorld, Fail> {
     let mut store = store_at(alloc, &TWO, 0)?;
     store.fail_replace(1, left);
@@ -218,7 +218,7 @@ fn fails_in_order(rt: HostRuntime) -> Result<(), Fail> {
 }
 
 /// How many indices a batch of four jobs that ended so has used, and how many lines it printed.
-fn uses(end: &Ended) -> Option<(u64, usize)> {
+fn uses(end: &ProgramEnd) -> Option<(u64, usize)> {
     match (end.status, end.errors()) {
         (0, "") => Some((4, 4)),
         (1, "error: partial: 0 of 4 signed\n") => Some((4, 0)),
@@ -258,7 +258,7 @@ fn used(world: &MemoryWorld) -> Result<u64, Fail> {
 
 /// Whether a batch that ended so used as many indices as it says, from so many used to so many, and
 /// printed its lines, which are some of the answers from its first index on.
-fn is_true(end: &Ended, answers: &[Vec<u8>; 2], before: u64, after: u64) -> bool {
+fn is_true(end: &ProgramEnd, answers: &[Vec<u8>; 2], before: u64, after: u64) -> bool {
     let [first, second] = answers;
     let expected = if before == 0 { first } else { second };
     match uses(end) {

@@ -40,7 +40,7 @@ fn is_missing(alloc: Global, world: &MemoryWorld, name: &str) -> bool {
     world.read(alloc, &mut Log::new(), name).is_err()
 }
 
-/// No state, and a store whose next write fails, and leaves the old text or the new one.
+/// No state, and a store whose next write fails, and leaves the old bytes or the new ones.
 fn no_state(alloc: Global, left: Left) -> Result<MemoryWorld, Fail> {
     let mut world = MemoryWorld::new(alloc);
     let mut store = MemoryStore::new(alloc, None, 8)?;
@@ -67,8 +67,8 @@ fn cannot_store_a_new_key(rt: HostRuntime) -> Result<(), Fail> {
     Ok(())
 }
 
-/// A message, and a state of index 5 whose next write fails, and leaves the old text or the new
-/// one.
+/// A message, and a state of index 5 whose next write fails, and leaves the old bytes or the
+/// new ones.
 fn unwritable(alloc: Global, left: Left) -> Result<MemoryWorld, Fail> {
     let mut world = keyed(alloc, &ONE, 5)?;
     let mut store = store_at(alloc, &ONE, 5)?;
@@ -83,8 +83,8 @@ fn burns(rt: &(impl Threads + Wait + AllocGlobal + Sync), world: &mut MemoryWorl
     fails_with(rt, &SIGN, world, 3, line) && is_missing(rt.alloc(), world, "text.sig")
 }
 
-/// Whether a write that fails, and leaves the old text or the new one, burns index 5, and the next
-/// signature says this.
+/// Whether a write that fails, and leaves the old bytes or the new ones, burns index 5, and the
+/// next signature says this.
 fn burns_and_signs(
     rt: &(impl Threads + Wait + AllocGlobal + Sync),
     left: Left,
@@ -94,7 +94,7 @@ fn burns_and_signs(
     Ok(burns(rt, &mut world) && says(rt, &SIGN, &mut world, 0, next))
 }
 
-/// A write that fails burns the index, whichever text it leaves.
+/// A write that fails burns the index, whichever bytes it leaves.
 #[test]
 fn burns_an_index(rt: HostRuntime) -> Result<(), Fail> {
     assert!(rt; burns_and_signs(&rt, Left::Old, "index 5\n")?);

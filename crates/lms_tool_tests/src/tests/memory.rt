@@ -1,7 +1,7 @@
 //! Commands to which memory is refused once, where it is.
 use super::arguments::{CHEAP_TWICE, INFO, SIGN, keygen};
 use super::states::is_with;
-use super::{Ended, VERIFY, end_of};
+use super::{ProgramEnd, VERIFY, end_of};
 use lms_world::{Log, MemoryWorld, World};
 use std::alloc::Global;
 use std::sync::Wait;
@@ -19,7 +19,7 @@ fn used(world: &MemoryWorld) -> Result<u64, Fail> {
 }
 
 /// How many indices a `sign` that ended so may have used.
-fn uses(end: &Ended) -> Option<u64> {
+fn uses(end: &ProgramEnd) -> Option<u64> {
     match (end.status, end.errors()) {
         (0, "") => Some(1),
         (5, "error: out of memory\n") => Some(0),
@@ -63,7 +63,7 @@ fn makes_a_key(rt: &(impl Threads + Wait + AllocGlobal + Sync), world: &mut Memo
 
 /// Whether a command that changes nothing ended with this status, or as one that was refused
 /// memory.
-fn ends_or_is_refused(end: &Ended, status: u8) -> bool {
+fn ends_or_is_refused(end: &ProgramEnd, status: u8) -> bool {
     match (end.status, end.errors()) {
         (5, "error: out of memory\n") | (6, "error: cannot write output\n") => true,
         (ended, _) => ended == status,

@@ -36,8 +36,8 @@ fn keeps<W: World<Log = Log>>(alloc: Global, world: &mut W, lock: &W::Lock, text
     written && read && (text.is_empty() || gives_none(alloc, world, lock, text.len() - 1))
 }
 
-/// Whether the nodes of the state of a name are kept, one text after another, and nothing is read
-/// before; the last one is `left`.
+/// Whether the nodes of the state of a name are kept, one write after another, and nothing is read
+/// before; the last are `left`.
 fn keeps_each<W: World<Log = Log>>(
     alloc: Global,
     world: &mut W,
@@ -77,7 +77,7 @@ const STATE: &str = "disk_world_nodes/state";
 
 const NODES: &str = "disk_world_nodes/state.nodes";
 
-/// About 4.5 MB, as long as the longest text of nodes.
+/// About 4.5 MB, as many bytes as nodes take at most.
 fn large_text(alloc: Global) -> Result<String, Fail> {
     Ok("pattern".repeat(alloc, 642_857)?)
 }

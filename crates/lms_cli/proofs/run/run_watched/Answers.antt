@@ -27,7 +27,7 @@ returns-in-Err g c =
       logged = inr (
         c.in-Err.fault,
         c.report.ensures.status,
-        subst (λ (reported : Option (List ℕ)). AppendsFront reported (g.E.Write.contents c.report.new.errors) (fault_line c.in-Err.fault)) (ap g.E.Write.contents c.in-Err.ensures.unreported) c.report.ensures.line,
+        subst (λ (error_text : Option (List ℕ)). AppendsFront error_text (g.E.Write.contents c.report.new.errors) (fault_line c.in-Err.fault)) (ap g.E.Write.contents c.in-Err.ensures.no_error_text) c.report.ensures.line,
         c.in-Err.ensures.log_failed,
       );
       ends = subst (Ends before after words) (sym c.report.ensures.status) (ends_at before after words c.in-Err.fault c.in-Err.ensures.fails);

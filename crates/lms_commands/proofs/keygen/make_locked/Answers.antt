@@ -10,9 +10,9 @@ use Rattle.lms_world.specs.Events.{Asked, Printing, Written}
 use Rattle.lms_world.specs.Known.{Bytes}
 use Rattle.lms_texts.specs.Descriptions.{number_line}
 use Rattle.lms_commands.specs.KeygenLogs.{AreGenuineTrees, StoresKey, WritesKey}
-use Rattle.lms_commands.specs.Logs.{IsUnpublished, LogsKeeping, WorldCalls}
+use Rattle.lms_commands.specs.Logs.{FailsToPublish, LogsKeeping, WorldCalls}
 use Rattle.lms_commands.proofs.Logged.{unmade}
-use Rattle.lms_commands.proofs.Failing.{both_ok, not_published}
+use Rattle.lms_commands.proofs.Failing.{both_ok, failed_publishing}
 use Rattle.lms_commands.proofs.StayingRight.{only_from, right_still, stays_right}
 use Rattle.lms_commands.proofs.keygen.make_locked.Goals as goal
 
@@ -36,7 +36,7 @@ returns-clause-failed g c =
     let old = g.W.World.known c.args.world.now in
     let new = g.W.World.known c.publish.new.world in
     IfErr-weaker c.publish.result _ _
-    (λ fault is state locked. not_published old new c.args.key state _ _ _ _ _ _ _ (
+    (λ fault is state locked. failed_publishing old new c.args.key state _ _ _ _ _ _ _ (
       c.exists.ensures.missing c.if-exists.false state locked,
       (c.publish.ensures.states state).kept _ ((c.keep_trees.ensures.states state).kept _ (c.in_ok-store_key.ensures.stored state locked)),
     ) fault is)
@@ -103,6 +103,6 @@ returns-clause-log_failed g c =
     let is = c.public.ensures.right c.in_ok-trees.ensures.genuine ∙ ap (λ (key : HssKey). hss_public_key (hss_key_of key)) c.in_ok-trees.ensures.key in
     IfErr-weaker c.publish.result _ _
     (unmade c.args.key c.args.public.now before printed old kept new (writes_so c.args.key c.args.public.now c.in_ok-trees.trees old _ stored kept genuine c.if-exists.ensures.logged c.in_ok-store_key.ensures.logged c.keep_trees.ensures.logged))
-    (subst (λ (n : ℕ). IfErr c.publish.result (λ fault. IsUnpublished c.args.public.now (hss_public_key (hss_key_of c.args.key)) (number_line (codes "capacity") n) before printed fault kept new))
+    (subst (λ (n : ℕ). IfErr c.publish.result (λ fault. FailsToPublish c.args.public.now (hss_public_key (hss_key_of c.args.key)) (number_line (codes "capacity") n) before printed fault kept new))
     c.capacity.ensures.capacity
-    (subst (λ (bytes : List ℕ). IfErr c.publish.result (λ fault. IsUnpublished c.args.public.now bytes (number_line (codes "capacity") c.capacity.result) before printed fault kept new)) is c.publish.ensures.failed))
+    (subst (λ (bytes : List ℕ). IfErr c.publish.result (λ fault. FailsToPublish c.args.public.now bytes (number_line (codes "capacity") c.capacity.result) before printed fault kept new)) is c.publish.ensures.failed))

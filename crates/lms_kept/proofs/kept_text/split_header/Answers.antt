@@ -9,7 +9,7 @@ returns-clause-some c =
     header-whole c.args.body.now _ _ _ c.in_ok-numbers.rest.now n.word n.version n.high n.low _ c.in_ok-numbers.ensures.some refl refl refl
     c.if-numbers-ne-WORD.false c.if-numbers-ne-VERSION.false (omega (arith, c.from.ensures, c.from-2.ensures)) c.in_ok-numbers.ensures.low
 
--- a text of fewer bytes has no such beginning
+-- fewer bytes have no such beginning
 short : (body : List ℕ) → length body < 16 → (at : ℕ) (rest : List ℕ) → at < 2 ^ 64 → ¬ (body ≡ nodes_header at ++ rest)
 short body few at rest fits e = omega (arith, few, ap length e, header-length at rest)
 

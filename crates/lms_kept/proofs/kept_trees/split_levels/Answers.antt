@@ -25,7 +25,7 @@ loop-k-preserved c =
     let text_is = rw c.in-Some.is at c.in_ok-level.ensures.text in
     let on : IsOnWay key at k level = record {
       tree = ap tree_of key_is ∙ c.tree_key-tree.ensures;
-      served = subst (ServesLeaf level.tree) c.place.ensures served_is;
+      served = subst (ServesLeaf level.tree) c.leaf_of.ensures served_is;
       shape = shape_is;
       signed = signed_is ∙ c.signed_len.ensures;
     } in

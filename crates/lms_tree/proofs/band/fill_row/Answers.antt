@@ -39,7 +39,7 @@ loop-i-preserved c =
       count = search rules;
       so_far = λ k low. ⊎_elim
           (λ e. ap (λ k. get_or (set nodes (row.place + i) value) (row.place + k) []) e
-          ∙ (get_or-set_same nodes (row.place + i) value [] (omega (arith, c.requires.long, here.count, c.loop-i-test.true)) ∙ (is ∙ ap (λ k. node tree (row.first + k)) (sym e))))
+          ∙ (get_or-set_same nodes (row.place + i) value [] (omega (arith, c.requires.fits, here.count, c.loop-i-test.true)) ∙ (is ∙ ap (λ k. node tree (row.first + k)) (sym e))))
           (λ lt. let apart : row.place + k ≢ row.place + i = omega arith in
           get_or-set_other nodes (row.place + i) (row.place + k) value [] apart ∙ here.so_far k lt)
           (eq-or-lt_of_le {n = k} {m = i} (omega arith));

@@ -18,8 +18,8 @@ fill_row-requires-clause-inner c =
       row-fits (tree_of c.args.key.now).lms.h rows (level + 1) c.requires.in_tree (omega (arith, c.loop-level.invariant.down, c.loop-level-test.true)),
     )
 
-pub fill_row-requires-clause-long : goal.fill_row-requires-clause-long
-fill_row-requires-clause-long c =
+pub fill_row-requires-clause-fits : goal.fill_row-requires-clause-fits
+fill_row-requires-clause-fits c =
     let rows = c.args.rows in
     let level = c.loop-level.level - 1 in
     let places = ap (λ (row : Row). row.place + 3 * row.count) c.row.ensures.row in

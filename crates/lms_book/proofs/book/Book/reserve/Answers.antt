@@ -12,7 +12,7 @@ use Rattle.lms_book.proofs.Histories.{confirmed-push, text_after}
 use Rattle.lms_book.proofs.Storing.{book_of, with_given, with_burnt, backed_with_given, backed_with_burnt, same_with_given, same_with_burnt}
 use Rattle.lms_book.proofs.book.Book.reserve.Goals as goal
 
--- the text of the next image
+-- the bytes of the next image
 written : (text made : List ℕ) (r : ReservationsState) (n : ℕ) (image : Image) → IsNextOf r n image → text ≡ made
     → made ≡ image_of image.key image.counter image.openings image.burnt → text ≡ text_after r n
 written text made r n image is t m = t ∙ m ∙ (λ i. image_of (is.key i) (is.counter i) (is.openings i) (is.burnt i))

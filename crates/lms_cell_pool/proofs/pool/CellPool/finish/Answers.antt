@@ -63,7 +63,7 @@ load_as-found-requires g c =
     let all = c.loop-next.all in
     (search rules, (search rules, (c.loop-next.invariant.2, finds all.id (cell_view all))))
 
--- what the last load tells: the call log of all seats, and the numbers that it makes
+-- what is known after the last load: the call log of all seats, and the numbers that it makes
 tallied : (g : Over) (c : After-load_as-found g)
     → (w : Whole c.args.self.len c.load_as-found.result.taken c.loop-next.invariant.0) × Sums c.args.self.len c.load_as-found.result.taken c.loop-next.stopped w.log
 tallied g c =
@@ -83,9 +83,9 @@ overflow_sub-result-2 g c =
     let n = (tallied g (goal.at.overflow_sub-result-2 g c).After-load_as-found).1 in
     omega (arith, n.fits, c.saturating_sub-left.ensures, ap (λ (p : PoolState). p.len) c.self.view_is)
 
-pub returns-clause-history : goal.returns-clause-history
-returns-clause-history g c =
-    let found = tallied g (goal.at.returns-clause-history g c).After-load_as-found in
+pub returns-clause-call_log : goal.returns-clause-call_log
+returns-clause-call_log g c =
+    let found = tallied g (goal.at.returns-clause-call_log g c).After-load_as-found in
     let w = found.0 in
     let n = found.1 in
     let i = c.loop-next.invariant in

@@ -9,5 +9,5 @@ loop-k-preserved c =
     let leaf = leaf_at (hss_key_of c.args.self.now) c.args.g in
     let levels = ap length c.as_slice-k-end.ensures.levels in
     let few = c.as_slice-k-end.ensures.admitted.eight_at_most in
-    ap₂ (λ xs v. slice_set xs c.loop-k.k v) c.loop-k.invariant c.place.ensures
+    ap₂ (λ xs v. slice_set xs c.loop-k.k v) c.loop-k.invariant c.leaf_of.ensures
     ∙ set-filled leaf 8 c.loop-k.k (omega (arith, levels, few))

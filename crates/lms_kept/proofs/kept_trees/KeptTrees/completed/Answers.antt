@@ -82,7 +82,7 @@ parent-serves key g j q levels parent found on place =
 pub child-requires-clause-served : goal.child-requires-clause-served
 child-requires-clause-served g c κs within =
     let above : c.loop-k.k - 1 < c.loop-k.k = omega (arith, c.self.invariant.some, c.loop-k.auto.k, c.len-k.ensures) in
-    parent-serves _ _ _ _ c.loop-k.levels.items _ c.index.ensures (c.loop-k.invariant.on _ c.index.result.now above) c.place.ensures
+    parent-serves _ _ _ _ c.loop-k.levels.items _ c.index.ensures (c.loop-k.invariant.on _ c.index.result.now above) c.leaf_of.ensures
 
 pub loop-k-preserved : goal.loop-k-preserved
 loop-k-preserved g c =
@@ -91,7 +91,7 @@ loop-k-preserved g c =
     let here = c.loop-k.invariant in
     let low : k < length key.levels = level-below k _ _ c.as_slice-count.ensures.levels c.loop-k-test.true in
     let some : 1 ≤ k = omega (arith, c.self.invariant.some, c.loop-k.auto.k, c.len-k.ensures) in
-    let is : IsNext (hss_key_of key) c.self.inside.at k (k - 1) c.place.result c.place-in-loop-k.result c.tree_key.result c.loop-k.levels.items
+    let is : IsNext (hss_key_of key) c.self.inside.at k (k - 1) c.leaf_of.result c.leaf_of-in-loop-k.result c.tree_key.result c.loop-k.levels.items
     c.push_reserved.new.self.items c.index.result.now c.in_ok-child.child
     = record {
       there = omega (arith, low, some, levels-count key);
@@ -99,10 +99,10 @@ loop-k-preserved g c =
       count = here.count;
       found = c.index.ensures;
       on = here.on;
-      place = c.place.ensures;
+      place = c.leaf_of.ensures;
       tree = c.tree_key.ensures;
       id_length = c.self.invariant.id_length;
-      below = c.place-in-loop-k.ensures;
+      below = c.leaf_of-in-loop-k.ensures;
       made = c.in_ok-child.ensures;
       more = c.push_reserved.ensures.items;
     } in

@@ -16,7 +16,7 @@ use Rattle.lms_kept.specs.Ways.{AreGenuine, IsGenuine, IsMoved, IsOnWay, SignOwn
 use Rattle.lms_kept.proofs.Ways.{levels-count, moved-genuine, moved-on, one-more, shared-genuine, shared-on}
 use Rattle.lms_kept.proofs.kept_trees.KeptTrees.moved_to.Given.{Over}
 use Rattle.lms_kept.proofs.kept_trees.KeptTrees.moved_to.Goals as goal
-use Rattle.lms_kept.proofs.kept_trees.KeptTrees.moved_to.Goals.{After-place-leaf}
+use Rattle.lms_kept.proofs.kept_trees.KeptTrees.moved_to.Goals.{After-leaf_of-leaf}
 
 -- the last of some levels that the ways of two indices share, and those above it
 record IsLast (key : HssKey) (at g n q : ℕ) (given above : List KeptLevel) (last : KeptLevel) : Type 0 where
@@ -134,7 +134,7 @@ moved-is : (last : KeptLevel) (q : ℕ) (r : Option KeptLevel) (moved : KeptLeve
 moved-is last q r moved e is = subst (λ r. IfSome r (IsMoved last q)) e is
 
 -- the one that was taken off is that
-last-of : (g : Over) (c : After-place-leaf g) → IsLast (hss_key_of c.self.inside.key) c.self.inside.at c.args.g (c.min-shared.result - 1) c.place-leaf.result
+last-of : (g : Over) (c : After-leaf_of-leaf g) → IsLast (hss_key_of c.self.inside.key) c.self.inside.at c.args.g (c.min-shared.result - 1) c.leaf_of-leaf.result
     c.self.inside.levels.items c.pop.new.self.items c.in-Some.last
 last-of g c =
     let key = c.self.inside.key in
@@ -153,16 +153,16 @@ last-of g c =
       count = parts.0;
       above_given = parts.1;
       is_last = parts.2;
-      leaf = c.place-leaf.ensures;
+      leaf = c.leaf_of-leaf.ensures;
     }
 
 pub moved_to-requires-clause-leaf : goal.moved_to-requires-clause-leaf
 moved_to-requires-clause-leaf g c κs within =
-    leaf-there _ _ _ _ _ _ _ _ (last-of g (goal.at.moved_to-requires-clause-leaf g c).After-place-leaf)
+    leaf-there _ _ _ _ _ _ _ _ (last-of g (goal.at.moved_to-requires-clause-leaf g c).After-leaf_of-leaf)
 
 pub returns-in_default-2-clause-refused : goal.returns-in_default-2-clause-refused
 returns-in_default-2-clause-refused g c genuine =
-    let is = last-of g (goal.at.returns-in_default-2-clause-refused g c).After-place-leaf in
+    let is = last-of g (goal.at.returns-in_default-2-clause-refused g c).After-leaf_of-leaf in
     let all : AreGenuine (record { key = c.self.inside.key; at = c.self.inside.at; levels = c.self.inside.levels.items })
     = subst AreGenuine (sym c.self.view_is) genuine in
     let never = subst (λ r. IfNone r (¬ AreNodes c.in-Some.last.tree)) c.in_default-2.is c.in_ok-last.ensures.refused in
@@ -170,7 +170,7 @@ returns-in_default-2-clause-refused g c genuine =
 
 pub invariant_of-trees : goal.invariant_of-trees
 invariant_of-trees g c =
-    let is = last-of g (goal.at.invariant_of-trees g c).After-place-leaf in
+    let is = last-of g (goal.at.invariant_of-trees g c).After-leaf_of-leaf in
     let to = moved-is _ _ _ _ c.in-Some-2.is c.in_ok-last.ensures.moved in
     let more = c.push_reserved.ensures.items ∙ ap (λ levels. levels ++ c.in-Some-2.last ∷ []) c.reserve.ensures.items in
     let count = moved-count _ _ _ _ _ _ _ c.push_reserved.new.self.items _ _ is more in
@@ -187,7 +187,7 @@ pub returns-clause-signs : goal.returns-clause-signs
 returns-clause-signs g c =
     let trees = c.in_ok-completed.field-0 in
     let given : Way = record { key = c.self.inside.key; at = c.self.inside.at; levels = c.self.inside.levels.items } in
-    let is = last-of g (goal.at.returns-clause-signs g c).After-place-leaf in
+    let is = last-of g (goal.at.returns-clause-signs g c).After-leaf_of-leaf in
     let to = moved-is _ _ _ _ c.in-Some-2.is c.in_ok-last.ensures.moved in
     let more = c.push_reserved.ensures.items ∙ ap (λ levels. levels ++ c.in-Some-2.last ∷ []) c.reserve.ensures.items in
     subst (λ (given : Way). SignsNoOther given trees) c.self.view_is
@@ -196,7 +196,7 @@ returns-clause-signs g c =
 
 pub returns-clause-genuine : goal.returns-clause-genuine
 returns-clause-genuine g c genuine =
-    let is = last-of g (goal.at.returns-clause-genuine g c).After-place-leaf in
+    let is = last-of g (goal.at.returns-clause-genuine g c).After-leaf_of-leaf in
     let to = moved-is _ _ _ _ c.in-Some-2.is c.in_ok-last.ensures.moved in
     let all : AreGenuine (record { key = c.self.inside.key; at = c.self.inside.at; levels = c.self.inside.levels.items })
     = subst AreGenuine (sym c.self.view_is) genuine in

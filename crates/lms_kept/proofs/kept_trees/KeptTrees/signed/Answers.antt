@@ -15,7 +15,7 @@ use Rattle.lms_kept.specs.Ways.{AreGenuine, bottom_of, EndsAlong, IsGenuine, IsO
 use Rattle.lms_hss.proofs.Keys.{key-accepts}
 use Rattle.lms_kept.proofs.Ways.{bottom-same, kept-signature, levels-count, served-subtree, served-same, tree-same}
 use Rattle.lms_kept.proofs.kept_trees.KeptTrees.signed.Goals as goal
-use Rattle.lms_kept.proofs.kept_trees.KeptTrees.signed.Goals.{After-place}
+use Rattle.lms_kept.proofs.kept_trees.KeptTrees.signed.Goals.{After-leaf_of}
 
 -- the bottom level, on a way that serves an index, and the leaf there
 record Bottom (way : Way) (levels : List (LmsType × OtsType)) (q g : ℕ) (level : KeptLevel) : Type 0 where
@@ -86,7 +86,7 @@ is-signature way levels q g level randomizer message text before last b found fr
     ∙ kept-signature way g randomizer message last (omega (arith, b.admitted.some_level)) b.serves genuine last_is)
 
 -- the one that signs is that
-bottom-of : (c : After-place) → Bottom c.args.self.now c.as_slice.result.now c.place.result c.args.g c.level.result.now
+bottom-of : (c : After-leaf_of) → Bottom c.args.self.now c.as_slice.result.now c.leaf_of.result c.args.g c.level.result.now
 bottom-of c =
     let key = ap (λ (v : Way). v.key) c.self.view_is in
     record {
@@ -94,32 +94,32 @@ bottom-of c =
       sets = c.as_slice.ensures.levels ∙ ap (λ (key : HssKey). key.levels) key;
       admitted = subst (λ (key : HssKey). IsAdmitted key.levels) key c.as_slice.ensures.admitted;
       on = c.level.ensures.way;
-      leaf = c.place.ensures ∙ ap (λ key. leaf_at (hss_key_of key) c.args.g (length c.as_slice.result.now - 1)) key;
+      leaf = c.leaf_of.ensures ∙ ap (λ key. leaf_at (hss_key_of key) c.args.g (length c.as_slice.result.now - 1)) key;
     }
 
 pub append_signature-requires : goal.append_signature-requires
-append_signature-requires c = serves-leaf _ _ _ _ _ (bottom-of (goal.at.append_signature-requires c).After-place)
+append_signature-requires c = serves-leaf _ _ _ _ _ (bottom-of (goal.at.append_signature-requires c).After-leaf_of)
 
 pub returns-clause-along : goal.returns-clause-along
 returns-clause-along c =
-    let b = bottom-of (goal.at.returns-clause-along c).After-place in
+    let b = bottom-of (goal.at.returns-clause-along c).After-leaf_of in
     let made = c.in_ok-append_signature.ensures in
-    ends-along c.args.self.now c.as_slice.result.now c.place.result c.args.g c.level.result.now c.args.c.now c.args.msg.now _ _ made.0 b c.in_ok-text.ensures made.1 made.2
+    ends-along c.args.self.now c.as_slice.result.now c.leaf_of.result c.args.g c.level.result.now c.args.c.now c.args.msg.now _ _ made.0 b c.in_ok-text.ensures made.1 made.2
 
 pub returns-clause-signature : goal.returns-clause-signature
 returns-clause-signature c genuine =
-    let b = bottom-of (goal.at.returns-clause-signature c).After-place in
+    let b = bottom-of (goal.at.returns-clause-signature c).After-leaf_of in
     let made = c.in_ok-append_signature.ensures in
-    is-signature c.args.self.now c.as_slice.result.now c.place.result c.args.g c.level.result.now c.args.c.now c.args.msg.now _ _ made.0 b
+    is-signature c.args.self.now c.as_slice.result.now c.leaf_of.result c.args.g c.level.result.now c.args.c.now c.args.msg.now _ _ made.0 b
     c.level.ensures.level c.in_ok-text.ensures made.1 made.3 genuine
 
 pub returns-clause-accepted : goal.returns-clause-accepted
 returns-clause-accepted c genuine =
-    let b = bottom-of (goal.at.returns-clause-accepted c).After-place in
+    let b = bottom-of (goal.at.returns-clause-accepted c).After-leaf_of in
     let way = c.args.self.now in
     let is_way = subst IsWay c.self.view_is c.self.invariant in
     let made = c.in_ok-append_signature.ensures in
-    let same = is-signature way c.as_slice.result.now c.place.result c.args.g c.level.result.now c.args.c.now c.args.msg.now _ _ made.0 b
+    let same = is-signature way c.as_slice.result.now c.leaf_of.result c.args.g c.level.result.now c.args.c.now c.args.msg.now _ _ made.0 b
     c.level.ensures.level c.in_ok-text.ensures made.1 made.3 genuine in
     subst (HssAccepts (hss_public_key (hss_key_of way.key)) c.args.msg.now) (sym same)
     (key-accepts way.key c.args.g c.args.c.now c.args.msg.now b.admitted is_way.id_length c.told-c)

@@ -15,10 +15,10 @@ ilog2-level-requires c =
     omega (arith, needed-in-tree h self.first self.last c.args.r c.self.invariant.in_tree needed)
 
 -- where a needed node is in the lower rows
-stands : (c : goal.Else-level-top) → (c.ilog2-level.result - c.depth-top.result ≤ c.self.inside.lower.rows.depth)
+place-of-needed : (c : goal.Else-level-top) → (c.ilog2-level.result - c.depth-top.result ≤ c.self.inside.lower.rows.depth)
     × (c.self.inside.lower.rows.first * 2 ^ (c.ilog2-level.result - c.depth-top.result) ≤ c.args.r)
     × (c.args.r < (c.self.inside.lower.rows.first + c.self.inside.lower.rows.width) * 2 ^ (c.ilog2-level.result - c.depth-top.result))
-stands c =
+place-of-needed c =
     let self = c.self.inside in
     let h = (tree_of self.upper.key).lms.h in
     let level = c.ilog2-level.result in
@@ -29,10 +29,10 @@ stands c =
     rw (top, c.self.invariant.lower_rows_are) is
 
 pub node-requires-else-level-top-clause-level : goal.node-requires-else-level-top-clause-level
-node-requires-else-level-top-clause-level c = (stands c).0
+node-requires-else-level-top-clause-level c = (place-of-needed c).0
 
 pub node-requires-else-level-top-clause-from : goal.node-requires-else-level-top-clause-from
-node-requires-else-level-top-clause-from c = (stands c).1
+node-requires-else-level-top-clause-from c = (place-of-needed c).1
 
 pub node-requires-else-level-top-clause-to : goal.node-requires-else-level-top-clause-to
-node-requires-else-level-top-clause-to c = (stands c).2
+node-requires-else-level-top-clause-to c = (place-of-needed c).2

@@ -32,25 +32,25 @@ found kept r level p from to below =
     let here : above + q / 2 ^ m ≡ above + kept.subtree = ap (λ n. above + n) p.1 in
     (at.0, subst (λ n. n * 2 ^ (level - (h - m)) ≤ r) here at.1, subst (λ n. r < n * 2 ^ (level - (h - m))) one at.2)
 
-stands : (r level : ℕ) (upper lower : Rows) (kept is : KeptNodes) → kept ≡ is → Needs is r → 2 ^ level ≤ r → r < 2 * 2 ^ level
+place-of-needed : (r level : ℕ) (upper lower : Rows) (kept is : KeptNodes) → kept ≡ is → Needs is r → 2 ^ level ≤ r → r < 2 * 2 ^ level
     → upper ≡ upper_rows (tree_of kept.key).lms.h → lower ≡ subtree_rows (tree_of kept.key).lms.h kept.subtree → upper.depth < level
     → (level - upper.depth ≤ lower.depth) × (lower.first * 2 ^ (level - upper.depth) ≤ r) × (r < (lower.first + lower.width) * 2 ^ (level - upper.depth))
-stands r level upper lower kept is same needed from to upper_is lower_is below =
+place-of-needed r level upper lower kept is same needed from to upper_is lower_is below =
     let top = ap (λ (rows : Rows). rows.depth) upper_is in
     let at = found kept r level (subst (λ v. Needs v r) (sym same) needed) from to (omega (arith, top, below)) in
     rw (upper_is, lower_is) at
 
 pub node_in-requires-else-level-upper-clause-level : goal.node_in-requires-else-level-upper-clause-level
 node_in-requires-else-level-upper-clause-level c =
-    (stands c.args.r c.ilog2-level.result c.upper_rows-upper.result c.subtree_rows-lower.result _ _ c.self.view_is c.requires
+    (place-of-needed c.args.r c.ilog2-level.result c.upper_rows-upper.result c.subtree_rows-lower.result _ _ c.self.view_is c.requires
     c.ilog2-level.ensures.power_le c.ilog2-level.ensures.next_power_gt c.upper_rows-upper.ensures c.subtree_rows-lower.ensures c.if-level-upper.false).0
 
 pub node_in-requires-else-level-upper-clause-from : goal.node_in-requires-else-level-upper-clause-from
 node_in-requires-else-level-upper-clause-from c =
-    (stands c.args.r c.ilog2-level.result c.upper_rows-upper.result c.subtree_rows-lower.result _ _ c.self.view_is c.requires
+    (place-of-needed c.args.r c.ilog2-level.result c.upper_rows-upper.result c.subtree_rows-lower.result _ _ c.self.view_is c.requires
     c.ilog2-level.ensures.power_le c.ilog2-level.ensures.next_power_gt c.upper_rows-upper.ensures c.subtree_rows-lower.ensures c.if-level-upper.false).1
 
 pub node_in-requires-else-level-upper-clause-to : goal.node_in-requires-else-level-upper-clause-to
 node_in-requires-else-level-upper-clause-to c =
-    (stands c.args.r c.ilog2-level.result c.upper_rows-upper.result c.subtree_rows-lower.result _ _ c.self.view_is c.requires
+    (place-of-needed c.args.r c.ilog2-level.result c.upper_rows-upper.result c.subtree_rows-lower.result _ _ c.self.view_is c.requires
     c.ilog2-level.ensures.power_le c.ilog2-level.ensures.next_power_gt c.upper_rows-upper.ensures c.subtree_rows-lower.ensures c.if-level-upper.false).2

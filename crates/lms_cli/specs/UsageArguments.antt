@@ -5,20 +5,20 @@ use Rattle.lms_cli.specs.Application.{Subcommand, batch, info, keygen, lms_app, 
 use Rattle.lms_cli.specs.Commands.{AsksFor}
 
 -- `--NAME=TEXT` for each name and the text in its place
-abbrev pub option_words : List Text → List Text → List Text
-option_words (option ∷ options) (text ∷ texts) =
-    (codes "--" ++ option ++ codes "=" ++ text) ∷ option_words options texts
-option_words _ _ = []
+abbrev pub option_arguments : List Text → List Text → List Text
+option_arguments (option ∷ options) (text ∷ texts) =
+    (codes "--" ++ option ++ codes "=" ++ text) ∷ option_arguments options texts
+option_arguments _ _ = []
 
--- a subcommand with each option and its text in one word
-abbrev pub words_for : Text → Subcommand → List Text → List Text
-words_for program s texts = program ∷ s.name ∷ option_words s.options texts
+-- a subcommand with each option and its text in one argument
+abbrev pub arguments_for : Text → Subcommand → List Text → List Text
+arguments_for program s texts = program ∷ s.name ∷ option_arguments s.options texts
 
 -- clap's definition takes them, and reads the subcommand and the texts from them
 abbrev pub TakesTexts : Subcommand → List Text → Type 0
 TakesTexts s texts =
-    (program : Text) → (takes lms_app (words_for program s texts) ≡ true)
-    × AsksFor s texts (words_for program s texts)
+    (program : Text) → (takes lms_app (arguments_for program s texts) ≡ true)
+    × AsksFor s texts (arguments_for program s texts)
 
 abbrev pub KeygenIsTaken : Type 0
 KeygenIsTaken =

@@ -1,6 +1,6 @@
 use Rattle.std.proofs.Common.{◌∙◌, ℕ, List, [], get_or, slice_index, ap, arith}
 use Rattle.lms_lanes.specs.Chains.{walked}
-use Rattle.lms_ots.proofs.eights.walk_eight.Goals as goal
+use Rattle.lms_ots.proofs.lanes.walk_lanes.Goals as goal
 
 pub returns-clause-values : goal.returns-clause-values
 returns-clause-values c = λ k lt.

@@ -1,7 +1,7 @@
 use Rattle.std.proofs.Common.{◌≡◌, ◌+◌, ◌^◌, ◌<◌, ℕ, [], length, get_or}
 use Rattle.lms_spec.specs.Tree.{leaf_hash}
 use Rattle.lms_tree.specs.TreeKey.{tree_of}
-use Rattle.lms_tree.proofs.tree_key.TreeKey.eight_leaves.Given as goal
+use Rattle.lms_tree.proofs.tree_key.TreeKey.neighbouring_leaves.Given as goal
 
 abbrev pub invariant-lanes : goal.invariant-lanes
 invariant-lanes l = record {

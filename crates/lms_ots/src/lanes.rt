@@ -12,7 +12,7 @@ use lms_params::HASH_LEN;
 
 /// The values at a digit of eight chains, from `first` on: a hash with 0xff makes each secret from
 /// the seed, and the steps follow.
-pub(crate) fn eight_values(
+pub(crate) fn lane_values(
     id: OtsId,
     first: u16,
     digit: u16,
@@ -34,7 +34,7 @@ pub(crate) fn eight_values(
         first + 6,
         first + 7,
     ];
-    walk_eight(
+    walk_lanes(
         id,
         &chains,
         &[0xff; LANES],
@@ -45,7 +45,7 @@ pub(crate) fn eight_values(
 
 /// Takes each of eight chains from its start by its own number of hashes, the first with its byte
 /// of `firsts`.
-pub(crate) fn walk_eight(
+pub(crate) fn walk_lanes(
     id: OtsId,
     chains: &[u16; LANES],
     firsts: &[u16; LANES],

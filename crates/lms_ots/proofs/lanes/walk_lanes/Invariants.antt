@@ -1,7 +1,7 @@
 use Rattle.std.proofs.Common.{◌≡◌, ◌++◌, ◌<◌, ℕ, [], length, get_or, slice_index}
 use Rattle.lms_spec.specs.Bytes.{u16str}
 use Rattle.lms_spec.specs.Hashing.{hash_prefix}
-use Rattle.lms_ots.proofs.eights.walk_eight.Given as goal
+use Rattle.lms_ots.proofs.lanes.walk_lanes.Given as goal
 
 abbrev pub invariant-lanes : goal.invariant-lanes
 invariant-lanes l = record {

@@ -1,7 +1,7 @@
 use Rattle.std.proofs.Common.{◌≡◌, ◌+◌, ◌-◌, ◌<◌, ℕ, length, min, slice_index}
 use Rattle.lms_params.specs.OtsType.{ots_set_of}
 use Rattle.lms_ots.specs.Orders.{chain_in}
-use Rattle.lms_ots.proofs.walk.eight_of.Given as goal
+use Rattle.lms_ots.proofs.walk.lane_chains.Given as goal
 
 abbrev pub invariant-lanes : goal.invariant-lanes
 invariant-lanes l = record {

@@ -3,7 +3,7 @@ use Rattle.lms_spec.specs.Ots.{public_hash}
 use Rattle.lms_spec.specs.Tree.{leaf_hash}
 use Rattle.lms_spec.proofs.Nodes.{node-leaf}
 use Rattle.lms_tree.specs.TreeKey.{tree_of}
-use Rattle.lms_tree.proofs.tree_key.TreeKey.eight_leaves.Goals as goal
+use Rattle.lms_tree.proofs.tree_key.TreeKey.neighbouring_leaves.Goals as goal
 
 pub returns-clause-values : goal.returns-clause-values
 returns-clause-values c = λ k lt.
