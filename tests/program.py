@@ -9,6 +9,7 @@ import shutil
 import stat
 import subprocess
 import tempfile
+import time
 
 from tests.harness import TOP, Skipped, Wrong, holds
 from tests.reference import CHAINS, IDENTIFIER, RANDOMIZER, SEED, kept, signature_by, way_of
@@ -86,11 +87,13 @@ def run(arguments, program=PROGRAM, **how):
 
 
 def ends(arguments, status, output="", errors="", **how):
-    """The program ends with this status, and prints this output and these errors. The lines that
-    say how far it is, which come once it has run for ten seconds, are left out of these."""
+    """The program ends with this status, and prints this output and these errors. Of the lines that
+    say how far it is one comes every ten seconds: as many are left out of these, and no more."""
+    began = time.monotonic()
     ran = run(arguments, **how)
+    most = int((time.monotonic() - began) / 10)
+    found = re.sub(r"(?m)^\d+ of \d+ leaves\n", "", ran.stderr, count=most) if most else ran.stderr
     said = f"{' '.join(map(str, arguments))}: {ran.returncode} {ran.stdout!r} {ran.stderr!r}"
-    found = re.sub(r"(?m)^\d+ of \d+ leaves\n", "", ran.stderr)
     holds((ran.returncode, ran.stdout, found) == (status, output, errors), f"{said}, not {status} {output!r} {errors!r}")
 
 
