@@ -17,12 +17,12 @@ from tests.program import ends, index_in, job_lines, keygen, preload, run, sign,
 
 LEVELS = ((5, 2),)
 # How many operations each command has; if the program changes, these change with it. Each opens
-# /dev/null (1), acquires the lock (2, or 3 where there is no state) and stores the state by way of
+# /dev/null (1), acquires the lock (3, or 4 where there is no state) and stores the state by way of
 # a draft (7). It may keep nodes by way of another one (5), write a file (2) and print a line (1).
 # `keygen` looks whether there is a state (1). `sign` reads the message (4), the kept nodes (4, or 1
 # where there are none) and the state (3). `batch` reads the state (3) and the lines (2), and prints
 # each answer by 8 writes.
-OPERATIONS = {"keygen": 20, "sign by trees": 26, "sign by kept trees": 24, "batch": 39}
+OPERATIONS = {"keygen": 21, "sign by trees": 27, "sign by kept trees": 25, "batch": 40}
 # What each command is run with, which of the made files it finds, and the next index before it and
 # after it.
 KEYGEN = keygen("5/2")

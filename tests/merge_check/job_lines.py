@@ -4,10 +4,14 @@ threads sign at once.
 Each batch is run by 1, 2 and 64 workers. A refusal answers nothing and leaves the bytes of the
 state."""
 
-from tests.harness import holds, test
-from tests.program import ends, has, job_lines, keygen, preload, put, read, run
+import os
 
-RANDOM = "33" * 32
+from tests.harness import holds, test
+from tests.program import BATCH, VERIFY, Lock, ends, fails, has, job_lines, keygen, preload, put, read, run
+from tests.reference import RANDOMIZER, image, public_of, signature_by, signature_of, way_of
+
+RANDOM = RANDOMIZER.hex()
+ONE, TWO = ((5, 8),), ((5, 8), (5, 8))
 
 
 class State:
@@ -40,14 +44,14 @@ class State:
         for workers in ("1", "2", "64"):
             self.does_nothing(jobs, workers, status, f"error: {line}\n")
 
-    def answers(self, jobs):
+    def answers(self, jobs, message):
         """The one line is answered by the next index, which alone is used, by each number of
         workers."""
         left = f"levels 5/8\ncounter {self.used + 1}\ncapacity 32\nleft {31 - self.used}\nopenings {self.openings + 1}\nburnt 0\n"
         for workers in ("1", "2", "64"):
             answer = self.ended(jobs, workers, 0, "")
-            holds(len(answer) == 2595 and answer.count(b"\n") == 1, f"no answer line to {jobs[:200]}: {answer[:200]}")
-            holds(answer.startswith(b"%d " % self.used), f"answered with another index: {answer[:200]}")
+            wanted = f"{self.used} {signature_of(ONE, self.used, message).hex()}\n".encode()
+            holds(answer == wanted, f"another answer to {jobs[:200]}: {answer[:200]}")
             ends(["info", "--state", "key.state"], 0, left)
 
 
@@ -63,8 +67,45 @@ ABC = line("616263")
 def takes_the_shortest_line_of_a_new_key():
     """And refuses a line more than there are indices."""
     state = State(0, 0)
-    state.answers(line("", ""))
+    state.answers(line("", ""), b"")
     state.refuses(ABC * 33, 4, "exhausted: 32 left")
+
+
+@test
+def answers_over_the_end_of_a_tree():
+    """Jobs with randomizers and messages of their own, by the last two indices of a tree and the
+    first two of the next one, whoever signs which."""
+    jobs = [(bytes([at]) + RANDOMIZER[1:], bytes([at]) + b"bc") for at in range(4)]
+    lines = b"".join(job_lines(message, randomizer=randomizer) for randomizer, message in jobs)
+    signatures = [signature_by(way_of(TWO, 30 + at), message, randomizer) for at, (randomizer, message) in enumerate(jobs)]
+    wanted = "".join(f"{30 + at} {it.hex()}\n" for at, it in enumerate(signatures))
+    for workers in ("1", "2", "64"):
+        put("key.state", image(TWO, 30))
+        ends([*BATCH[:-1], workers], 0, wanted, input=lines.decode())
+        has("key.state", image(TWO, 34, 1))
+    put("key.pub", public_of(TWO))
+    for (_, message), signature in zip(jobs, signatures):
+        put("text", message)
+        put("text.sig", signature)
+        ends(VERIFY, 0, "valid\n")
+
+
+@test
+def asks_for_the_state_before_the_lines():
+    """And for the number of workers before both. The one line is bad."""
+
+    def refuses(status, fault, workers="1"):
+        fails([*BATCH[:-1], workers], status, fault, input="\n")
+
+    put("key.state", image(ONE, 5))
+    with Lock():
+        refuses(2, "bad workers", workers="0")
+        refuses(3, "state in use")
+    refuses(2, "line 1: bad job")
+    put("key.state", b"HSSK")
+    refuses(3, "bad state: Truncated")
+    os.remove("key.state")
+    refuses(3, "cannot read state")
 
 
 @test
@@ -81,8 +122,8 @@ def refuses_numbers_of_workers():
 def takes_the_shortest_and_the_longest_line():
     """And refuses one that is longer by a byte."""
     state = State(5, 1)
-    state.answers(line("", ""))
-    state.answers(line("A" * 131072, ""))
+    state.answers(line("", ""), b"")
+    state.answers(line("A" * 131072, ""), b"\xaa" * 65536)
     state.refuses(line("A" * 131074, ""), 2, "line 1: bad job")
 
 
@@ -95,6 +136,7 @@ def refuses_bad_lines():
         state.refuses(ABC + f"{RANDOM}{end}".encode(), 2, "line 2: bad job")
     state.refuses(ABC + b"\n", 2, "line 2: bad job")
     state.refuses(ABC + line("61", random=RANDOM[1:]), 2, "line 2: bad job")
+    state.refuses(ABC + line("", "", random=RANDOM[1:]), 2, "line 2: bad job")
 
 
 @test

@@ -1,15 +1,20 @@
 /* Loaded before a program, counts its operations on files and streams, from 1 on. That of the
    number STOP kills it: before it is done, or, where it writes, once half of the bytes are written.
-   Those of the numbers from FAIL to LAST fail: undone, but for half of a write, or, where LATE is
-   set, done all the same. Where there is an operation of the number STOP or FAIL, the file MET is
-   made. What a program looks up of its machine in /sys is not there, and no operation, since only
-   some machines have it: so the program sees no quota of processors. */
+   Those of the numbers from FAIL to LAST fail, with the error FAULT, or EIO: undone, but for half of
+   a write, or, where LATE is set, done all the same. Where there is an operation of the number STOP
+   or FAIL, the file MET is made. What a program looks up of its machine in /sys is not there, and no
+   operation, since only some machines have it: so the program sees no quota of processors.
+
+   Where STEPS is set, that file gets a line for each operation, before it is done: what it does, and
+   the file's name. Where SHORT is set, a read or a write moves at most so many bytes. Where SIZE is
+   set, the file NAME is reported to have so many bytes. */
 #define _GNU_SOURCE
 #include <dlfcn.h>
 #include <errno.h>
 #include <fcntl.h>
 #include <signal.h>
 #include <stdarg.h>
+#include <stdio.h>
 #include <stdlib.h>
 #include <string.h>
 #include <sys/stat.h>
@@ -28,11 +33,40 @@ static void say_met(void) {
     }
 }
 
+/* The names of the files that are open, by their numbers. */
+static char *opened[1024] = {"standard input", "standard output", "standard error"};
+
+static const char *name_of(int file) {
+    return file >= 0 && file < 1024 && opened[file] ? opened[file] : "?";
+}
+
+/* Notes the name of a file that was opened. */
+static int named(int file, const char *path) {
+    if (file >= 0 && file < 1024) {
+        opened[file] = strdup(path);
+    }
+    return file;
+}
+
+static void say_step(const char *what, const char *path) {
+    const char *name = getenv("STEPS");
+    char line[2 * 4096];
+    if (name) {
+        int file = syscall(SYS_openat, AT_FDCWD, name, O_WRONLY | O_CREAT | O_APPEND, 0600);
+        int length = snprintf(line, sizeof line, "%s %s\n", what, path);
+        if (syscall(SYS_write, file, line, length) != length) {
+            abort();
+        }
+        syscall(SYS_close, file);
+    }
+}
+
 /* Counts an operation, of which so much may be done before the program is killed, and says whether
    it fails. */
-static int fails(void (*half)(const void *), const void *given) {
+static int fails(const char *what, const char *path, void (*half)(const void *), const void *given) {
     static long operations;
     long at = __sync_add_and_fetch(&operations, 1);
+    say_step(what, path);
     if (at == number("STOP") || at == number("FAIL")) {
         say_met();
     }
@@ -48,19 +82,25 @@ static int fails(void (*half)(const void *), const void *given) {
 /* What an operation answers that was done, or fails all the same. */
 static long reported(int is_failed, long answer) {
     if (is_failed) {
-        errno = EIO;
+        errno = number("FAULT") ? number("FAULT") : EIO;
         return -1;
     }
     return answer;
 }
 
-#define ANSWER(call)                             \
-    do {                                         \
-        int is_failed = fails(NULL, NULL);       \
-        if (is_failed && !number("LATE")) {      \
-            return reported(1, 0);               \
-        }                                        \
-        return reported(is_failed, (call));      \
+/* How many bytes of these a read or a write may move. */
+static size_t moved(size_t count) {
+    size_t most = number("SHORT");
+    return most && most < count ? most : count;
+}
+
+#define ANSWER(what, path, call)                       \
+    do {                                               \
+        int is_failed = fails(what, path, NULL, NULL); \
+        if (is_failed && !number("LATE")) {            \
+            return reported(1, 0);                     \
+        }                                              \
+        return reported(is_failed, (call));            \
     } while (0)
 
 int open(const char *path, int flags, ...) {
@@ -76,12 +116,13 @@ int open(const char *path, int flags, ...) {
         errno = ENOENT;
         return -1;
     }
-    ANSWER(next(path, flags, mode));
+    const char *what = !(flags & O_CREAT) ? "open" : flags & O_EXCL ? "make" : flags & O_TRUNC ? "empty" : "open to write";
+    ANSWER(what, path, named(next(path, flags, mode), path));
 }
 
 ssize_t read(int file, void *bytes, size_t count) {
     ssize_t (*next)(int, void *, size_t) = dlsym(RTLD_NEXT, "read");
-    ANSWER(next(file, bytes, count));
+    ANSWER("read", name_of(file), next(file, bytes, moved(count)));
 }
 
 struct text {
@@ -101,32 +142,51 @@ static void write_half(const void *given) {
 }
 
 ssize_t write(int file, const void *bytes, size_t count) {
-    struct text text = {file, bytes, count};
-    int is_failed = fails(write_half, &text);
-    return reported(is_failed, write_first(&text, is_failed && !number("LATE") ? count / 2 : count));
+    struct text text = {file, bytes, moved(count)};
+    int is_failed = fails("write", name_of(file), write_half, &text);
+    return reported(is_failed, write_first(&text, is_failed && !number("LATE") ? text.count / 2 : text.count));
+}
+
+/* Has the file NAME be of SIZE bytes. */
+static int sized(int answer, const char *path, struct statx *found) {
+    const char *name = getenv("NAME");
+    if (!answer && name && !strcmp(path, name)) {
+        found->stx_size = number("SIZE");
+    }
+    return answer;
 }
 
 int statx(int folder, const char *restrict path, int flags, unsigned mask, struct statx *restrict found) {
     int (*next)(int, const char *, int, unsigned, struct statx *) = dlsym(RTLD_NEXT, "statx");
-    ANSWER(next(folder, path, flags, mask, found));
+    const char *name = flags & AT_EMPTY_PATH ? name_of(folder) : path;
+    ANSWER("look up", name, sized(next(folder, path, flags, mask, found), path, found));
 }
 
 int fsync(int file) {
     int (*next)(int) = dlsym(RTLD_NEXT, "fsync");
-    ANSWER(next(file));
+    ANSWER("flush", name_of(file), next(file));
 }
 
 int flock(int file, int operation) {
     int (*next)(int, int) = dlsym(RTLD_NEXT, "flock");
-    ANSWER(next(file, operation));
+    ANSWER("lock", name_of(file), next(file, operation));
+}
+
+char *realpath(const char *restrict path, char *restrict found) {
+    char *(*next)(const char *, char *) = dlsym(RTLD_NEXT, "realpath");
+    int is_failed = fails("resolve", path, NULL, NULL);
+    char *answer = is_failed && !number("LATE") ? NULL : next(path, found);
+    return is_failed ? (reported(1, 0), NULL) : answer;
 }
 
 int rename(const char *from, const char *to) {
     int (*next)(const char *, const char *) = dlsym(RTLD_NEXT, "rename");
-    ANSWER(next(from, to));
+    char both[2 * 4096];
+    snprintf(both, sizeof both, "%s to %s", from, to);
+    ANSWER("rename", both, next(from, to));
 }
 
 int unlink(const char *path) {
     int (*next)(const char *) = dlsym(RTLD_NEXT, "unlink");
-    ANSWER(next(path));
+    ANSWER("remove", path, next(path));
 }

@@ -1,17 +1,11 @@
-mod node_steps;
 mod nodes;
-mod recording;
-mod replacing;
 
 use lms_book::{ReadFault, StateStore, StoreFault};
-use lms_file_store::{FileStore, StateLock, TryLock, lock};
-use lms_params::OutOfMemory;
-use std::alloc::Global;
+use lms_file_store::{FileStore, StateLock, lock};
 use std::fs;
 use std::fs::{File, Permissions};
 use std::io::ErrorKind;
 use std::os::unix::fs::{MetadataExt, PermissionsExt, symlink};
-use std::rt::Files;
 use std::test::Fail;
 
 /// Makes an empty folder, in place of one that an earlier run left.
@@ -30,32 +24,25 @@ fn is_missing(rt: &HostRuntime, name: &str) -> bool {
 }
 
 /// Whether a store reads these bytes.
-fn reads(rt: &HostRuntime, store: &mut impl StateStore, text: &[u8]) -> bool {
+fn reads(rt: &HostRuntime, store: &mut FileStore<HostRuntime>, text: &[u8]) -> bool {
     match store.read(rt.alloc()) {
         Ok(found) => found.as_slice() == text,
         Err(_) => false,
     }
 }
 
-/// The store of a state over these files, whose lock is dropped at once, so that a test can look
-/// into the same file by another store. `None` where the lock can't be had.
-fn store_over<'a, R: Files>(
-    alloc: Global,
-    files: &'a R,
-    name: &str,
-) -> Result<Option<FileStore<'a, R>>, OutOfMemory>
-where
-    R::File: TryLock,
-{
-    match lock(files, alloc, name)? {
-        Some(held) => Ok(Some(FileStore::locked(alloc, files, &held)?)),
-        None => Ok(None),
+/// The store in a file, whose lock is dropped at once, so that a test can look into the same file by
+/// another store. `None` where the lock can't be had, or memory is refused.
+fn store_over<'a>(rt: &'a HostRuntime, name: &str) -> Option<FileStore<'a, HostRuntime>> {
+    match lock(rt, rt.alloc(), name) {
+        Ok(Some(held)) => FileStore::locked(rt.alloc(), rt, &held).ok(),
+        _ => None,
     }
 }
 
 /// The store in a file.
 fn store_in<'a>(rt: &'a HostRuntime, name: &str) -> Result<FileStore<'a, HostRuntime>, Fail> {
-    Ok(store_over(rt.alloc(), rt, name)?.ok_or("the lock is free")?)
+    Ok(store_over(rt, name).ok_or("a store")?)
 }
 
 /// Whether a new store in the file reads these bytes.
@@ -65,17 +52,17 @@ fn holds(rt: &HostRuntime, name: &str, text: &[u8]) -> Result<bool, Fail> {
 }
 
 /// Whether a store takes these bytes.
-fn takes(store: &mut impl StateStore, text: &[u8]) -> bool {
+fn takes(store: &mut FileStore<HostRuntime>, text: &[u8]) -> bool {
     store.replace(text).is_ok()
 }
 
 /// Whether a store fails to take these bytes.
-fn refuses(store: &mut impl StateStore, text: &[u8]) -> bool {
+fn refuses(store: &mut FileStore<HostRuntime>, text: &[u8]) -> bool {
     store.replace(text) == Err(StoreFault)
 }
 
 /// Whether a store fails so when it is read.
-fn reads_none(rt: &HostRuntime, store: &mut impl StateStore, fault: ReadFault) -> bool {
+fn reads_none(rt: &HostRuntime, store: &mut FileStore<HostRuntime>, fault: ReadFault) -> bool {
     match store.read(rt.alloc()) {
         Ok(_) => false,
         Err(found) => found == fault,
@@ -85,7 +72,7 @@ fn reads_none(rt: &HostRuntime, store: &mut impl StateStore, fault: ReadFault) -
 /// Whether a store takes these bytes and reads them, and a new one in its file reads them, too.
 fn keeps(
     rt: &HostRuntime,
-    store: &mut impl StateStore,
+    store: &mut FileStore<HostRuntime>,
     name: &str,
     text: &[u8],
 ) -> Result<bool, Fail> {
@@ -205,12 +192,67 @@ fn a_store_takes_many_writes(rt: HostRuntime) -> Result<(), Fail> {
     Ok(())
 }
 
+const TRIED: &str = "file_store_tried/state";
+
+/// Whether a store fails to take each of these, one after another, while a folder is in the place
+/// of its draft.
+fn fails_to_take(
+    rt: &HostRuntime,
+    store: &mut FileStore<HostRuntime>,
+    texts: &[&str],
+) -> Result<bool, Fail> {
+    fs::create_dir(rt, "file_store_tried/state.new")?;
+    let mut all = true;
+    for text in texts {
+        all = all && refuses(store, text.as_bytes());
+    }
+    fs::remove_dir(rt, "file_store_tried/state.new")?;
+    Ok(all)
+}
+
+/// Whether a store reads these bytes where somebody else puts them into its file.
+fn knows(rt: &HostRuntime, store: &mut FileStore<HostRuntime>, text: &str) -> Result<bool, Fail> {
+    fs::write(rt, TRIED, text.as_bytes())?;
+    Ok(reads(rt, store, text.as_bytes()))
+}
+
+/// Whether such bytes are a fault of the device to a store.
+fn knows_not(
+    rt: &HostRuntime,
+    store: &mut FileStore<HostRuntime>,
+    text: &str,
+) -> Result<bool, Fail> {
+    fs::write(rt, TRIED, text.as_bytes())?;
+    Ok(reads_none(rt, store, ReadFault::Device))
+}
+
+/// A store knows any bytes before it stored some for certain, then these and the three that it
+/// tried last since. A certain write begins anew, and is taken after failed ones.
+#[test]
+fn a_store_knows_what_it_tried(rt: HostRuntime) -> Result<(), Fail> {
+    empty_folder(&rt, "file_store_tried")?;
+    let mut store = store_in(&rt, TRIED)?;
+    assert!(rt; fails_to_take(&rt, &mut store, &["a"])?);
+    assert!(rt; knows(&rt, &mut store, "older")?);
+    assert!(rt; takes(&mut store, b"old"));
+    assert!(rt; fails_to_take(&rt, &mut store, &["put", "a", "b"])?);
+    assert!(rt; knows(&rt, &mut store, "put")?);
+    assert!(rt; fails_to_take(&rt, &mut store, &["c"])?);
+    assert!(rt; knows_not(&rt, &mut store, "put")?);
+    assert!(rt; knows(&rt, &mut store, "old")?);
+    assert!(rt; takes(&mut store, b"new"));
+    assert!(rt; reads(&rt, &mut store, b"new"));
+    assert!(rt; knows_not(&rt, &mut store, "old")?);
+    fs::remove_dir_all(&rt, "file_store_tried")?;
+    Ok(())
+}
+
 /// A store, made at the first or at the second try.
 fn second_try<'a>(rt: &'a HostRuntime, name: &str) -> Result<FileStore<'a, HostRuntime>, Fail> {
-    if let Ok(Some(store)) = store_over(rt.alloc(), rt, name) {
-        return Ok(store);
+    match store_over(rt, name) {
+        Some(store) => Ok(store),
+        None => store_in(rt, name),
     }
-    store_in(rt, name)
 }
 
 /// The merge check refuses each request for memory in turn: a store is made and read at the second

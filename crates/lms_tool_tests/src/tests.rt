@@ -149,30 +149,6 @@ fn signed(alloc: Global) -> Result<MemoryWorld, Fail> {
     Ok(world)
 }
 
-/// Whether the three files, of which one holds other bytes, are verified with this status and this
-/// line.
-fn is_judged(
-    rt: &(impl Threads + Wait + AllocGlobal + Sync),
-    name: &str,
-    bytes: &[u8],
-    status: u8,
-    line: &str,
-) -> Result<bool, Fail> {
-    let mut world = signed(rt.alloc())?;
-    world.write(&mut Log::new(), name, bytes)?;
-    Ok(says(rt, &VERIFY, &mut world, status, line))
-}
-
-#[test]
-fn prints_a_verdict(rt: HostRuntime) -> Result<(), Fail> {
-    assert!(rt; is_judged(&rt, "another.sig", b"another", 0, "valid\n")?);
-    assert!(rt; is_judged(&rt, "text.sig", b"another", 1, "invalid\n")?);
-    assert!(rt; is_judged(&rt, "text.sig", b"", 1, "invalid\n")?);
-    assert!(rt; is_judged(&rt, "text", b"", 1, "invalid\n")?);
-    assert!(rt; is_judged(&rt, "key.pub", b"", 1, "invalid\n")?);
-    Ok(())
-}
-
 /// The three files, of which the one at a place fails, and those after it fail in another way.
 fn failing(
     alloc: Global,
@@ -221,13 +197,6 @@ fn reads_the_files_in_order(rt: HostRuntime) -> Result<(), Fail> {
     Ok(())
 }
 
-/// A file that isn't there can't be read.
-#[test]
-fn misses_a_file(rt: HostRuntime) {
-    let mut world = MemoryWorld::new(rt.alloc());
-    assert!(rt; fails_with(&rt, &VERIFY, &mut world, 6, "error: cannot read input\n"));
-}
-
 /// A stream that takes no bytes.
 #[derive(Drop)]
 struct Closed;
@@ -272,22 +241,5 @@ fn is_unprinted<O: Write>(
 fn cannot_pass_on(rt: HostRuntime) -> Result<(), Fail> {
     let mut world = signed(rt.alloc())?;
     assert!(rt; is_unprinted(&rt, &VERIFY, &mut world, &mut Stuck));
-    Ok(())
-}
-
-/// A fault keeps its status where its line can't be printed.
-#[test]
-fn cannot_complain(rt: HostRuntime) {
-    let mut output = Vec::new(rt.alloc());
-    let mut world = MemoryWorld::new(rt.alloc());
-    assert!(rt; status_of(&rt, &VERIFY, &mut world, &mut output, &mut Closed) == 6);
-    assert!(rt; output.is_empty());
-}
-
-#[test]
-fn cannot_write(rt: HostRuntime) -> Result<(), Fail> {
-    let mut world = signed(rt.alloc())?;
-    assert!(rt; is_unprinted(&rt, &VERIFY, &mut world, &mut Closed));
-    assert!(rt; is_unprinted(&rt, &["lms_tool", "--help"], &mut world, &mut Closed));
     Ok(())
 }

@@ -1,43 +1,45 @@
 //! What is kept of nodes beside a state on the disk.
 use super::{empty_folder, is_missing, make_link, mode_of, write_open_file};
-use lms_file_store::{StateLock, TryLock, lock};
-use std::alloc::Global;
+use lms_file_store::{StateLock, lock};
 use std::fs;
+use std::fs::File;
 use std::io::ErrorKind;
 use std::os::unix::fs::symlink;
-use std::rt::Files;
 use std::test::Fail;
 
 /// What is kept beside a state, whose lock is held.
 #[derive(Drop)]
-pub(super) struct Kept<'a, R: Files> {
-    alloc: Global,
-    files: &'a R,
-    held: StateLock<R::File>,
+struct Kept<'a> {
+    rt: &'a HostRuntime,
+    held: StateLock<File>,
 }
 
-impl<R: Files> Kept<'_, R> {
+impl Kept<'_> {
     /// Whether these bytes are read, where at most so many are asked for.
-    pub(super) fn gives(&self, most: usize, text: &[u8]) -> bool {
-        match self.held.read_nodes(self.files, self.alloc, most) {
+    fn gives(&self, most: usize, text: &[u8]) -> bool {
+        match self.held.read_nodes(self.rt, self.rt.alloc(), most) {
             Some(found) => found.as_slice() == text,
             None => false,
         }
     }
 
     /// Whether nothing is read, where at most so many bytes are asked for.
-    pub(super) fn gives_none(&self, most: usize) -> bool {
-        self.held.read_nodes(self.files, self.alloc, most).is_none()
+    fn gives_none(&self, most: usize) -> bool {
+        self.held
+            .read_nodes(self.rt, self.rt.alloc(), most)
+            .is_none()
     }
 
     /// Whether these bytes are written.
-    pub(super) fn takes(&self, text: &[u8]) -> bool {
-        self.held.write_nodes(self.files, self.alloc, text).is_ok()
+    fn takes(&self, text: &[u8]) -> bool {
+        self.held
+            .write_nodes(self.rt, self.rt.alloc(), text)
+            .is_ok()
     }
 
     /// Whether a write fails so.
-    pub(super) fn refuses(&self, text: &[u8], kind: ErrorKind) -> bool {
-        match self.held.write_nodes(self.files, self.alloc, text) {
+    fn refuses(&self, text: &[u8], kind: ErrorKind) -> bool {
+        match self.held.write_nodes(self.rt, self.rt.alloc(), text) {
             Ok(()) => false,
             Err(error) => error.kind() == kind,
         }
@@ -45,32 +47,20 @@ impl<R: Files> Kept<'_, R> {
 
     /// Whether these bytes are written, and read where no more are asked for, and nothing where one
     /// less is.
-    pub(super) fn keeps(&self, text: &[u8]) -> bool {
+    fn keeps(&self, text: &[u8]) -> bool {
         let kept = self.takes(text) && self.gives(text.len(), text);
         kept && (text.is_empty() || self.gives_none(text.len() - 1))
     }
 }
 
-/// What is kept beside the state of this name, over these files. `Fail` where it can't be locked.
-pub(super) fn kept_beside<'a, R: Files>(
-    alloc: Global,
-    files: &'a R,
-    name: &str,
-) -> Result<Kept<'a, R>, Fail>
-where
-    R::File: TryLock,
-{
-    let held = lock(files, alloc, name)?.ok_or("the lock is free")?;
-    Ok(Kept { alloc, files, held })
-}
-
-/// The same over the disk.
-fn kept_on_disk<'a>(rt: &'a HostRuntime, name: &str) -> Result<Kept<'a, HostRuntime>, Fail> {
-    kept_beside(rt.alloc(), rt, name)
+/// What is kept beside the state of this name. `Fail` where it can't be locked.
+fn kept_beside<'a>(rt: &'a HostRuntime, name: &str) -> Result<Kept<'a>, Fail> {
+    let held = lock(rt, rt.alloc(), name)?.ok_or("the lock is free")?;
+    Ok(Kept { rt, held })
 }
 
 /// Whether the file of a name holds these bytes.
-pub(super) fn holds(rt: &HostRuntime, name: &str, text: &[u8]) -> bool {
+fn holds(rt: &HostRuntime, name: &str, text: &[u8]) -> bool {
     match fs::read(rt, name) {
         Ok(found) => found.as_slice() == text,
         Err(_) => false,
@@ -80,7 +70,7 @@ pub(super) fn holds(rt: &HostRuntime, name: &str, text: &[u8]) -> bool {
 #[test]
 fn what_is_kept_is_read(rt: HostRuntime) -> Result<(), Fail> {
     empty_folder(&rt, "kept_nodes_reads")?;
-    let kept = kept_on_disk(&rt, "kept_nodes_reads/state")?;
+    let kept = kept_beside(&rt, "kept_nodes_reads/state")?;
     assert!(rt; kept.gives_none(usize::MAX));
     assert!(rt; kept.keeps(b"a"));
     assert!(rt; kept.keeps(b""));
@@ -98,7 +88,7 @@ fn what_is_kept_is_read(rt: HostRuntime) -> Result<(), Fail> {
 fn a_long_text_is_kept(rt: HostRuntime) -> Result<(), Fail> {
     empty_folder(&rt, "kept_nodes_long")?;
     let text = "pattern".repeat(rt.alloc(), 642_857)?;
-    let kept = kept_on_disk(&rt, "kept_nodes_long/state")?;
+    let kept = kept_beside(&rt, "kept_nodes_long/state")?;
     assert!(rt; kept.keeps(text.as_bytes()));
     fs::remove_dir_all(&rt, "kept_nodes_long")?;
     Ok(())
@@ -109,7 +99,7 @@ fn the_owner_alone_reads_what_is_kept(rt: HostRuntime) -> Result<(), Fail> {
     empty_folder(&rt, "kept_nodes_modes")?;
     write_open_file(&rt, "kept_nodes_modes/state.nodes")?;
     write_open_file(&rt, "kept_nodes_modes/state.nodes.new")?;
-    let kept = kept_on_disk(&rt, "kept_nodes_modes/state")?;
+    let kept = kept_beside(&rt, "kept_nodes_modes/state")?;
     assert!(rt; kept.gives(5, b"older"));
     assert!(rt; kept.keeps(b"a"));
     assert!(rt; mode_of(&rt, "kept_nodes_modes/state.nodes")? == 0o600);
@@ -122,12 +112,12 @@ fn the_owner_alone_reads_what_is_kept(rt: HostRuntime) -> Result<(), Fail> {
 #[test]
 fn it_is_kept_beside_the_state(rt: HostRuntime) -> Result<(), Fail> {
     make_link(&rt)?;
-    let kept = kept_on_disk(&rt, "file_store_links/link")?;
+    let kept = kept_beside(&rt, "file_store_links/link")?;
     assert!(rt; kept.keeps(b"nodes"));
     assert!(rt; is_missing(&rt, "file_store_links/link.nodes"));
     assert!(rt; holds(&rt, "file_store_links/real/state", b"a"));
     drop(kept);
-    assert!(rt; kept_on_disk(&rt, "file_store_links/real/state")?.gives(5, b"nodes"));
+    assert!(rt; kept_beside(&rt, "file_store_links/real/state")?.gives(5, b"nodes"));
     fs::remove_dir_all(&rt, "file_store_links")?;
     Ok(())
 }
@@ -138,7 +128,7 @@ const DRAFT: &str = "kept_nodes_way/state.nodes.new";
 
 /// Whether a folder in the place of what is kept is not read, and a write fails and leaves nothing
 /// but the folder.
-fn stops_at_a_folder(rt: &HostRuntime, kept: &Kept<HostRuntime>) -> Result<bool, Fail> {
+fn stops_at_a_folder(rt: &HostRuntime, kept: &Kept) -> Result<bool, Fail> {
     fs::create_dir(rt, WAY)?;
     let refused = kept.gives_none(usize::MAX) && kept.refuses(b"new", ErrorKind::IsADirectory);
     let left = is_missing(rt, DRAFT) && fs::metadata(rt, WAY)?.is_dir();
@@ -148,7 +138,7 @@ fn stops_at_a_folder(rt: &HostRuntime, kept: &Kept<HostRuntime>) -> Result<bool,
 
 /// Whether a folder in the place of the draft makes a write fail and stays, and what was kept is
 /// kept.
-fn stops_at_a_draft(rt: &HostRuntime, kept: &Kept<HostRuntime>) -> Result<bool, Fail> {
+fn stops_at_a_draft(rt: &HostRuntime, kept: &Kept) -> Result<bool, Fail> {
     let began = kept.takes(b"old");
     fs::create_dir(rt, DRAFT)?;
     let refused = kept.refuses(b"new", ErrorKind::IsADirectory) && kept.gives(3, b"old");
@@ -158,7 +148,7 @@ fn stops_at_a_draft(rt: &HostRuntime, kept: &Kept<HostRuntime>) -> Result<bool, 
 
 /// Whether a link in the place of what is kept is not read, and gives way to the next bytes,
 /// which are not written through it.
-fn takes_no_link(rt: &HostRuntime, kept: &Kept<HostRuntime>, original: &str) -> Result<bool, Fail> {
+fn takes_no_link(rt: &HostRuntime, kept: &Kept, original: &str) -> Result<bool, Fail> {
     symlink(rt, original, WAY)?;
     let unread = kept.gives_none(usize::MAX);
     Ok(unread && kept.keeps(b"new") && fs::symlink_metadata(rt, WAY)?.is_file())
@@ -168,7 +158,7 @@ fn takes_no_link(rt: &HostRuntime, kept: &Kept<HostRuntime>, original: &str) -> 
 fn what_is_no_plain_file_is_not_read(rt: HostRuntime) -> Result<(), Fail> {
     empty_folder(&rt, "kept_nodes_way")?;
     fs::write(&rt, "kept_nodes_way/other", b"other".as_slice())?;
-    let kept = kept_on_disk(&rt, "kept_nodes_way/state")?;
+    let kept = kept_beside(&rt, "kept_nodes_way/state")?;
     assert!(rt; stops_at_a_folder(&rt, &kept)?);
     assert!(rt; stops_at_a_draft(&rt, &kept)?);
     for original in ["other", "nowhere", ".", "/dev/zero"] {
@@ -183,16 +173,11 @@ fn what_is_no_plain_file_is_not_read(rt: HostRuntime) -> Result<(), Fail> {
 }
 
 /// What is kept beside a state, whose lock is had at the first or at the second try.
-fn second_try<'a>(rt: &'a HostRuntime, name: &str) -> Result<Kept<'a, HostRuntime>, Fail> {
-    let alloc = rt.alloc();
-    if let Ok(Some(held)) = lock(rt, alloc, name) {
-        return Ok(Kept {
-            alloc,
-            files: rt,
-            held,
-        });
+fn second_try<'a>(rt: &'a HostRuntime, name: &str) -> Result<Kept<'a>, Fail> {
+    match lock(rt, rt.alloc(), name) {
+        Ok(Some(held)) => Ok(Kept { rt, held }),
+        _ => kept_beside(rt, name),
     }
-    kept_on_disk(rt, name)
 }
 
 /// The merge check refuses each request for memory in turn: what is kept is written and read at the

@@ -6,7 +6,6 @@ use super::{Closed, ProgramEnd, Stuck, text_of};
 use lms_book::Left;
 use lms_cli::run::run;
 use lms_commands::Status;
-use lms_fixtures::store_of;
 use lms_world::{Log, MemoryWorld, Printer, World};
 use std::alloc::Global;
 use std::io;
@@ -185,35 +184,6 @@ fn burns_indices(
 fn burns_the_indices_of_a_batch(rt: HostRuntime) -> Result<(), Fail> {
     assert!(rt; burns_indices(&rt, Left::Old, 0, 0)?);
     assert!(rt; burns_indices(&rt, Left::New, 4, 1)?);
-    Ok(())
-}
-
-/// Whether a batch of a bad line ends with this status and these errors.
-fn fails_before_the_line(
-    rt: &(impl Threads + Wait + AllocGlobal + Sync),
-    world: &mut MemoryWorld,
-    workers: &str,
-    status: u8,
-    errors: &str,
-) -> bool {
-    end_of_batch(rt, world, workers, "\n").is(status, "", errors)
-}
-
-/// The state is asked for before the input is read, and the workers before both.
-#[test]
-fn fails_in_order(rt: HostRuntime) -> Result<(), Fail> {
-    let mut world = keyed(rt.alloc(), &ONE, 5)?;
-    world.use_elsewhere();
-    let line = "error: bad workers\n";
-    assert!(rt; fails_before_the_line(&rt, &mut world, "0", 2, line));
-    let line = "error: state in use\n";
-    assert!(rt; fails_before_the_line(&rt, &mut world, "1", 3, line));
-    let line = "error: cannot read state\n";
-    world = MemoryWorld::new(rt.alloc());
-    assert!(rt; fails_before_the_line(&rt, &mut world, "1", 3, line));
-    world.set_state(store_of(rt.alloc(), b"HSSK")?);
-    let line = "error: bad state: Truncated\n";
-    assert!(rt; fails_before_the_line(&rt, &mut world, "1", 3, line));
     Ok(())
 }
 

@@ -1,7 +1,7 @@
-//! States, files and streams that fail, in memory.
+//! States and files that fail, in memory.
 use super::arguments::{INFO, ONE, SIGN, keygen};
 use super::states::{is_with, keyed, store_at};
-use super::{Closed, VERIFY, fails_with, is_unprinted, says};
+use super::{fails_with, says};
 use lms_book::{Left, MemoryStore};
 use lms_world::{Log, MemoryWorld, World, WorldFault};
 use std::alloc::Global;
@@ -102,14 +102,6 @@ fn burns_an_index(rt: HostRuntime) -> Result<(), Fail> {
     Ok(())
 }
 
-#[test]
-fn is_exhausted(rt: HostRuntime) -> Result<(), Fail> {
-    let mut world = keyed(rt.alloc(), &ONE, 32)?;
-    assert!(rt; fails_with(&rt, &SIGN, &mut world, 4, "error: exhausted: 0 left\n"));
-    assert!(rt; is_with(&world, &ONE, 32, 0, 0));
-    Ok(())
-}
-
 /// Whether a `sign` from index 5 on, for which the file of a name fails, ends with this status and
 /// this line, and uses so many indices.
 fn fails_to_sign(
@@ -168,20 +160,5 @@ fn leaves_a_state(
 fn cannot_write_a_public_key(rt: HostRuntime) -> Result<(), Fail> {
     assert!(rt; leaves_a_state(&rt, WorldFault::Device, 6, UNWRITTEN)?);
     assert!(rt; leaves_a_state(&rt, WorldFault::OutOfMemory, 5, NO_MEMORY)?);
-    Ok(())
-}
-
-/// Where the last line can't be printed, the state and the files are written already.
-#[test]
-fn cannot_print(rt: HostRuntime) -> Result<(), Fail> {
-    let mut world = MemoryWorld::new(rt.alloc());
-    world.write(&mut Log::new(), "text", b"abc")?;
-    assert!(rt; is_unprinted(&rt, &keygen("5/8"), &mut world, &mut Closed));
-    assert!(rt; is_with(&world, &ONE, 0, 0, 0));
-    assert!(rt; is_unprinted(&rt, &SIGN, &mut world, &mut Closed));
-    assert!(rt; is_with(&world, &ONE, 1, 1, 0));
-    assert!(rt; says(&rt, &VERIFY, &mut world, 0, "valid\n"));
-    assert!(rt; is_unprinted(&rt, &INFO, &mut world, &mut Closed));
-    assert!(rt; is_with(&world, &ONE, 1, 1, 0));
     Ok(())
 }

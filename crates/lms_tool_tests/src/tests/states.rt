@@ -32,18 +32,6 @@ pub(super) fn keyed(
     stated(alloc, image_of(key_of(levels, 0x11)?, counter)?.as_slice())
 }
 
-/// A message, and the state with these levels and these numbers.
-pub(super) fn keyed_with(
-    alloc: Global,
-    levels: &[(LmsType, OtsType)],
-    counter: u64,
-    openings: u64,
-    burnt: u64,
-) -> Result<MemoryWorld, Fail> {
-    let image = image_with(key_of(levels, 0x11)?, counter, openings, burnt)?;
-    stated(alloc, image.as_slice())
-}
-
 /// Whether the state has these bytes.
 fn has_bytes(world: &MemoryWorld, bytes: &[u8]) -> bool {
     match world.state() {

@@ -1,15 +1,21 @@
-"""Tries wrong bodies: crates/NAME/wrong-bodies/*.edit, which the merge check leaves out, of the
-crates that the arguments name, or of all that have some. With the argument --must-fail before
-them it tries the edits of must-fail/ in their place.
+"""Tries wrong bodies: crates/NAME/wrong-bodies/*.edit, which `rt ci` leaves out, of the crates that
+the arguments name, or of all that have some. With --must-fail before them it tries the edits of
+must-fail/ in their place. With --changed alone, as the merge check has it, it tries those of the
+crates of which something changed.
 
 Edits of several functions go into one check, which says of each function whether it is proved. An
 edit is refused where the function that it changes is not proved, for a reason of its own: not for a
 name or a type, and not for another function that it calls. What a check leaves open is tried again
-with fewer others, and at last alone. Crates are proved first, where they are not yet, in
-crates/NAME/out; edits are tried in copies of the repository, as many at once as there are
-processors. Prints how many of each crate were refused, and names the others; each edit counts."""
+with fewer others, and at last alone. Edits are tried in copies of their crate, as many at once as
+there are processors, over the libraries in crates/NAME/out: those that `rt ci` left, or else those
+that `rt lib` makes first. Prints how many of each crate were refused, and names the others; each
+edit counts.
+
+Where all of a crate are refused, tests/wrong_bodies.sums gets a sum of what they were tried over
+(`edit_sums.py`). It is to be committed: --changed leaves a crate out that has the same sum again."""
 
 import collections
+import concurrent.futures
 import contextlib
 import os
 import pathlib
@@ -17,12 +23,15 @@ import re
 import shutil
 import signal
 import subprocess
+import tempfile
 import threading
 
 from tests.harness import ARGUMENTS, TOP, Wrong, checks
+from tests.merge_check.crates import PARTS, check_words, crates_listed, files_of, libraries_of, library
+from tests.merge_check.edit_sums import note, noted, sum_of
 
-# The commands that run.
-RUNNING = set()
+# The commands that run, and whether no more are to be started.
+RUNNING, STOPPED = set(), threading.Event()
 
 # What a check says where a name or a type is wrong, and no statement is false.
 NAMES = re.compile(r"has no field|is not in scope|has no `|was not admitted|is no name|operand is missing|expected the end|cannot continue")
@@ -30,6 +39,11 @@ NO_TYPES = re.compile(r"\berror\[[\w-]+\]")
 # A function, with the lines before it in the report, from what was said of the one before on.
 FUNCTION = re.compile(r"(?m)((?:^(?!fn |impl |struct |enum ).*\n)*)^fn (\S+): (proved|not proved|no proof|could not tell)(.*)$")
 OPEN = re.compile(r"(?m)^note: src/\S+:\d+:\d+: it is not proved that")
+# The most edits in one check: more would leave processors idle while the last ones are tried.
+MOST_EDITS = 8
+# What a check has proved of a crate.
+KEPT = "out/incremental"
+PROCESSORS = len(os.sched_getaffinity(0))
 
 
 class Edit:
@@ -145,33 +159,21 @@ class Said:
         return [*reported, lines[-1]][0]
 
 
-class Copy:
-    """A copy of the repository in which one check at a time runs."""
-
-    def __init__(self, folder):
-        self.top = folder
-        folder.mkdir()
-        for name in ("crates.txt", "HANDLES"):
-            shutil.copy2(TOP / name, folder)
-        shutil.copytree(TOP / "crates", folder / "crates", ignore=shutil.ignore_patterns("out", "must-fail", "wrong-bodies"))
-
-    def check(self, crate, texts):
-        """Checks a crate with these contents of files in place of its own, over what its check in
-        crates/NAME/out proved."""
-        here = self.top / "crates" / crate.name
-        kept = here / "out" / "incremental"
-        shutil.rmtree(kept, ignore_errors=True)
-        shutil.copytree(crate / "out" / "incremental", kept, copy_function=link)
-        try:
-            for path, text in texts.items():
-                (here / path).write_text(text, encoding="utf-8")
-            ran = run("rt", "check", "--jobs", "1", cwd=here)
-            if ran.returncode < 0:
-                ran = run("rt", "check", "--jobs", "1", cwd=here)
-            return Said(crate, ran.returncode, ran.stdout)
-        finally:
-            for path in texts:
-                shutil.copy2(crate / path, here / path)
+def check(crate, texts):
+    """Checks a copy of a crate with these contents of files in place of its own, over what
+    crates/NAME/out/incremental has proved."""
+    with tempfile.TemporaryDirectory() as folder:
+        for part in PARTS:
+            if (crate / part).is_dir():
+                shutil.copytree(crate / part, f"{folder}/{part}")
+        for path, text in texts.items():
+            (pathlib.Path(folder) / path).write_text(text, encoding="utf-8")
+        shutil.copytree(crate / KEPT, f"{folder}/kept", copy_function=link)
+        words = [*check_words(crate.name), "--incremental", "kept"]
+        ran = run(*words, cwd=folder)
+        if ran.returncode < 0 and not STOPPED.is_set():
+            ran = run(*words, cwd=folder)
+        return Said(crate, ran.returncode, ran.stdout)
 
 
 def link(one, other):
@@ -185,9 +187,13 @@ def link(one, other):
 
 def run(*words, cwd):
     """What a command ended with and printed."""
+    if STOPPED.is_set():
+        raise Wrong("it was stopped")
     how = {"stdin": subprocess.DEVNULL, "stdout": subprocess.PIPE, "stderr": subprocess.STDOUT, "text": True, "errors": "replace"}
     with subprocess.Popen(words, cwd=cwd, start_new_session=True, **how) as ran:
         RUNNING.add(ran)
+        if STOPPED.is_set():
+            stop()
         try:
             said, _ = ran.communicate()
         finally:
@@ -210,7 +216,7 @@ class Trials:
         """The next group, once there is one, or None at the end."""
         with self.turn:
             self.turn.wait_for(lambda: self.groups or not self.running)
-            if not self.groups:
+            if not self.groups or STOPPED.is_set():
                 return None
             self.running += 1
             return self.groups.pop(0)
@@ -242,7 +248,8 @@ def grouped(edits):
     groups = []
     for edit in edits:
         for members, texts in groups:
-            apart = texts and edit.is_of_bodies and all(it.is_of_bodies and not it.functions & edit.functions for it in members)
+            apart = texts and len(members) < MOST_EDITS and edit.is_of_bodies
+            apart = apart and all(it.is_of_bodies and not it.functions & edit.functions for it in members)
             more = edit.apply(texts) if apart else None
             if more:
                 members.append(edit)
@@ -253,74 +260,127 @@ def grouped(edits):
     return groups
 
 
-def work(trials, copy):
+def work(trials):
     """Tries groups, until none is left."""
     while group := trials.next():
         edits, texts = group
         crate = edits[0].crate
         try:
-            said = copy.check(crate, texts) if texts else Said(crate, 2, "what it replaces is not in its file exactly once")
+            said = check(crate, texts) if texts else Said(crate, 2, "what it replaces is not in its file exactly once")
         except Exception as error:  # pylint: disable=broad-except
             said = Said(crate, 2, repr(error))
         trials.ended(group, said)
 
 
-def unproved(crate):
-    """Proves a crate, and says what failed, or nothing where it is proved and what that left is
-    kept."""
-    for verb in ("lib", "check"):
-        ran = run("rt", verb, cwd=crate)
-        if ran.returncode == 0 and (crate / "out" / "incremental").is_dir():
-            return ""
-    return "\n".join(ran.stdout.split("\n")[-40:])
+def are_left(names):
+    """Whether these libraries are those that a run of `rt ci` over the same sources left. It gives
+    them no stamp, as `rt lib` does."""
+    sources = [it for name in names for it in files_of(name, *PARTS)]
+    newest = max(it.stat().st_mtime for it in [TOP / "crates.txt", *sources, *{it.parent for it in sources}])
+    built = [library(it) for it in names]
+    return all(it.is_dir() and it.stat().st_mtime > newest and not (it.parent / "stamp").exists() for it in built)
+
+
+def make_libraries(crates):
+    """Has `rt lib` make the libraries below these crates, where they are neither left nor made
+    yet."""
+    needed = {low for it in crates for low in libraries_of(it.name)}
+    if not needed or are_left(needed):
+        return
+    for name in sorted(needed, key=lambda it: len(libraries_of(it))):
+        ran = run("rt", "lib", cwd=TOP / "crates" / name)
+        if ran.returncode:
+            raise Wrong(f"{name} is not proved\n{end_of(ran.stdout)}")
+
+
+def prove(crate):
+    """Proves a crate, and keeps what that found for the tries."""
+    ran = run(*check_words(crate.name), "--incremental", KEPT, cwd=crate)
+    if ran.returncode:
+        raise Wrong(f"{crate.name} is not proved\n{end_of(ran.stdout)}")
+
+
+def prove_all(crates):
+    """Proves crates, as many at once as there are processors."""
+    with concurrent.futures.ThreadPoolExecutor(PROCESSORS) as pool:
+        try:
+            list(pool.map(prove, crates))
+        except BaseException:
+            # (Else the pool would wait for what runs.)
+            stop()
+            raise
+
+
+def end_of(said):
+    """The last lines of what a command said."""
+    return "\n".join(said.split("\n")[-40:])
 
 
 def chosen_crates(folder, names):
     """The crates of these names, or all that have such a folder, in the order of `crates.txt`."""
-    listed = [line.split(":")[0].split()[0] for line in (TOP / "crates.txt").read_text(encoding="utf-8").split("\n") if ":" in line]
+    listed = list(crates_listed()[0])
     names = sorted(names, key=listed.index) if set(names) <= set(listed) else names
     names = names or [it for it in listed if (TOP / "crates" / it / folder).is_dir()]
     for name in names:
         if not (TOP / "crates" / name / folder).is_dir():
-            raise Wrong(f"crates/{name} has no {folder}; the arguments are [--must-fail] [CRATE ..]")
+            raise Wrong(f"crates/{name} has no {folder}; the arguments are --changed, or [--must-fail] [CRATE ..]")
     return [TOP / "crates" / name for name in names]
 
 
 def tried(edits):
-    """What came of these edits, tried in as many copies as there are processors."""
-    trials, folder = Trials(edits), pathlib.Path("copies").resolve()
-    folder.mkdir()
-    try:
-        copies = [Copy(folder / str(number)) for number in range(len(os.sched_getaffinity(0)))]
-        threads = [threading.Thread(target=work, args=(trials, copy), daemon=True) for copy in copies]
-        for it in threads:
-            it.start()
-        for it in threads:
-            it.join()
-    finally:
-        for it in list(RUNNING):
-            with contextlib.suppress(ProcessLookupError):
-                os.killpg(it.pid, signal.SIGKILL)
-        shutil.rmtree(folder, ignore_errors=True)
+    """What came of these edits, tried as many at once as there are processors."""
+    trials = Trials(edits)
+    threads = [threading.Thread(target=work, args=(trials,), daemon=True) for _ in range(PROCESSORS)]
+    for it in threads:
+        it.start()
+    for it in threads:
+        it.join()
     return trials
+
+
+def stop():
+    """Ends what runs."""
+    STOPPED.set()
+    for it in list(RUNNING):
+        with contextlib.suppress(ProcessLookupError):
+            os.killpg(it.pid, signal.SIGKILL)
+
+
+def asked():
+    """Whether the edits of changed crates alone are to be tried, the folder of the edits, and the
+    crates that are named."""
+    words = list(ARGUMENTS)
+    if words == ["--changed"]:
+        return True, "wrong-bodies", []
+    folder = "must-fail" if words[:1] == ["--must-fail"] else "wrong-bodies"
+    return False, folder, words[1:] if folder == "must-fail" else words
 
 
 @checks
 def wrong_bodies(counter):
     """Each edit counts as one that passed where it is refused."""
-    folder = "must-fail" if ARGUMENTS[:1] == ["--must-fail"] else "wrong-bodies"
-    crates = chosen_crates(folder, ARGUMENTS[1:] if folder == "must-fail" else ARGUMENTS)
-    for crate in crates:
-        failed = unproved(crate)
-        if failed:
-            raise Wrong(f"{crate.name} is not proved\n{failed}")
+    of_changed, folder, names = asked()
+    crates = chosen_crates(folder, names)
+    sums = {it.name: sum_of(it.name) for it in crates} if folder == "wrong-bodies" else {}
+    if of_changed:
+        before, every = noted(), len(crates)
+        crates = [it for it in crates if before.get(it.name) != sums[it.name]]
+        print(f"{every - len(crates)} of {every} crates are as they were when their wrong bodies were refused", flush=True)
     edits = [Edit(file) for crate in crates for file in sorted((crate / folder).glob("*.edit"))]
-    trials = tried(edits)
+    try:
+        make_libraries(crates)
+        prove_all(crates)
+        trials = tried(edits)
+    finally:
+        stop()
     for crate in crates:
         count = sum(it.crate == crate for it in edits)
         print(f"{crate.name}: {trials.refused[crate.name]} of {count} wrong bodies were refused")
     for edit, why in trials.failed:
         print(f"NOT REFUSED: {edit.crate.name}/{edit.name}: {why}")
+    failed = {it.crate.name for it, _ in trials.failed}
+    if note({it.name: None if it.name in failed else sums[it.name] for it in crates if sums}):
+        print("tests/wrong_bodies.sums has changed: commit it")
     passed = sum(trials.refused.values())
     counter.passed += passed
     counter.failed += len(edits) - passed

@@ -1,0 +1,238 @@
+"""What the program asks of files and streams, in which order, and what it still asks for where one
+operation alone fails.
+
+`stop.c`, which is loaded before the program, writes down each operation before it is done, and has
+one fail. All operations of `keygen`, of `sign` by trees that it computes and by kept ones, and of
+`info` are compared one by one."""
+
+import errno
+import itertools
+import os
+
+from tests.harness import add_test, holds, test
+from tests.program import DRAFT, INFO, NODES, ends, has, keeps, keygen, preload, put, read, run, sign, signs
+from tests.reference import image, kept, public_of, signature_of
+
+LEVELS = ((5, 1),)
+STATE = "key.state"
+# The index that signs next, and that at which the nodes of the only tree were kept.
+INDEX, KEPT = 5, 3
+IN_USE, NOT_READ, NOT_WRITTEN, NO_MEMORY = (3, "state in use"), (6, "cannot read input"), (6, "cannot write output"), (5, "out of memory")
+
+
+class Part:
+    """Operations that follow one another. Where one fails the program ends with a fault, which is
+    another one at the places in `memory` where memory is refused; or it does without the part,
+    where that has no fault, and first cleans up from the place `cleaned` on."""
+
+    def __init__(self, steps, fault=None, memory=(), cleaned=None):
+        self.steps, self.fault, self.memory, self.cleaned = steps, fault, memory, cleaned
+
+    def fault_at(self, place, number):
+        """The fault where the operation at a place fails with the error of this number."""
+        return NO_MEMORY if number == errno.ENOMEM and place in self.memory else self.fault
+
+
+def replaced(name, draft):
+    """The operations by which a new file takes the place of another one."""
+    return [f"remove {draft}", f"make {draft}", f"write {draft}", f"flush {draft}", f"rename {draft} to {name}"]
+
+
+STORE = ["open .", *replaced(STATE, f"{STATE}.new"), "flush ."]
+# How many of these are done once the new state is in its place.
+PLACED = 6
+LOCK = [f"open to write {STATE}.lock", f"lock {STATE}.lock"]
+
+STREAMS = Part(["open /dev/null"], NOT_READ)
+MESSAGE = Part(["open text", "look up text", "read text", "read text"], NOT_READ, range(4))
+LOCKED = Part([f"resolve {STATE}", *LOCK], IN_USE, (0, 1))
+LOCKED_FIRST = Part([f"resolve {STATE}", f"look up {STATE}", *LOCK], IN_USE, (0, 2))
+NONE_THERE = Part([f"look up {STATE}"], (3, "state exists"))
+NO_NODES = Part([f"look up {NODES}"])
+NODES_READ = Part([f"look up {NODES}", f"open {NODES}", f"read {NODES}", f"read {NODES}"])
+STATE_READ = Part([f"open {STATE}", f"read {STATE}", f"read {STATE}"], (3, "cannot read state"), range(3))
+STORED = Part(STORE, (3, f"cannot write state: {INDEX} to {INDEX} burnt"))
+STORED_FIRST = Part(STORE, (3, "cannot write state"))
+NODES_KEPT = Part(replaced(NODES, DRAFT), cleaned=2)
+SIGNATURE = Part(["empty text.sig", "write text.sig"], NOT_WRITTEN)
+PUBLIC_KEY = Part(["empty key.pub", "write key.pub"], NOT_WRITTEN, (0, 1))
+PRINTED = Part(["write standard output"], NOT_WRITTEN)
+DESCRIBED = Part(["write standard output"] * 6, NOT_WRITTEN)
+
+
+def steps_in(parts):
+    """The operations of these parts."""
+    return [step for part in parts for step in part.steps]
+
+
+class Command:
+    """A command with its parts, what it prints, the counter of the state before it, if any, and after
+    it, and whether it finds nodes."""
+
+    def __init__(self, arguments, parts, output, counters, has_nodes=False):
+        self.arguments, self.parts, self.output, self.counters, self.has_nodes = arguments, parts, output, counters, has_nodes
+
+    def states(self):
+        """The state before it, or none, and after it."""
+        return [None if it is None else image(LEVELS, it, int(it > INDEX)) for it in self.counters]
+
+    def begin(self):
+        """Makes the files that it finds, and no others."""
+        for name in os.listdir("."):
+            os.remove(name)
+        put("text", b"abc")
+        before, _ = self.states()
+        if before:
+            put(STATE, before)
+        if self.has_nodes:
+            put(NODES, kept(LEVELS, KEPT))
+
+    def run(self, **settings):
+        """The operations of a run, by paths from here, and how it ended."""
+        ran = run(self.arguments, env=preload("stop", STEPS="steps", **settings))
+        here = os.path.realpath(".")
+        steps = read("steps").decode().replace(f"{here}/", "").replace(here, ".").splitlines()
+        os.remove("steps")
+        return steps, ran
+
+    def ends(self, steps, fault=None, **settings):
+        """A run does these operations, and ends with this fault, or well where it is none."""
+        found, ran = self.run(**settings)
+        status, output, errors = (fault[0], "", f"error: {fault[1]}\n") if fault else (0, self.output, "")
+        # (Half of a write that fails is done.)
+        if found[-2:] == ["write standard output", "write standard error"]:
+            output = self.output[: len(ran.stdout)]
+            holds(output != self.output, "all is printed, and said not to be")
+        said = f"{self.arguments[0]}, {settings}: {ran.returncode} {ran.stdout!r} {ran.stderr!r}, by the operations {found}, not {steps}"
+        holds((ran.returncode, ran.stdout, ran.stderr, found) == (status, output, errors, steps), said)
+
+    def after(self, at, place):
+        """The operations that follow where the one at a place of a part fails."""
+        part = self.parts[at]
+        if part.fault:
+            return ["write standard error"]
+        if part is NODES_READ:
+            return steps_in(BY_TREES[BY_TREES.index(STATE_READ) :])
+        is_cleaned = part.cleaned is not None and place >= part.cleaned
+        return [f"remove {DRAFT}"] * is_cleaned + steps_in(self.parts[at + 1 :])
+
+    def fails_at(self, at, place, number):
+        """The operation at a place of a part fails alone, with the error of this number. No others
+        follow than should, the state is the old or the new one, and the next command does well."""
+        done = steps_in(self.parts[:at]) + self.parts[at].steps[: place + 1]
+        self.begin()
+        fault = self.parts[at].fault_at(place, number)
+        self.ends(done + self.after(at, place), fault, FAIL=len(done), LAST=len(done), FAULT=number)
+        stores = [it for it, part in enumerate(self.parts) if part.steps is STORE]
+        # (Without a fault it goes on to the end.)
+        is_stored = not fault or (bool(stores) and (at, place) >= (stores[0], PLACED))
+        left = self.states()[is_stored]
+        holds((read(STATE) if os.path.exists(STATE) else None) == left, f"{done[-1]}: another state is left")
+        holds(not os.path.exists(DRAFT), f"{done[-1]}: a draft of the nodes is left")
+        holds(is_stored or not os.path.exists("text.sig"), f"{done[-1]}: a signature is written before the state")
+        self.goes_on(left, self.counters[is_stored])
+
+    def goes_on(self, state, counter):
+        """The next commands do well, from this state with this counter, or from none."""
+        if not state:
+            ends(keygen("5/1"), 0, "capacity 32\n")
+        signs(LEVELS, counter or 0)
+        holds(not os.path.exists(f"{STATE}.new"), "a draft of the state is left")
+
+
+BY_TREES = [STREAMS, MESSAGE, LOCKED, NO_NODES, STATE_READ, STORED, NODES_KEPT, SIGNATURE, PRINTED]
+BY_NODES = [STREAMS, MESSAGE, LOCKED, NODES_READ, STATE_READ, STORED, SIGNATURE, PRINTED]
+FIRST = [STREAMS, LOCKED_FIRST, NONE_THERE, STORED_FIRST, NODES_KEPT, PUBLIC_KEY, PRINTED]
+NUMBERS = f"levels 5/1\ncounter {INDEX}\ncapacity 32\nleft {32 - INDEX}\nopenings 0\nburnt 0\n"
+KEYGEN = Command(keygen("5/1"), FIRST, "capacity 32\n", (None, 0))
+SIGN_BY_TREES = Command(sign(), BY_TREES, f"index {INDEX}\n", (INDEX, INDEX + 1))
+SIGN_BY_NODES = Command(sign(), BY_NODES, f"index {INDEX}\n", (INDEX, INDEX + 1), has_nodes=True)
+DESCRIBE = Command(INFO, [STREAMS, LOCKED, STATE_READ, DESCRIBED], NUMBERS, (INDEX, INDEX), has_nodes=True)
+COMMANDS = {"keygen": KEYGEN, "sign by trees": SIGN_BY_TREES, "sign by kept trees": SIGN_BY_NODES, "info": DESCRIBE}
+
+
+def fails_at_each(command, number):
+    """Each operation of a command fails alone."""
+    command.begin()
+    command.ends(steps_in(command.parts))
+    for at, part in enumerate(command.parts):
+        for place in range(len(part.steps)):
+            command.fails_at(at, place, number)
+
+
+for what, one in COMMANDS.items():
+    add_test(f"{what}, each operation failing alone", fails_at_each, one, errno.EIO)
+    add_test(f"{what}, each operation out of memory", fails_at_each, one, errno.ENOMEM)
+
+
+def has_signed():
+    """The index has signed, and nodes are kept of it."""
+    has(STATE, image(LEVELS, INDEX + 1, 1))
+    has("text.sig", signature_of(LEVELS, INDEX, b"abc"))
+
+
+@test
+def reads_again_where_it_is_interrupted():
+    for command in COMMANDS.values():
+        steps = steps_in(command.parts)
+        for at, step in enumerate(steps):
+            if step.startswith("read "):
+                command.begin()
+                command.ends(steps[: at + 1] + steps[at:], FAIL=at + 1, LAST=at + 1, FAULT=errno.EINTR)
+
+
+@test
+def reads_and_writes_byte_by_byte():
+    for command in COMMANDS.values():
+        command.begin()
+        steps, ran = command.run(SHORT=1)
+        found = (ran.returncode, ran.stdout, ran.stderr)
+        holds(found == (0, command.output, ""), f"{command.arguments[0]}: {found}")
+        once = [it for it, _ in itertools.groupby(steps)]
+        holds(once == [it for it, _ in itertools.groupby(steps_in(command.parts))], f"{command.arguments[0]}: the operations are {once}")
+        if command is KEYGEN:
+            has(STATE, image(LEVELS, 0))
+            has("key.pub", public_of(LEVELS))
+            keeps(LEVELS, 0)
+        elif command is not DESCRIBE:
+            has_signed()
+            has(NODES, kept(LEVELS, KEPT if command.has_nodes else INDEX))
+
+
+@test
+def writes_through_no_link():
+    """A link gets in the way of a draft after the older draft was removed. Of the state that is a
+    fault; without new nodes it signs."""
+    for draft, fault in [(f"{STATE}.new", STORED.fault), (DRAFT, None)]:
+        SIGN_BY_TREES.begin()
+        put("others", b"as they were")
+        os.symlink("others", draft)
+        steps = steps_in(BY_TREES)
+        at = steps.index(f"make {draft}")
+        rest = ["write standard error"] if fault else steps_in([SIGNATURE, PRINTED])
+        SIGN_BY_TREES.ends(steps[: at + 1] + rest, fault, FAIL=at, LAST=at, FAULT=errno.ENOENT)
+        has("others", b"as they were")
+        if fault:
+            has(STATE, image(LEVELS, INDEX))
+            signs(LEVELS, INDEX)
+            has("others", b"as they were")
+        else:
+            has_signed()
+
+
+@test
+def reads_no_more_nodes_than_are_reported():
+    """A file that is reported to be too long is not opened, nor is what is no file. One that has
+    more bytes than were reported is read to one more of them, and not used."""
+    name, rest = os.path.realpath(NODES), steps_in(BY_TREES[BY_TREES.index(STATE_READ) :])
+    before = steps_in([STREAMS, MESSAGE, LOCKED])
+    for size, count in [(2**40, 1), (1, 3)]:
+        SIGN_BY_NODES.begin()
+        SIGN_BY_NODES.ends(before + NODES_READ.steps[:count] + rest, NAME=name, SIZE=size)
+        has_signed()
+        keeps(LEVELS, INDEX)
+    SIGN_BY_TREES.begin()
+    os.mkfifo(NODES)
+    SIGN_BY_TREES.ends(steps_in(BY_TREES))
+    has_signed()
+    keeps(LEVELS, INDEX)
