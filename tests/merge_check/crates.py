@@ -9,6 +9,8 @@ from tests.harness import TOP
 
 # The folders of a crate that a check reads.
 PARTS = ("src", "specs", "proofs")
+# The toolchain.
+KIT = pathlib.Path(os.path.realpath(shutil.which("rt") or "rt")).parent.parent
 
 
 @functools.lru_cache(maxsize=None)
@@ -33,6 +35,11 @@ def files_of(name, *parts):
     return [it for part in parts for it in sorted((TOP / "crates" / name / part).rglob("*")) if it.is_file()]
 
 
+def read(file):
+    """The text of a file, or none where there is no such file."""
+    return file.read_text(encoding="utf-8") if file.is_file() else ""
+
+
 def library(name):
     """What is built of a crate for those that use it."""
     return TOP / "crates" / name / "out" / "rlib" / f"{name}.rlib"
@@ -42,12 +49,11 @@ def library(name):
 def check_words(name):
     """The command that checks a crate in its folder, by one processor, over its libraries in
     crates/NAME/out."""
-    kit = pathlib.Path(os.path.realpath(shutil.which("rt"))).parent.parent
     uses, static = crates_listed()
-    words = [kit / "bin/rattle", "check", "--crate-name", name, "src/lib.rt", "--jobs", "1", "--links", f"{name}="]
+    words = [KIT / "bin/rattle", "check", "--crate-name", name, "src/lib.rt", "--jobs", "1", "--links", f"{name}="]
     for it in ["std", *uses[name]]:
-        words += ["--extern", f"{it}={library(it) if it in uses else kit / 'rlibs' / f'{it}.rlib'}"]
-    for folder in [kit / "rlibs", *(library(it).parent for it in libraries_of(name))]:
+        words += ["--extern", f"{it}={library(it) if it in uses else KIT / 'rlibs' / f'{it}.rlib'}"]
+    for folder in [KIT / "rlibs", *(library(it).parent for it in libraries_of(name))]:
         words += ["-L", f"dependency={folder}"]
-    words += ["--antt-project", kit / "rattle/logic/antt-project.json", "--logic-built", kit / "logic_built"]
+    words += ["--antt-project", KIT / "rattle/logic/antt-project.json", "--logic-built", KIT / "logic_built"]
     return words + ["--crate-type", "staticlib"] * (name in static)

@@ -2,8 +2,8 @@
 
 A sum is over the whole crate, and over what is stated in the crates of the repository below it:
 their code without bodies, and their definitions. Left out are their bodies, which no other crate's
-proofs read, and their lemmas: these can change how a proof is found, and not what a contract says,
-so that a body that breaks it stays refused."""
+proofs read, and their lemmas: no contract cites one, so they can change how a proof is found, and
+not what a contract says, and a body that breaks it stays refused."""
 
 import hashlib
 import re
@@ -45,8 +45,9 @@ def sum_of(name):
     for low in libraries_of(name):
         texts = [(it, it.read_text(encoding="utf-8")) for it in files_of(low, "src", "specs")]
         parts += [(it, statements(text) if it.suffix == ".rt" else text) for it, text in texts]
-    uses = [crates_listed()[0][it] for it in (name, *libraries_of(name))]
-    return hashlib.sha256(repr((uses, [(str(it.relative_to(TOP)), text) for it, text in parts])).encode()).hexdigest()
+    uses, static = crates_listed()
+    lines = [(it, uses[it], it in static) for it in (name, *libraries_of(name))]
+    return hashlib.sha256(repr((lines, [(str(it.relative_to(TOP)), text) for it, text in parts])).encode()).hexdigest()
 
 
 def noted():

@@ -99,10 +99,10 @@ class Command:
         """A run does these operations, and ends with this fault, or well where it is none."""
         found, ran = self.run(**settings)
         status, output, errors = (fault[0], "", f"error: {fault[1]}\n") if fault else (0, self.output, "")
-        # (Half of a write that fails is done.)
         if found[-2:] == ["write standard output", "write standard error"]:
-            output = self.output[: len(ran.stdout)]
-            holds(output != self.output, "all is printed, and said not to be")
+            # (Half of the line whose write failed is printed.)
+            *before, last = self.output.splitlines(True)[: found.count("write standard output")]
+            output = "".join(before) + last[: len(last) // 2]
         said = f"{self.arguments[0]}, {settings}: {ran.returncode} {ran.stdout!r} {ran.stderr!r}, by the operations {found}, not {steps}"
         holds((ran.returncode, ran.stdout, ran.stderr, found) == (status, output, errors, steps), said)
 

@@ -27,7 +27,7 @@ import tempfile
 import threading
 
 from tests.harness import ARGUMENTS, TOP, Wrong, checks
-from tests.merge_check.crates import PARTS, check_words, crates_listed, files_of, libraries_of, library
+from tests.merge_check.crates import KIT, PARTS, check_words, crates_listed, libraries_of, library, read
 from tests.merge_check.edit_sums import note, noted, sum_of
 
 # The commands that run, and whether no more are to be started.
@@ -74,7 +74,7 @@ class Edit:
         exactly once."""
         texts = dict(texts)
         for path, old, new in self.pairs:
-            text = texts.get(path) or (self.crate / path).read_text(encoding="utf-8")
+            text = texts.get(path) or read(self.crate / path)
             if text.count(old) != 1:
                 return None
             texts[path] = text.replace(old, new)
@@ -84,7 +84,7 @@ class Edit:
 def edited_function(crate, path, old):
     """The file, the type with its trait, and the name of the function in which a piece of code is,
     or None where it is in none, and whether it is in the body."""
-    text = (crate / path).read_text(encoding="utf-8")
+    text = read(crate / path)
     at = text.find(old)
     if not path.endswith(".rt") or at < 0:
         return None, False
@@ -225,7 +225,10 @@ class Trials:
         """Takes what a check said of a group: the edits that are not refused yet go into smaller
         groups."""
         edits, _ = group
-        refused = said.refused(edits)
+        try:
+            refused = said.refused(edits)
+        except Exception as error:  # pylint: disable=broad-except
+            refused, said = [], Said(said.crate, 2, repr(error))
         left = [it for it in edits if it not in refused]
         with self.turn:
             self.running -= 1
@@ -273,12 +276,12 @@ def work(trials):
 
 
 def are_left(names):
-    """Whether these libraries are those that a run of `rt ci` over the same sources left. It gives
-    them no stamp, as `rt lib` does."""
-    sources = [it for name in names for it in files_of(name, *PARTS)]
-    newest = max(it.stat().st_mtime for it in [TOP / "crates.txt", *sources, *{it.parent for it in sources}])
+    """Whether these libraries are those that a run of `rt ci` by this toolchain over the same sources
+    left. It gives them no stamp, as `rt lib` does."""
+    sources = [it for name in names for part in PARTS for it in (TOP / "crates" / name / part).rglob("*")]
+    changed = max(it.stat().st_ctime for it in [KIT / "WHAT", TOP / "crates.txt", *sources])
     built = [library(it) for it in names]
-    return all(it.is_dir() and it.stat().st_mtime > newest and not (it.parent / "stamp").exists() for it in built)
+    return all(it.is_dir() and it.stat().st_mtime > changed and not (it.parent / "stamp").exists() for it in built)
 
 
 def make_libraries(crates):
@@ -333,8 +336,14 @@ def tried(edits):
     threads = [threading.Thread(target=work, args=(trials,), daemon=True) for _ in range(PROCESSORS)]
     for it in threads:
         it.start()
-    for it in threads:
-        it.join()
+    try:
+        for it in threads:
+            it.join()
+    except BaseException:
+        stop()
+        for it in threads:
+            it.join()
+        raise
     return trials
 
 
@@ -379,7 +388,9 @@ def wrong_bodies(counter):
     for edit, why in trials.failed:
         print(f"NOT REFUSED: {edit.crate.name}/{edit.name}: {why}")
     failed = {it.crate.name for it, _ in trials.failed}
-    if note({it.name: None if it.name in failed else sums[it.name] for it in crates if sums}):
+    # (What was changed meanwhile was not tried.)
+    same = {it.name for it in crates if sums and it.name not in failed and sum_of(it.name) == sums[it.name]}
+    if note({it.name: sums[it.name] if it.name in same else None for it in crates if sums}):
         print("tests/wrong_bodies.sums has changed: commit it")
     passed = sum(trials.refused.values())
     counter.passed += passed

@@ -33,7 +33,7 @@ static void say_met(void) {
     }
 }
 
-/* The names of the files that are open, by their numbers. */
+/* The names by which files were opened last, by their numbers. */
 static char *opened[1024] = {"standard input", "standard output", "standard error"};
 
 static const char *name_of(int file) {
@@ -50,11 +50,11 @@ static int named(int file, const char *path) {
 
 static void say_step(const char *what, const char *path) {
     const char *name = getenv("STEPS");
-    char line[2 * 4096];
+    char line[3 * 4096];
     if (name) {
         int file = syscall(SYS_openat, AT_FDCWD, name, O_WRONLY | O_CREAT | O_APPEND, 0600);
         int length = snprintf(line, sizeof line, "%s %s\n", what, path);
-        if (syscall(SYS_write, file, line, length) != length) {
+        if (length >= (int)sizeof line || syscall(SYS_write, file, line, length) != length) {
             abort();
         }
         syscall(SYS_close, file);
@@ -148,9 +148,9 @@ ssize_t write(int file, const void *bytes, size_t count) {
 }
 
 /* Has the file NAME be of SIZE bytes. */
-static int sized(int answer, const char *path, struct statx *found) {
-    const char *name = getenv("NAME");
-    if (!answer && name && !strcmp(path, name)) {
+static int sized(int answer, const char *name, struct statx *found) {
+    const char *wanted = getenv("NAME");
+    if (!answer && wanted && !strcmp(name, wanted)) {
         found->stx_size = number("SIZE");
     }
     return answer;
@@ -158,8 +158,8 @@ static int sized(int answer, const char *path, struct statx *found) {
 
 int statx(int folder, const char *restrict path, int flags, unsigned mask, struct statx *restrict found) {
     int (*next)(int, const char *, int, unsigned, struct statx *) = dlsym(RTLD_NEXT, "statx");
-    const char *name = flags & AT_EMPTY_PATH ? name_of(folder) : path;
-    ANSWER("look up", name, sized(next(folder, path, flags, mask, found), path, found));
+    const char *name = *path ? path : name_of(folder);
+    ANSWER("look up", name, sized(next(folder, path, flags, mask, found), name, found));
 }
 
 int fsync(int file) {

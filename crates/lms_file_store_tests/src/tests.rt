@@ -239,6 +239,8 @@ fn a_store_knows_what_it_tried(rt: HostRuntime) -> Result<(), Fail> {
     assert!(rt; knows(&rt, &mut store, "put")?);
     assert!(rt; fails_to_take(&rt, &mut store, &["c"])?);
     assert!(rt; knows_not(&rt, &mut store, "put")?);
+    assert!(rt; knows(&rt, &mut store, "a")?);
+    assert!(rt; knows(&rt, &mut store, "c")?);
     assert!(rt; knows(&rt, &mut store, "old")?);
     assert!(rt; takes(&mut store, b"new"));
     assert!(rt; reads(&rt, &mut store, b"new"));
