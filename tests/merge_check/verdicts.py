@@ -4,7 +4,7 @@ import os
 
 from tests.harness import TOP, holds, test
 from tests.merge_check.weak_disk import operations
-from tests.program import INFO, VERIFY, ends, fails, has, keygen, preload, put, read, run, sign
+from tests.program import INFO, VERIFY, ends, fails, has, keygen, preload, put, read, run, sign, verify
 from tests.reference import image, public_of, signature_of
 
 ONE = ((5, 8),)
@@ -39,11 +39,10 @@ def misses_a_file():
 
 @test
 def accepts_the_signature_of_another_implementation():
-    files = [TOP / "examples" / name for name in ("release.pub", "firmware.bin", "firmware.sig")]
-    words = ["verify", "--public", files[0], "--message", files[1], "--signature", files[2]]
-    ends(words, 0, "valid\n")
-    put("text", files[1].read_bytes()[:-1])
-    ends([*words[:4], "text", *words[5:]], 1, "invalid\n")
+    message, signature, public = (TOP / "examples" / name for name in ("firmware.bin", "firmware.sig", "release.pub"))
+    ends(verify(message, signature, public), 0, "valid\n")
+    put("text", read(message)[:-1])
+    ends(verify("text", signature, public), 1, "invalid\n")
 
 
 def writes(arguments):
