@@ -9,6 +9,7 @@ import shutil
 import subprocess
 
 from tests.harness import TOP, Wrong, checks, holds
+from tests.merge_check.crates import libraries_of, take_left
 from tests.program import PROGRAM, keygen, put, read, sign, verify
 
 EXAMPLES = TOP / "examples"
@@ -309,6 +310,7 @@ def builds_by_rattle(bounds):
 def the_verifier_for_c(counter):
     os.mkdir("programs")
     bounds = []
+    take_left(libraries_of("lms_c"))
     counter.check("the library is built", builds_here)
     counter.check("the library is copied", shutil.copy2, LIBRARY, "llvm.a")
     counter.check("it is built for processors with SSE2 alone", build_other, "sse2", "--cpu", "x86-64")

@@ -1,9 +1,12 @@
 """The crates of the repository, their files and libraries, and how one is checked."""
 
 import functools
+import importlib.machinery
+import importlib.util
 import os
 import pathlib
 import shutil
+import sys
 
 from tests.harness import TOP
 
@@ -43,6 +46,29 @@ def read(file):
 def library(name):
     """What is built of a crate for those that use it."""
     return TOP / "crates" / name / "out" / "rlib" / f"{name}.rlib"
+
+
+def are_left(names):
+    """Whether the libraries of these crates, and of all below them, were built over each other from
+    the sources as they are, by this toolchain."""
+    sources = [it for name in names for it in files_of(name, *PARTS)]
+    changed = max(it.stat().st_ctime for it in [KIT / "WHAT", TOP / "crates.txt", *sources])
+    built = {it: library(it).stat().st_mtime if library(it).is_dir() else 0 for it in names}
+    return all(time > max([changed, *(built[low] for low in libraries_of(name))]) for name, time in built.items())
+
+
+def take_left(names):
+    """Has `rt lib` take the libraries of these crates, and of all below them, where `rt ci` has left
+    them: that gives them no stamp, by which `rt lib` knows what is built."""
+    if not names or not are_left(names):
+        return
+    loader = importlib.machinery.SourceFileLoader("rtlib", str(KIT / "bin/rtlib.py"))
+    sys.modules["rtlib"] = rtlib = importlib.util.module_from_spec(importlib.util.spec_from_loader("rtlib", loader))
+    loader.exec_module(rtlib)
+    for crate in rtlib.crates_below(str(TOP)):
+        stamp = library(crate.name).parent / "stamp"
+        if crate.name in names and not stamp.exists():
+            stamp.write_text(crate.stamp(), encoding="utf-8")
 
 
 @functools.lru_cache(maxsize=None)

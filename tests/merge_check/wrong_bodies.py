@@ -27,7 +27,7 @@ import tempfile
 import threading
 
 from tests.harness import ARGUMENTS, TOP, Wrong, checks
-from tests.merge_check.crates import KIT, PARTS, check_words, crates_listed, libraries_of, library, read
+from tests.merge_check.crates import PARTS, check_words, crates_listed, libraries_of, read, take_left
 from tests.merge_check.edit_sums import note, noted, sum_of
 
 # The commands that run, and whether no more are to be started.
@@ -275,21 +275,11 @@ def work(trials):
         trials.ended(group, said)
 
 
-def are_left(names):
-    """Whether these libraries are those that a run of `rt ci` by this toolchain over the same sources
-    left. It gives them no stamp, as `rt lib` does."""
-    sources = [it for name in names for part in PARTS for it in (TOP / "crates" / name / part).rglob("*")]
-    changed = max(it.stat().st_ctime for it in [KIT / "WHAT", TOP / "crates.txt", *sources])
-    built = [library(it) for it in names]
-    return all(it.is_dir() and it.stat().st_mtime > changed and not (it.parent / "stamp").exists() for it in built)
-
-
 def make_libraries(crates):
     """Has `rt lib` make the libraries below these crates, where they are neither left nor made
     yet."""
     needed = {low for it in crates for low in libraries_of(it.name)}
-    if not needed or are_left(needed):
-        return
+    take_left(needed)
     for name in sorted(needed, key=lambda it: len(libraries_of(it))):
         ran = run("rt", "lib", cwd=TOP / "crates" / name)
         if ran.returncode:
