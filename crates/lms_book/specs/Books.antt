@@ -1,5 +1,5 @@
 -- What `reserve` and `open` answer, and what they change; when a book is in order.
-use Rattle.std.specs.Prelude.{◌≡◌, ◌⊎◌, ℕ, ◌+◌, ◌-◌, ◌≤◌, ◌<◌, List, [], ◌∷◌, ◌++◌, AllPairs, Result, Ok, Err, Some}
+use Rattle.std.specs.Prelude.{◌≡◌, ◌⊎◌, ℕ, ◌+◌, ◌-◌, ◌≤◌, ◌<◌, Bool, true, List, [], ◌∷◌, ◌++◌, AllPairs, Result, Ok, Err, Some}
 use Rattle.lms_spec.specs.Hss.{capacity_of}
 use Rattle.lms_hss.specs.Keys.{hss_key_of}
 use Rattle.lms_book.specs.declared.history.Entry.TheVariants.{Given, Burnt}
@@ -57,8 +57,8 @@ pub record IsReadFrom (store : StoreView) (book : BookState) : Type 0 where
 
 -- why a store was not opened: it failed, or the bytes that its read gave have this fault, or
 -- memory was refused
-abbrev pub HasCause : Type 0 → StoreView → OpenFault → StoreView → Type 0
-HasCause may_fail old open_faults.Store new = may_fail × (new ≡ after_failure old)
+abbrev pub HasCause : Bool → StoreView → OpenFault → StoreView → Type 0
+HasCause may_fail old open_faults.Store new = (may_fail ≡ true) × (new ≡ after_failure old)
 HasCause may_fail old (open_faults.Image fault) new =
     (text : List ℕ) × MayLeave old text × (fault_of text ≡ Some fault)
     × (new ≡ having_given text old)

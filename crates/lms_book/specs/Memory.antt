@@ -1,5 +1,5 @@
 -- A store in memory: the bytes that it held, and which calls are to fail.
-use Rattle.std.specs.Prelude.{◌≡◌, ◌⊎◌, ℕ, ◌-◌, ◌<◌, ◌≤◌, List, [], ◌∷◌, ◌++◌, length, get_or, drop, replicate, Option, Some, None, Bool, false, ◌||◌, map, Result, Ok, Err}
+use Rattle.std.specs.Prelude.{◌≡◌, ◌⊎◌, ℕ, ◌-◌, ◌<◌, ◌≤◌, List, [], ◌∷◌, ◌++◌, length, get_or, drop, replicate, Option, Some, None, Bool, true, false, ◌||◌, is_none, map, Result, Ok, Err}
 use Rattle.std.specs.Global.{Vec}
 use Rattle.std.proofs.Math.ListN.{set}
 use Rattle.lms_book.specs.declared.plans.Left.{Left}
@@ -119,19 +119,13 @@ Replaces old text (Ok done) new =
     Takes old text × (next_write old ≡ None) × (new ≡ holding (past_write old) text)
 Replaces old text (Err fault) new = FailsAsPlanned old text new
 
--- the store can read, and the next read is not to fail
-pub record CanRead (store : MemoryState) : Type 0 where
-  pub running : store.stopped ≡ false
-  pub unplanned : next_read store ≡ false
-  pub text_held : ¬ (store.text ≡ None)
-
--- the next read may fail: it will
-abbrev pub MayFail : MemoryState → Type 0
-MayFail store = ¬ CanRead store
+-- the next read fails: it is to, or a crash was, or nothing is held
+abbrev pub cannot_read : MemoryState → Bool
+cannot_read store = store.stopped || (next_read store || is_none store.text)
 
 -- what a read answers and leaves
 abbrev pub Reads : MemoryState → Result (Vec ℕ) ReadFault → MemoryState → Type 0
 Reads old (Ok text) new =
-    CanRead old × (old.text ≡ Some text.items) × (new ≡ giving (past_read old) text.items)
-Reads old (Err Device) new = (¬ CanRead old) × (new ≡ failed (past_read old))
-Reads old (Err OutOfMemory) new = CanRead old × (new ≡ past_read old)
+    (cannot_read old ≡ false) × (old.text ≡ Some text.items) × (new ≡ giving (past_read old) text.items)
+Reads old (Err Device) new = (cannot_read old ≡ true) × (new ≡ failed (past_read old))
+Reads old (Err OutOfMemory) new = (cannot_read old ≡ false) × (new ≡ past_read old)

@@ -1,6 +1,6 @@
 -- What a store is to contracts: what a crash leaves in it, now and at each moment before, what its
 -- last read gave, and how many calls failed. What a name calls `text` is a list of bytes.
-use Rattle.std.specs.Prelude.{◌≡◌, ◌⊎◌, ℕ, ◌+◌, ◌^◌, ◌-◌, max, min, List, [], ◌∷◌, ◌++◌, Contains, drop, length, Option, Some, None, Result, Ok, Err}
+use Rattle.std.specs.Prelude.{◌≡◌, ◌⊎◌, ℕ, ◌+◌, ◌^◌, ◌-◌, max, min, Bool, true, List, [], ◌∷◌, ◌++◌, Contains, drop, length, Option, Some, None, Result, Ok, Err}
 use Rattle.std.specs.Global.{Vec}
 use Rattle.lms_book.specs.declared.fault.ReadFault.{ReadFault}
 use Rattle.lms_book.specs.declared.fault.ReadFault.TheVariants.{Device, OutOfMemory}
@@ -77,10 +77,10 @@ WritesStore text old (Ok done) new = new ≡ after_write text old
 WritesStore text old (Err fault) new = FailsToWrite text old new
 
 -- what a read answers and leaves, where the device may fail or may not
-abbrev pub ReadsStore : Type 0 → StoreView → Result (Vec ℕ) ReadFault → StoreView → Type 0
+abbrev pub ReadsStore : Bool → StoreView → Result (Vec ℕ) ReadFault → StoreView → Type 0
 ReadsStore may_fail old (Ok text) new =
     MayLeave old text.items × (new ≡ having_given text.items old)
-ReadsStore may_fail old (Err Device) new = may_fail × (new ≡ after_failure old)
+ReadsStore may_fail old (Err Device) new = (may_fail ≡ true) × (new ≡ after_failure old)
 ReadsStore may_fail old (Err OutOfMemory) new = new ≡ old
 
 -- the moments of a call, from what the store was to what it is: those that the call added after the

@@ -195,17 +195,17 @@ impl MemoryStore {
 }
 
 impl StateStore for MemoryStore {
-    ghost use Rattle.lms_book.specs.Memory.{MayFail, view_of, Reads, Replaces};
+    ghost use Rattle.lms_book.specs.Memory.{cannot_read, view_of, Reads, Replaces};
     ghost use Rattle.lms_book.specs.Stops.{ReadsStore, WritesStore};
 
     ghost seen = { view_of };
 
-    ghost may_fail = { MayFail };
+    ghost may_fail = { cannot_read };
 
     /// Fails as planned, after a planned crash, and while nothing is stored (`text` answers
     /// `None`).
     fn read(&mut self, alloc: Global) -> Result<Vec<u8>, ReadFault>
-        ensures reads { ReadsStore (MayFail self.old) (view_of self.old) result (view_of self.new) }
+        ensures reads { ReadsStore (cannot_read self.old) (view_of self.old) result (view_of self.new) }
         ensures planned { Reads self.old result self.new }
     {
         let fails = self.next_read();

@@ -1,4 +1,5 @@
 //! A store that keeps one byte string, and replaces it whole.
+ghost use Rattle.std.specs.Prelude.{Bool};
 ghost use Rattle.lms_book.specs.Stops.{StoreView, ReadsStore, WritesStore};
 
 use crate::fault::{ReadFault, StoreFault};
@@ -13,7 +14,7 @@ pub trait StateStore: Send {
     ghost seen: { Self → StoreView };
 
     /// Whether the next read may fail.
-    ghost may_fail: { Self → Type 0 };
+    ghost may_fail: { Self → Bool };
 
     /// The stored bytes. They are among those that a crash now could leave, and from now on those
     /// that the last read gave. `Device` where the store failed, which it counts; `OutOfMemory`

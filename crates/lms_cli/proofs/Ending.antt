@@ -1,149 +1,195 @@
 -- How a run ends, by the command and by the fault.
-use Rattle.std.proofs.Common.{append-nil, sym, [], Option, ◌≡◌, ◌<◌, ◌≤◌, ℕ, List, Result, Ok, Err, refl, subst, inl, inr, arith}
-use Rattle.std.specs.Prelude.{IfErr, OnErr, OnOk}
+use Rattle.std.proofs.Common.{append-nil, sym, [], Option, ◌⊎◌, ◌≡◌, ◌∙◌, ◌<◌, ◌≤◌, ℕ, List, Result, Ok, Err, ap, subst, inl, inr, length, ⊎_elim, arith}
+use Rattle.std.specs.Prelude.{OnErr, OnOk}
 use Rattle.std.specs.Io.KnownBytes.{Appends}
 use Rattle.lms_lines.specs.AnswerLines.{AppendsFront}
+use Rattle.lms_hss.specs.declared.key.HssKey.{HssKey as KeyOfCode}
 use Rattle.clap.specs.Words.{Text}
-use Rattle.lms_cli.specs.Commands.{AreTakenAs}
+use Rattle.lms_commands.specs.BatchLogs.{AreUnread, LogsUnanswered}
 use Rattle.lms_commands.specs.Faults.{status_number, status_of}
-use Rattle.lms_commands.specs.Batches.{PrintsNothing}
-use Rattle.lms_commands.specs.Logs.{WorldCalls}
-use Rattle.lms_commands.specs.SignLogs.{LogsSign, LogsSignFailed}
-use Rattle.lms_cli.specs.Runs.{AsksToRead, Ends, RunFails, FailsToObey, Moment, Obeys, ReadsInput}
+use Rattle.lms_commands.specs.Keygen.{IsNoKey}
+use Rattle.lms_commands.specs.KeygenLogs.{LogsUnmade}
+use Rattle.lms_commands.specs.Logs.{IsLockRefused, IsReadRefused, IsWriteRefused, KeyState, LogsUnopened, LogsUnsigned, WorldCalls}
+use Rattle.lms_commands.specs.SignLogs.{LogsSign, LogsSignFailed, LogsUndelivered}
+use Rattle.lms_commands.specs.Verdicts.{verdict_status}
+use Rattle.lms_cli.specs.RunLogs.{LogsFailed, LogsObeyed, LogsRefused, LogsRun}
+use Rattle.lms_cli.specs.Runs.{AsksToRead, ReadsInput, Runs, Setting}
+use Rattle.lms_world.specs.Held.{Follows}
 use Rattle.lms_cli.specs.declared.command.types.Command.{Command}
 use Rattle.lms_cli.specs.declared.command.types.Command.TheVariants.{Batch, Info, Keygen, Sign, Verify}
 use Rattle.lms_commands.specs.declared.fault.Fault.{Fault}
-use Rattle.lms_commands.specs.declared.fault.Fault.TheVariants.{BadLevels, TooManyLevels, TooTall, BadSeed, BadId, BadRandom, BadWorkers, BadJob, TooManyJobs, StateExists, StateInUse, ReadState, BadState, WriteState, WriteStateBurnt, Exhausted, OutOfMemory, OutOfMemoryBurnt, Partial, ReadInput, WriteOutput}
+use Rattle.lms_commands.specs.declared.fault.Fault.TheVariants.{BadLevels, TooManyLevels, TooTall, BadSeed, BadId, BadRandom, BadWorkers, BadJob, TooManyJobs, StateExists, StateInUse, ReadState, BadState, WriteState, WriteStateBurnt, Exhausted, OutOfMemory, OutOfMemoryBurnt, ReadInput, WriteOutput}
 use Rattle.lms_commands.specs.declared.status.Status.{Status}
-use Rattle.lms_commands.specs.declared.status.Status.TheVariants as status
-use Rattle.lms_commands.specs.declared.status.Status.TheVariants.{Negative}
+use Rattle.lms_commands.specs.declared.status.Status.TheVariants.{Done, Negative}
+use Rattle.lms_commands.specs.declared.verdict.Verdict.{Verdict}
+use Rattle.lms_commands.specs.declared.verdict.Verdict.TheVariants.{Valid, Invalid}
 
--- a run ends as its command does
-pub command_ends : (old new : Moment) (words : List Text) (command : Command) → AreTakenAs words command
-    → (end : Status) → Obeys old new command end → Ends old new words end
-command_ends old new words command reads status.Done is = inr (command, reads, is)
-command_ends old new words command reads status.Negative is = inl (command, reads, is)
-command_ends old new words command reads status.Usage is = absurd is
-command_ends old new words command reads status.State is = absurd is
-command_ends old new words command reads status.Exhausted is = absurd is
-command_ends old new words command reads status.Memory is = absurd is
-command_ends old new words command reads status.Stream is = absurd is
+-- the fault has a status of 2 at least
+abbrev IsHigh : Fault → Type 0
+IsHigh fault = 2 ≤ status_number (status_of fault)
 
--- a run fails as its command does, which prints nothing but where the output fails
-pub command_fails : (old new : Moment) (words : List Text) (command : Command) → AreTakenAs words command
-    → (fault : Fault) → FailsToObey old new command fault → (PrintsNothing fault → new.output ≡ old.output) → RunFails old new words fault
-command_fails old new words command reads BadLevels is silent = (silent tt, (command, reads, is))
-command_fails old new words command reads TooManyLevels is silent = (silent tt, (command, reads, is))
-command_fails old new words command reads TooTall is silent = (silent tt, (command, reads, is))
-command_fails old new words command reads BadSeed is silent = (silent tt, (command, reads, is))
-command_fails old new words command reads BadId is silent = (silent tt, (command, reads, is))
-command_fails old new words command reads BadRandom is silent = (silent tt, (command, reads, is))
-command_fails old new words command reads BadWorkers is silent = (silent tt, (command, reads, is))
-command_fails old new words command reads (BadJob line) is silent = (silent tt, (command, reads, is))
-command_fails old new words command reads TooManyJobs is silent = (silent tt, (command, reads, is))
-command_fails old new words command reads (Partial signed asked) is silent = (command, reads, is)
-command_fails old new words command reads StateExists is silent = (silent tt, (command, reads, is))
-command_fails old new words command reads StateInUse is silent = (silent tt, (command, reads, is))
-command_fails old new words command reads ReadState is silent = (silent tt, (command, reads, is))
-command_fails old new words command reads (BadState fault) is silent = (silent tt, (command, reads, is))
-command_fails old new words command reads WriteState is silent = (silent tt, (command, reads, is))
-command_fails old new words command reads (WriteStateBurnt start len) is silent = (silent tt, (command, reads, is))
-command_fails old new words command reads (Exhausted left) is silent = (silent tt, (command, reads, is))
-command_fails old new words command reads OutOfMemory is silent = (silent tt, inr (command, reads, is))
-command_fails old new words command reads (OutOfMemoryBurnt count) is silent = (silent tt, (command, reads, is))
-command_fails old new words command reads ReadInput is silent = (silent tt, (command, reads, is))
-command_fails old new words command reads WriteOutput is silent = inr (command, reads, is)
+module _ (fault : Fault) where
+  at : (other : Fault) → IsHigh other → fault ≡ other → IsHigh fault
+  at other high is = subst IsHigh (sym is) high
 
--- a run that fails ends with the fault's status
-pub ends_at : (old new : Moment) (words : List Text) (fault : Fault)
-    → RunFails old new words fault → Ends old new words (status_of fault)
-ends_at old new words BadLevels is = inr (BadLevels, refl, is)
-ends_at old new words TooManyLevels is = inr (TooManyLevels, refl, is)
-ends_at old new words TooTall is = inr (TooTall, refl, is)
-ends_at old new words BadSeed is = inr (BadSeed, refl, is)
-ends_at old new words BadId is = inr (BadId, refl, is)
-ends_at old new words BadRandom is = inr (BadRandom, refl, is)
-ends_at old new words BadWorkers is = inr (BadWorkers, refl, is)
-ends_at old new words (BadJob line) is = inr (BadJob line, refl, is)
-ends_at old new words TooManyJobs is = inr (TooManyJobs, refl, is)
-ends_at old new words (Partial signed asked) is = inr (Partial signed asked, refl, is)
-ends_at old new words StateExists is = (StateExists, refl, is)
-ends_at old new words StateInUse is = (StateInUse, refl, is)
-ends_at old new words ReadState is = (ReadState, refl, is)
-ends_at old new words (BadState fault) is = (BadState fault, refl, is)
-ends_at old new words WriteState is = (WriteState, refl, is)
-ends_at old new words (WriteStateBurnt start len) is = (WriteStateBurnt start len, refl, is)
-ends_at old new words (Exhausted left) is = (Exhausted left, refl, is)
-ends_at old new words OutOfMemory is = (OutOfMemory, refl, is)
-ends_at old new words (OutOfMemoryBurnt count) is = (OutOfMemoryBurnt count, refl, is)
-ends_at old new words ReadInput is = (ReadInput, refl, is)
-ends_at old new words WriteOutput is = (WriteOutput, refl, is)
+  at_lock : IsLockRefused fault → IsHigh fault
+  at_lock (inl is) = at StateInUse (omega arith) is
+  at_lock (inr is) = at OutOfMemory (omega arith) is
 
--- two facts of an error make a third
-pub both_err : {T E : Type 0} (r : Result T E) (P Q R : E → Type 0) → ((e : E) → P e → Q e → R e) → IfErr r P → IfErr r Q → IfErr r R
-both_err (Ok x) P Q R more p q = p
-both_err (Err e) P Q R more p q = more e p q
+  at_read : IsReadRefused fault → IsHigh fault
+  at_read (inl is) = at ReadInput (omega arith) is
+  at_read (inr is) = at OutOfMemory (omega arith) is
 
--- `batch` alone is partly done
-pub partly_done : (old new : Moment) (command : Command) (signed asked : ℕ) → FailsToObey old new command (Partial signed asked) → ReadsInput command
-partly_done old new (Keygen levels seed id state public) signed asked (inl is) = absurd is.0
-partly_done old new (Keygen levels seed id state public) signed asked (inr is) = absurd is.2
-partly_done old new (Info state) signed asked is = absurd is.0
-partly_done old new (Sign state random message out) signed asked is = absurd is.2
-partly_done old new (Batch state workers) signed asked is = tt
-partly_done old new (Verify public message signature) signed asked (inl is) = absurd is
-partly_done old new (Verify public message signature) signed asked (inr (inl is)) = absurd is.1
-partly_done old new (Verify public message signature) signed asked (inr (inr (inl is))) = absurd is.2
-partly_done old new (Verify public message signature) signed asked (inr (inr (inr is))) = let other = is.3 in cc
+  at_write : IsWriteRefused fault → IsHigh fault
+  at_write (inl is) = at WriteOutput (omega arith) is
+  at_write (inr is) = at OutOfMemory (omega arith) is
 
--- so a fault with a line on the errors and a status below 2 is that of `batch`
-pub speaks : (old new : Moment) (words : List Text) (fault : Fault) → status_number (status_of fault) < 2 → RunFails old new words fault
-    → (status_of fault ≡ Negative) × AsksToRead words
-speaks old new words (Partial signed asked) low (command, reads, is) = (refl, (command, reads, partly_done old new command signed asked is))
-speaks old new words BadLevels low is = absurd (omega (arith, low))
-speaks old new words TooManyLevels low is = absurd (omega (arith, low))
-speaks old new words TooTall low is = absurd (omega (arith, low))
-speaks old new words BadSeed low is = absurd (omega (arith, low))
-speaks old new words BadId low is = absurd (omega (arith, low))
-speaks old new words BadRandom low is = absurd (omega (arith, low))
-speaks old new words BadWorkers low is = absurd (omega (arith, low))
-speaks old new words (BadJob line) low is = absurd (omega (arith, low))
-speaks old new words TooManyJobs low is = absurd (omega (arith, low))
-speaks old new words StateExists low is = absurd (omega (arith, low))
-speaks old new words StateInUse low is = absurd (omega (arith, low))
-speaks old new words ReadState low is = absurd (omega (arith, low))
-speaks old new words (BadState fault) low is = absurd (omega (arith, low))
-speaks old new words WriteState low is = absurd (omega (arith, low))
-speaks old new words (WriteStateBurnt start len) low is = absurd (omega (arith, low))
-speaks old new words (Exhausted left) low is = absurd (omega (arith, low))
-speaks old new words OutOfMemory low is = absurd (omega (arith, low))
-speaks old new words (OutOfMemoryBurnt count) low is = absurd (omega (arith, low))
-speaks old new words ReadInput low is = absurd (omega (arith, low))
-speaks old new words WriteOutput low is = absurd (omega (arith, low))
+  at_no_key : (levels seed id : List ℕ) → IsNoKey levels seed id fault → IsHigh fault
+  at_no_key levels seed id (inl is) = at OutOfMemory (omega arith) is
+  at_no_key levels seed id (inr (inl (is, _))) = at BadLevels (omega arith) is
+  at_no_key levels seed id (inr (inr (inl (is, _)))) = at TooManyLevels (omega arith) is
+  at_no_key levels seed id (inr (inr (inr (inl (is, _))))) = at TooTall (omega arith) is
+  at_no_key levels seed id (inr (inr (inr (inr (_, inl (is, _)))))) = at BadSeed (omega arith) is
+  at_no_key levels seed id (inr (inr (inr (inr (_, inr (is, _, _)))))) = at BadId (omega arith) is
 
--- a fault with a status from 2 to 5 prints nothing
-pub prints_nothing : (fault : Fault) (P : Type 0) → (PrintsNothing fault → P) → 2 ≤ status_number (status_of fault) → status_number (status_of fault) < 6 → P
-prints_nothing (Partial signed asked) P silent low high = absurd (omega (arith, low))
-prints_nothing WriteOutput P silent low high = absurd (omega (arith, high))
-prints_nothing BadLevels P silent low high = silent tt
-prints_nothing TooManyLevels P silent low high = silent tt
-prints_nothing TooTall P silent low high = silent tt
-prints_nothing BadSeed P silent low high = silent tt
-prints_nothing BadId P silent low high = silent tt
-prints_nothing BadRandom P silent low high = silent tt
-prints_nothing BadWorkers P silent low high = silent tt
-prints_nothing (BadJob line) P silent low high = silent tt
-prints_nothing TooManyJobs P silent low high = silent tt
-prints_nothing StateExists P silent low high = silent tt
-prints_nothing StateInUse P silent low high = silent tt
-prints_nothing ReadState P silent low high = silent tt
-prints_nothing (BadState bad) P silent low high = silent tt
-prints_nothing WriteState P silent low high = silent tt
-prints_nothing (WriteStateBurnt start len) P silent low high = silent tt
-prints_nothing (Exhausted left) P silent low high = silent tt
-prints_nothing OutOfMemory P silent low high = silent tt
-prints_nothing (OutOfMemoryBurnt count) P silent low high = silent tt
-prints_nothing ReadInput P silent low high = silent tt
+  at_unread : (input : Option (List ℕ)) → AreUnread input fault → IsHigh fault
+  at_unread input (inl refused) = at_read refused
+  at_unread input (inr (inl (line, is, _))) = at (BadJob line) (omega arith) is
+  at_unread input (inr (inr (is, _))) = at TooManyJobs (omega arith) is
+
+  at_unopened : (old new : WorldCalls) → LogsUnopened fault old new → IsHigh fault
+  at_unopened old new (inl (is, _)) = at OutOfMemory (omega arith) is
+  at_unopened old new (inr (_, inl (is, _))) = at OutOfMemory (omega arith) is
+  at_unopened old new (inr (_, inr (inl (is, _, _)))) = at ReadState (omega arith) is
+  at_unopened old new (inr (_, inr (inr (bad, _, is, _, _, _)))) = at (BadState bad) (omega arith) is
+
+  at_unsigned : (n : ℕ) (state : KeyState) (old new : WorldCalls) → LogsUnsigned n fault state old new → IsHigh fault
+  at_unsigned n state old new (inl (is, _, _)) = at (Exhausted _) (omega arith) is
+  at_unsigned n state old new (inr (inl (is, _))) = at OutOfMemory (omega arith) is
+  at_unsigned n state old new (inr (inr (inl (is, _)))) = at (WriteStateBurnt _ _) (omega arith) is
+  at_unsigned n state old new (inr (inr (inr (is, _)))) = at (OutOfMemoryBurnt _) (omega arith) is
+
+  -- nothing is printed, at a status of 2 at least; or the output fails; or a batch is partly done
+  abbrev Fails : Type 0 → List ℕ → List ℕ → Type 0
+  Fails IsBatch before printed =
+      ((printed ≡ before) × IsHigh fault) ⊎ ((fault ≡ WriteOutput) ⊎ (IsBatch × (status_of fault ≡ Negative)))
+
+  module _ (before printed : List ℕ) where
+    unmade : (key : KeyOfCode) (public : List ℕ) (old new : WorldCalls)
+        → LogsUnmade key public before printed fault old new → Fails ⊥ before printed
+    unmade key public old new (inl (same, inl (is, _))) = inl (same, at StateExists (omega arith) is)
+    unmade key public old new (inl (same, inr (inl (is, _)))) = inl (same, at OutOfMemory (omega arith) is)
+    unmade key public old new (inl (same, inr (inr (inl (inl (is, _)))))) = inl (same, at OutOfMemory (omega arith) is)
+    unmade key public old new (inl (same, inr (inr (inl (inr (is, _)))))) = inl (same, at WriteState (omega arith) is)
+    unmade key public old new (inl (same, inr (inr (inr (refused, _))))) = inl (same, at_write refused)
+    unmade key public old new (inr (is, _, _)) = inr (inl is)
+
+    unanswered : (input rest : Option (List ℕ)) (old new : WorldCalls)
+        → LogsUnanswered input rest before printed fault old new → Fails (Unit {0}) before printed
+    unanswered input rest old new (inl (inl (is, _), same)) = inl (same, at_unopened old new is)
+    unanswered input rest old new (inl (inr (state, inl (unread, _)), same)) = inl (same, at_unread input unread)
+    unanswered input rest old new (inl (inr (state, inr (jobs, _, _, is)), same)) =
+        inl (same, at_unsigned (length jobs) state old new is)
+    unanswered input rest old new (inr (inl (_, _, is, _, _))) = inr (inr (tt, ap status_of is))
+    unanswered input rest old new (inr (inr (is, _))) = inr (inl is)
+
+    undelivered : (random message out : List ℕ) (old new : WorldCalls)
+        → LogsUndelivered random message out before printed fault old new → Fails ⊥ before printed
+    undelivered random message out old new (inl (_, inl is, same)) = inl (same, at_unopened _ new is)
+    undelivered random message out old new (inl (_, inr (state, is), same)) = inl (same, at_unsigned 1 state _ new is)
+    undelivered random message out old new (inr (is, _)) = inr (inl is)
+
+    failed : (command : Command) (input rest : Option (List ℕ)) (old new : WorldCalls)
+        → LogsFailed command fault input rest before printed old new → Fails (ReadsInput command) before printed
+    failed (Keygen _ _ _ _ _) input rest old new (inl (is, _, same)) = inl (same, at_no_key _ _ _ is)
+    failed (Keygen _ _ _ _ _) input rest old new (inr (_, _, inl (refused, _, same))) = inl (same, at_lock refused)
+    failed (Keygen _ _ _ _ _) input rest old new (inr (key, _, inr (last, is, _))) = unmade key _ _ last is
+    failed (Info _) input rest old new (inl (refused, _, same)) = inl (same, at_lock refused)
+    failed (Info _) input rest old new (inr (last, inl (is, same), _)) = inl (same, at_unopened _ last is)
+    failed (Info _) input rest old new (inr (_, inr (is, _), _)) = inr (inl is)
+    failed (Sign _ _ _ _) input rest old new (inl (is, _, same, _)) = inl (same, at BadRandom (omega arith) is)
+    failed (Sign _ _ _ _) input rest old new (inr (inl (refused, _, same, _))) = inl (same, at_read refused)
+    failed (Sign _ _ _ _) input rest old new (inr (inr (inl (_, refused, _, same, _)))) = inl (same, at_lock refused)
+    failed (Sign _ _ _ _) input rest old new (inr (inr (inr (c, text, last, _, is, _)))) =
+        undelivered c text _ _ last is
+    failed (Batch _ _) input rest old new (inl (is, _, same, _, _)) = inl (same, at BadWorkers (omega arith) is)
+    failed (Batch _ _) input rest old new (inr (inl (refused, _, same, _, _))) = inl (same, at_lock refused)
+    failed (Batch _ _) input rest old new (inr (inr (last, is, _, _))) = unanswered input rest _ last is
+    failed (Verify _ _ _) input rest old new (inl (refused, same, _)) = inl (same, at_read refused)
+    failed (Verify _ _ _) input rest old new (inr (is, _)) = inr (inl is)
+
+    refused : (words : List Text) (input rest : Option (List ℕ)) (old new : WorldCalls)
+        → LogsRefused words fault input rest before printed old new → Fails (AsksToRead words) before printed
+    refused words input rest old new (inl (_, inl (is, same))) = inl (same, at OutOfMemory (omega arith) is)
+    refused words input rest old new (inl (_, inr (_, is))) = inr (inl is)
+    refused words input rest old new (inr (command, taken, is)) =
+        ⊎_elim inl (λ more. inr (⊎_elim inl (λ part. inr ((command, taken, part.0), part.1)) more))
+        (failed command input rest old new is)
+
+-- a fault with a line on the errors and a status below 2 is that of `batch`
+pub speaks : (words : List Text) (fault : Fault) (input rest : Option (List ℕ)) (before printed : List ℕ)
+    (old new : WorldCalls) → status_number (status_of fault) < 2
+    → LogsRefused words fault input rest before printed old new → (status_of fault ≡ Negative) × AsksToRead words
+speaks words fault input rest before printed old new low is =
+    by_fails (refused fault before printed words input rest old new is)
+  where
+    by_fails : Fails fault (AsksToRead words) before printed → (status_of fault ≡ Negative) × AsksToRead words
+    by_fails (inl (same, high)) = absurd (omega (arith, low, high))
+    by_fails (inr (inl is)) = let high = at fault WriteOutput (omega arith) is in absurd (omega (arith, low, high))
+    by_fails (inr (inr (asks, negative))) = (negative, asks)
+
+-- a command that is done ends below 2
+answers : (verdict : Verdict) → status_number (verdict_status verdict) < 2
+answers Valid = omega arith
+answers Invalid = omega arith
+
+too_low : (end is : Status) → end ≡ is → status_number is < 2 → 2 ≤ status_number end → ⊥
+too_low end is same low high =
+    let both : 2 ≤ status_number is = subst (λ (s : Status). 2 ≤ status_number s) same high in
+    absurd (omega (arith, low, both))
+
+pub obeyed_low : (command : Command) (end : Status) (input rest : Option (List ℕ)) (before printed : List ℕ)
+    (old new : WorldCalls) → 2 ≤ status_number end → LogsObeyed command end input rest before printed old new → ⊥
+obeyed_low (Keygen _ _ _ _ _) end input rest before printed old new high is = too_low end _ is.0 (omega arith) high
+obeyed_low (Info _) end input rest before printed old new high is = too_low end _ is.0 (omega arith) high
+obeyed_low (Sign _ _ _ _) end input rest before printed old new high is = too_low end _ is.0 (omega arith) high
+obeyed_low (Batch _ _) end input rest before printed old new high is = too_low end _ is.0 (omega arith) high
+obeyed_low (Verify _ _ _) end input rest before printed old new high is = too_low end _ is.1 (answers is.0) high
+
+-- at a status from 2 to 5 nothing is printed
+silent_at : (words : List Text) (end : Status) (input rest : Option (List ℕ)) (before printed : List ℕ)
+    (errors_before errors_after : Option (List ℕ)) (old new : WorldCalls)
+    → LogsRun words end input rest before printed errors_before errors_after old new
+    → 2 ≤ status_number end → status_number end < 6 → printed ≡ before
+silent_at words end input rest before printed eb ea old new (inl (inl (_, inl (_, is)))) high below =
+    absurd (too_low end Done is (omega arith) high)
+silent_at words end input rest before printed eb ea old new (inl (inl (_, inr (_, _, same)))) high below = same
+silent_at words end input rest before printed eb ea old new (inl (inr (command, _, is))) high below =
+    absurd (obeyed_low command end input rest before printed old new high is)
+silent_at words end input rest before printed eb ea old new (inr (fault, end_is, _, is)) high below =
+    by_fails (refused fault before printed words input rest old new is)
+  where
+    by_fails : Fails fault (AsksToRead words) before printed → printed ≡ before
+    by_fails (inl (same, _)) = same
+    by_fails (inr (inl is)) =
+        let six : status_number end ≡ 6 = ap status_number (end_is ∙ ap status_of is) in
+        absurd (omega (arith, below, six))
+    by_fails (inr (inr (_, negative))) = absurd (too_low end Negative (end_is ∙ negative) (omega arith) high)
+
+-- so a run is what its contract says, by its log
+pub runs : {I E : Type 0} (old new : Setting I E) (words : List Text) (end : Status)
+    → LogsRun words end old.remaining new.remaining old.output new.output old.error_text new.error_text
+    old.calls new.calls
+    → Follows old.memory old.calls new.memory new.calls
+    → (status_number end < 2 → (new.errors ≡ old.errors) ⊎ ((end ≡ Negative) × AsksToRead words))
+    → (new.input ≡ old.input) ⊎ AsksToRead words → Runs old new words end
+runs old new words end logged follows quiet unread = record {
+  logged = logged;
+  follows = follows;
+  quiet = quiet;
+  silent = silent_at words end _ _ _ _ _ _ _ _ logged;
+  unread = unread;
+}
 
 -- what is printed whole or cut short
 pub any_front : {T E : Type 0} (r : Result T E) (before after : Option (List ℕ)) (text : List ℕ) → OnOk r (Appends before after text)

@@ -5,3 +5,5 @@ pub mod Turning
 pub mod FullRows
 pub mod Parsing
 pub mod Stops
+pub mod FilesStaying
+pub mod ChangesInMemory

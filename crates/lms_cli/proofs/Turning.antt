@@ -25,7 +25,7 @@ obeyed (Keygen levels seed id state public) end input rest before printed whole 
     let turn = keygen_turn key _ _ before printed whole is in (turn.0, [], turn.1, (refl, turn.2))
 obeyed (Info state) end input rest before printed whole (done, is) = let turn = info_turn _ before printed whole is in (turn.0, [], turn.1, (refl, turn.2))
 obeyed (Sign state random message out) end input rest before printed whole (done, is) = sign_turn _ _ _ _ before printed whole is
-obeyed (Batch state workers) end input rest before printed whole (done, is) = jobs_turn _ input rest before printed whole is
+obeyed (Batch state workers) end input rest before printed whole (done, is) = jobs_turn _ _ input rest before printed whole is
 obeyed (Verify public message signature) end input rest before printed whole (verdict, at, is) =
     let turn = verify_turn _ _ _ verdict before printed whole is in (turn.0, [], turn.1, (refl, turn.2))
 
@@ -39,7 +39,7 @@ failed (Keygen levels seed id state public) fault input rest before printed whol
 failed (Info state) fault input rest before printed whole is =
     let turn = info_failed_turn _ before printed fault whole is in (turn.0, [], turn.1, (refl, turn.2))
 failed (Sign state random message out) fault input rest before printed whole is = sign_failed_turn _ _ _ _ before printed fault whole is
-failed (Batch state workers) fault input rest before printed whole is = jobs_failed_turn _ input rest before printed fault whole is
+failed (Batch state workers) fault input rest before printed whole is = jobs_failed_turn _ _ input rest before printed fault whole is
 failed (Verify public message signature) fault input rest before printed whole is =
     let turn = verify_failed_turn _ _ _ before printed fault whole is in (turn.0, [], turn.1, (refl, turn.2))
 

@@ -4,3 +4,4 @@ pub mod Runs
 pub mod UsageArguments
 pub mod RunLogs
 pub mod RunTurns
+pub mod RunsInMemory

@@ -32,7 +32,8 @@ LogsObeyed (Sign state random message out) end input rest before printed old new
     × LogsSign (string_bytes random) (string_bytes message) (string_bytes state)
     (string_bytes out) before printed old new
 LogsObeyed (Batch state workers) end input rest before printed old new =
-    (end ≡ Done) × LogsJobs (string_bytes state) input rest before printed old new
+    (end ≡ Done)
+    × LogsJobs (string_bytes state) (string_bytes workers) input rest before printed old new
 LogsObeyed (Verify public message signature) end input rest before printed old new =
     (verdict : Verdict) × (end ≡ verdict_status verdict)
     × LogsVerify (string_bytes public) (string_bytes message)
@@ -52,7 +53,7 @@ LogsFailed (Sign state random message out) fault input rest before printed old n
     LogsSignFailed (string_bytes random) (string_bytes message) (string_bytes state)
     (string_bytes out) before printed fault old new
 LogsFailed (Batch state workers) fault input rest before printed old new =
-    LogsJobsFailed (string_bytes state) input rest before printed fault old new
+    LogsJobsFailed (string_bytes state) (string_bytes workers) input rest before printed fault old new
 LogsFailed (Verify public message signature) fault input rest before printed old new =
     LogsVerifyFailed (string_bytes public) (string_bytes message)
     (string_bytes signature) before printed fault old new

@@ -1,5 +1,5 @@
-//! A law over runs of the program at one state, as a contract. No call of a product needs this
-//! function.
+//! Laws over runs of the program, as contracts. No call of a product needs these functions.
+ghost use Rattle.lms_cli.specs.RunsInMemory.{ChangesAskedInMemory, FilesStay};
 ghost use Rattle.lms_cli.specs.RunTurns.{NoIndexLeavesTwice};
 
 /// Of runs of the program, each perhaps cut off, with the calls that the contract of `run`
@@ -16,4 +16,17 @@ ghost use Rattle.lms_cli.specs.RunTurns.{NoIndexLeavesTwice};
 /// is.
 pub fn no_index_leaves_twice()
     ensures { NoIndexLeavesTwice }
+{}
+
+/// Of a run over files in memory that ends with a status of 2 to 5, by its calls: no file is
+/// changed.
+pub fn files_stay()
+    ensures { FilesStay }
+{}
+
+/// Of a run over files in memory, by its calls: only what a command that the arguments ask for may
+/// change is changed. `verify` changes nothing, and neither does a run that prints help or a
+/// mistake.
+pub fn changes_what_is_asked()
+    ensures { ChangesAskedInMemory }
 {}

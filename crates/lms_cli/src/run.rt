@@ -1,20 +1,19 @@
 //! The whole program, over its arguments, its files and its streams.
-ghost use Rattle.std.specs.Prelude.{Some, ◌≡◌, ◌⊎◌, ◌<◌, ◌≤◌, ℕ, List, IfErr, IfOk, MatchResult, OnErr, OnOk, map};
+ghost use Rattle.std.specs.Prelude.{◌≡◌, ◌⊎◌, ◌<◌, IfErr, IfOk, MatchResult, OnOk, map};
 ghost use Rattle.std.specs.Io.KnownBytes.{Appends};
-ghost use Rattle.lms_commands.specs.Batches.{PrintsNothing};
 ghost use Rattle.lms_lines.specs.AnswerLines.{AppendsFront};
 ghost use Rattle.lms_commands.specs.Faults.{fault_line, status_number, status_of};
-ghost use Rattle.lms_world.specs.Known.{SameFile, SameNodes};
+ghost use Rattle.lms_world.specs.Held.{Follows};
 ghost use Rattle.lms_cli.specs.RunLogs.{LogsAnswered, LogsFailed, LogsObeyed, LogsRefused};
-ghost use Rattle.lms_cli.specs.Runs.{AsksToRead, AsksToTouch, Ends, RunFails, FailsToObey, Keeps, KeepsNodes, NoneWrites, Obeys, ReadsInput, Runs, Touches, Writes, moment, setting};
+ghost use Rattle.lms_cli.specs.Runs.{AsksToRead, ReadsInput, Runs, setting};
 
 use crate::command::{Command, CommandFault, command};
 use lms_commands::{
-    Fault, Status, describe, key_from, make_key, print_fault, sign_file, sign_jobs, verify_files,
+    Fault, Resources, SignRequest, Status, describe, key_from, make_key, print_fault, sign_file,
+    sign_jobs, verify_files,
 };
-use lms_hss::{Progress, Unwatched};
+use lms_hss::Progress;
 use lms_world::{Printer, World};
-use std::alloc::Global;
 use std::convert::AsStr;
 use std::io;
 use std::io::{Read, Write};
@@ -25,55 +24,27 @@ use std::thread::Threads;
 /// files and its three streams. Answers how it ends; the exit status is that answer's code.
 ///
 /// A fault is one line on `errors`, `error: ` and its text. Help is printed to `output` and a
-/// mistake in the arguments to `errors`, both in clap's wording. Nothing but `keygen`, `info`,
-/// `sign` and `batch` may change files or states, and of the files only the one that `--public` or
+/// mistake in the arguments to `errors`, both in clap's wording. Nothing but `keygen`,
+/// `sign` and `batch` changes files or states, and of the files only the one that `--public` or
 /// `--out` names. `keygen` and `sign` alone keep nodes of trees beside the state. `input` is read
-/// by `batch` alone.
+/// by `batch` alone. `resources.progress` gets how far `keygen`, `sign` and `batch` are while they
+/// compute trees.
 pub fn run<S: AsStr, W: World, I: Read, O: Write, E: Write>(
-    rt: &(impl Threads + Wait + Sync),
-    alloc: Global,
+    resources: &Resources<impl Threads + Wait + Sync, impl Progress>,
     words: &[S],
     world: &mut W,
-    log: &mut W::Log,
     input: &mut I,
     output: &mut Printer<O>,
     errors: &mut E,
 ) -> Status
     ensures { Runs
-        (setting world.old (W.known world.old) (W.events log.old) input.old
+        (setting (W.memory world.old) (W.events world.old) input.old
         (I.remaining input.old) output.old errors.old (E.contents errors.old))
-        (setting world.new (W.known world.new) (W.events log.new) input.new
+        (setting (W.memory world.new) (W.events world.new) input.new
         (I.remaining input.new) output.new errors.new (E.contents errors.new))
         (map S.text words.now) result }
 {
-    run_watched(
-        rt, alloc, words, world, log, input, output, errors, &Unwatched,
-    )
-}
-
-/// As `run`, and reports to `progress` how far `keygen`, `sign` and `batch` are while they compute
-/// trees, which may take hours where the trees are tall.
-pub fn run_watched<S: AsStr, W: World, I: Read, O: Write, E: Write>(
-    rt: &(impl Threads + Wait + Sync),
-    alloc: Global,
-    words: &[S],
-    world: &mut W,
-    log: &mut W::Log,
-    input: &mut I,
-    output: &mut Printer<O>,
-    errors: &mut E,
-    progress: &impl Progress,
-) -> Status
-    ensures { Runs
-        (setting world.old (W.known world.old) (W.events log.old) input.old
-        (I.remaining input.old) output.old errors.old (E.contents errors.old))
-        (setting world.new (W.known world.new) (W.events log.new) input.new
-        (I.remaining input.new) output.new errors.new (E.contents errors.new))
-        (map S.text words.now) result }
-{
-    match answer(
-        rt, alloc, words, world, log, input, output, errors, progress,
-    ) {
+    match answer(resources, words, world, input, output, errors) {
         Ok(status) => status,
         Err(fault) => report(fault, errors),
     }
@@ -91,43 +62,27 @@ pub fn report<E: Write>(fault: Fault, errors: &mut E) -> Status
 
 /// Does what the arguments ask, and prints all but a fault.
 fn answer<S: AsStr, W: World, I: Read, O: Write, E: Write>(
-    rt: &(impl Threads + Wait + Sync),
-    alloc: Global,
+    resources: &Resources<impl Threads + Wait + Sync, impl Progress>,
     words: &[S],
     world: &mut W,
-    log: &mut W::Log,
     input: &mut I,
     output: &mut Printer<O>,
     errors: &mut E,
-    progress: &impl Progress,
 ) -> Result<Status, Fault>
     ensures logged { IfOk result (λ status. LogsAnswered (map S.text words.now) status
         (I.remaining input.old) (I.remaining input.new) output.old output.new
-        (W.events log.old) (W.events log.new)) }
+        (W.events world.old) (W.events world.new)) }
     ensures log_failed { IfErr result (λ fault. LogsRefused (map S.text words.now) fault
         (I.remaining input.old) (I.remaining input.new) output.old output.new
-        (W.events log.old) (W.events log.new)) }
-    ensures ends { IfOk result
-        (Ends (moment (W.known world.old) (I.remaining input.old) (Some output.old))
-        (moment (W.known world.new) (I.remaining input.new) (Some output.new))
-        (map S.text words.now)) }
-    ensures fails { IfErr result
-        (RunFails (moment (W.known world.old) (I.remaining input.old) (Some output.old))
-        (moment (W.known world.new) (I.remaining input.new) (Some output.new))
-        (map S.text words.now)) }
-    ensures quiet { IfOk result (λ status. status_number status < 2 → errors.new ≡ errors.old) }
-    ensures no_error_text { OnErr result (errors.new ≡ errors.old) }
-    ensures silent { MatchResult result (λ status.
-        2 ≤ status_number status → output.new ≡ output.old)
-        (λ fault. PrintsNothing fault → output.new ≡ output.old) }
-    ensures files { (world.new ≡ world.old) ⊎ AsksToTouch (map S.text words.now) }
-    ensures others { (name : List ℕ) → NoneWrites (map S.text words.now) name
-        → SameFile (W.known world.old) (W.known world.new) name }
-    ensures nodes { KeepsNodes (W.known world.old) (W.known world.new) (map S.text words.now) }
+        (W.events world.old) (W.events world.new)) }
+    ensures quiet { MatchResult result
+        (λ status. status_number status < 2 → errors.new ≡ errors.old) (λ _. errors.new ≡ errors.old) }
     ensures unread { (input.new ≡ input.old) ⊎ AsksToRead (map S.text words.now) }
+    ensures follows { Follows (W.memory world.old) (W.events world.old)
+        (W.memory world.new) (W.events world.new) }
 {
-    match command(alloc, words) {
-        Ok(command) => obey(rt, alloc, command, world, log, input, output, progress),
+    match command(resources.alloc, words) {
+        Ok(command) => obey(resources, command, world, input, output),
         Err(CommandFault::Help { text }) => match print_text(output, &text) {
             Ok(()) => Ok(Status::Done),
             Err(_) => Err(Fault::WriteOutput),
@@ -142,34 +97,21 @@ fn answer<S: AsStr, W: World, I: Read, O: Write, E: Write>(
 
 /// Does what the command asks, and prints all but a fault.
 fn obey<W: World, I: Read, O: Write>(
-    rt: &(impl Threads + Wait + Sync),
-    alloc: Global,
+    resources: &Resources<impl Threads + Wait + Sync, impl Progress>,
     command: Command,
     world: &mut W,
-    log: &mut W::Log,
     input: &mut I,
     output: &mut Printer<O>,
-    progress: &impl Progress,
 ) -> Result<Status, Fault>
     ensures logged { IfOk result (λ status. LogsObeyed command status
         (I.remaining input.old) (I.remaining input.new) output.old output.new
-        (W.events log.old) (W.events log.new)) }
+        (W.events world.old) (W.events world.new)) }
     ensures log_failed { IfErr result (λ fault. LogsFailed command fault
         (I.remaining input.old) (I.remaining input.new) output.old output.new
-        (W.events log.old) (W.events log.new)) }
-    ensures done { IfOk result
-        (Obeys (moment (W.known world.old) (I.remaining input.old) (Some output.old))
-        (moment (W.known world.new) (I.remaining input.new) (Some output.new)) command) }
-    ensures failed { IfErr result
-        (FailsToObey (moment (W.known world.old) (I.remaining input.old) (Some output.old))
-        (moment (W.known world.new) (I.remaining input.new) (Some output.new)) command) }
-    ensures silent { IfErr result (λ fault. PrintsNothing fault → output.new ≡ output.old) }
-    ensures files { (world.new ≡ world.old) ⊎ Touches command }
-    ensures others { (name : List ℕ) → ¬ Writes command name
-        → SameFile (W.known world.old) (W.known world.new) name }
-    ensures nodes { SameNodes (W.known world.old) (W.known world.new)
-        ⊎ Keeps (W.known world.old) (W.known world.new) command }
+        (W.events world.old) (W.events world.new)) }
     ensures unread { (input.new ≡ input.old) ⊎ ReadsInput command }
+    ensures follows { Follows (W.memory world.old) (W.events world.old)
+        (W.memory world.new) (W.events world.new) }
 {
     match command {
         Command::Keygen {
@@ -179,14 +121,12 @@ fn obey<W: World, I: Read, O: Write>(
             state,
             public,
         } => {
-            let key = key_from(alloc, &levels, &seed, &id)?;
-            make_key(
-                rt, alloc, world, log, key, &state, &public, output, progress,
-            )?;
+            let key = key_from(resources.alloc, &levels, &seed, &id)?;
+            make_key(resources, world, key, &state, &public, output)?;
             Ok(Status::Done)
         }
         Command::Info { state } => {
-            describe(alloc, world, log, &state, output)?;
+            describe(resources.alloc, world, &state, output)?;
             Ok(Status::Done)
         }
         Command::Sign {
@@ -195,15 +135,17 @@ fn obey<W: World, I: Read, O: Write>(
             message,
             out,
         } => {
-            sign_file(
-                rt, alloc, world, log, &state, &random, &message, &out, output, progress,
-            )?;
+            let request = SignRequest {
+                state: &state,
+                random: &random,
+                message: &message,
+                out: &out,
+            };
+            sign_file(resources, world, &request, output)?;
             Ok(Status::Done)
         }
         Command::Batch { state, workers } => {
-            sign_jobs(
-                rt, alloc, world, log, &state, &workers, input, output, progress,
-            )?;
+            sign_jobs(resources, world, &state, &workers, input, output)?;
             Ok(Status::Done)
         }
         Command::Verify {
@@ -211,7 +153,14 @@ fn obey<W: World, I: Read, O: Write>(
             message,
             signature,
         } => {
-            let verdict = verify_files(alloc, world, log, &public, &message, &signature, output)?;
+            let verdict = verify_files(
+                resources.alloc,
+                world,
+                &public,
+                &message,
+                &signature,
+                output,
+            )?;
             Ok(verdict.status())
         }
     }

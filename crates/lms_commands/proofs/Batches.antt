@@ -1,18 +1,16 @@
--- What a list of jobs did to a book, in terms of the state in its world.
-use Rattle.std.proofs.Common.{◌≡◌, ◌∙◌, inl, inr, ⊎_elim, ℕ, zero, suc, ◌+◌, ◌≤◌, List, [], ◌∷◌, ◌++◌, drop, take, length, Option, None, Some, Result, Ok, Err, refl, sym, ap, subst, arith}
-use Rattle.std.specs.Prelude.{◌↔◌, IfSome, min}
+-- What a list of jobs did to a book.
+use Rattle.std.proofs.Common.{◌≡◌, ◌∙◌, inl, inr, ℕ, zero, suc, ◌-◌, ◌≤◌, List, [], ◌∷◌, ◌++◌, drop, take, length, Option, None, Some, Result, Ok, Err, refl, sym, ap, ap₂, subst, arith}
+use Rattle.std.specs.Prelude.{IfSome, min}
 use Rattle.std.specs.Io.KnownBytes.{Appends, Keeps}
 use Rattle.std.proofs.lemmas.List.{append-nil}
 use Rattle.std.proofs.lemmas.List.Sums.{sum_by-cons}
-use Rattle.lms_image.specs.Image.{image_of, HasImage}
 use Rattle.lms_book.specs.declared.history.Entry.{Entry}
 use Rattle.lms_book.specs.declared.history.Entry.TheVariants.{Given, Burnt}
 use Rattle.lms_book.specs.declared.fault.BookFault.{BookFault}
 use Rattle.lms_book.specs.declared.fault.BookFault.TheVariants as book
-use Rattle.lms_book.specs.Stops.{MayLeave, StoreView}
+use Rattle.lms_book.specs.Stops.{StoreView}
 use Rattle.lms_book.specs.States.{BookState, LeaseState}
-use Rattle.lms_book.specs.Books.{Reserves, counter, next_image}
-use Rattle.lms_book.proofs.Leaving.{leaves_failed, only_has}
+use Rattle.lms_book.specs.Books.{Reserves, capacity, counter}
 use Rattle.lms_book.specs.History.{given_len, burnt_len}
 use Rattle.lms_shared_book.specs.Desks.{Sums, plus, sums, sums_of, total}
 use Rattle.lms_shared_book.specs.Shared.{IsAfter, IsAfterEntry, IsSettled}
@@ -20,24 +18,22 @@ use Rattle.lms_batch.specs.Answers.{CouldBeReserved, IsAnswerAfter, start_of}
 use Rattle.lms_batch.specs.declared.collector.Batch.{Batch}
 use Rattle.lms_batch.specs.declared.fault.BatchFault.{BatchFault}
 use Rattle.lms_batch.specs.declared.fault.BatchFault.TheVariants as unsigned
-use Rattle.lms_lines.specs.AnswerLines.{answer_text, AppendsFront}
-use Rattle.lms_lines.specs.SignedLines.{IsBatchRead, IsUnsigned, signatures_in}
+use Rattle.lms_lines.specs.AnswerLines.{AppendsFront}
+use Rattle.lms_lines.specs.SignedLines.{IsUnsigned, signatures_in}
 use Rattle.lms_lines.specs.declared.fault.JobsFault.TheVariants as jobs
 use Rattle.lms_lines.specs.declared.signing.SignedJobs.{SignedJobs}
 use Rattle.lms_lines.specs.declared.fault.LinesFault.{LinesFault}
 use Rattle.lms_lines.specs.declared.fault.LinesFault.TheVariants as lines
-use Rattle.lms_commands.specs.Batches.{FailsToAnswer, FailsToSignInput, IsUnprinted, SignsAllJobs, SignsAsked, SignsBatch, Streams}
+use Rattle.lms_commands.specs.Batches.{IsUnprinted}
 use Rattle.lms_commands.specs.Faults.{of_lines}
 use Rattle.lms_commands.specs.declared.fault.Fault.{Fault}
-use Rattle.lms_commands.specs.declared.fault.Fault.TheVariants.{BadLevels, TooManyLevels, TooTall, BadSeed, BadId, BadRandom, BadWorkers, BadJob, TooManyJobs, StateExists, StateInUse, ReadState, BadState, WriteState, WriteStateBurnt, Exhausted, OutOfMemory, OutOfMemoryBurnt, Partial, ReadInput, WriteOutput}
-use Rattle.lms_commands.specs.BatchLogs.{AnswersJobs, LogsBatch, LogsJobsUnsigned, LogsUnanswered, UsesAll}
+use Rattle.lms_commands.specs.declared.fault.Fault.TheVariants.{Exhausted, OutOfMemoryBurnt, WriteStateBurnt}
+use Rattle.lms_commands.specs.BatchLogs.{AnswersJobs, LogsBatch, LogsJobsUnsigned, LogsUnprinted, UsesAll}
 use Rattle.lms_commands.specs.Logs.{LeavesState, WorldCalls, OpensState, StoresUse, TriesUse, state_of}
 use Rattle.lms_world.specs.Events.{PutBack}
 use Rattle.lms_commands.proofs.Logged.{left_so, stored, tried}
-use Rattle.lms_world.specs.Known.{IsOldOr, Known, Stays, Bytes}
 use Rattle.lms_commands.specs.SharedBooks.{IsRefusedBy, IsSignedByBook, at_one_desk}
-use Rattle.lms_commands.specs.Signing.{MayBurnIndices, MayBeImageOf, MayLackIndices, Opens, MayUseIndices}
-use Rattle.lms_commands.proofs.Signings.{IsJustOpened, image_is}
+use Rattle.lms_commands.proofs.Signings.{IsJustOpened}
 
 same_sums : (a b : Sums) → a.entries ≡ b.entries → a.received ≡ b.received → a.burnt ≡ b.burnt → a ≡ b
 same_sums a b e r u i = record { entries = e i; received = r i; burnt = u i }
@@ -110,123 +106,7 @@ refused_so start n fault could = let found = finds_start start n (Err (unsigned.
     go new (Ok lease) is follows = absurd follows
     go new (Err refused) is follows = (new, subst (λ (f : BookFault). Reserves n start (Err f) new) (sym follows) is)
 
-module _ (old new : Known) (state : Bytes) (start left : BookState) (store : StoreView)
-    (counted : HasImage start.key start.base start.openings start.burnt)
-    (opened : MayBeImageOf old state start.key start.base start.openings start.burnt) (is_fresh : IsJustOpened start) (view : store ≡ left.store)
-    (taken : (text : List ℕ) → MayLeave start.store text ↔ old.may_hold state text)
-    (kept : (text : List ℕ) → MayLeave store text → new.may_hold state text)
-    (only : (text : List ℕ) → new.holds state text → MayLeave store text) where
-  -- where no index was reserved, the state stays
-  stays : IsSettled start (sums 0 0 0) left → Stays old new state
-  stays settled =
-      let same = no_entry start settled.entries left settled.after settled.all in
-      let is : store ≡ start.store = view ∙ ap (λ (b : BookState). b.store) same in
-      record {
-        kept = λ text keeps. kept text (subst (λ (s : StoreView). MayLeave s text) (sym is) ((taken text).1 keeps));
-        only = λ text holds. (taken text).0 (subst (λ (s : StoreView). MayLeave s text) is (only text holds));
-      }
-
-  uses_none : IsSettled start (sums 0 0 0) left → MayUseIndices 0 old new state start.key start.base
-  uses_none settled = record {
-    openings = start.openings;
-    burnt = start.burnt;
-    counted = counted;
-    within = omega (arith, counted.within);
-    opened = opened;
-    stored = stays settled;
-  }
-
-  -- where they were given, the image that counts them is left
-  uses : (n : ℕ) → IsSettled start (sums 1 (suc n) 0) left → MayUseIndices (suc n) old new state start.key start.base
-  uses n settled =
-      let made = (one_given start (suc n) settled.entries left (omega arith) settled.after settled.all).reservation in
-      let text = image_of start.key (start.base + suc n) (start.openings + 1) start.burnt in
-      let there : MayLeave left.store text = subst (λ (s : StoreView). MayLeave s text) (sym made.3) (only_has (next_image (suc n) start) text (sym (image_is (suc n) start is_fresh))) in
-      record {
-        openings = start.openings;
-        burnt = start.burnt;
-        counted = counted;
-        within = omega (arith, made.0, is_fresh.used);
-        opened = opened;
-        stored = kept text (subst (λ (s : StoreView). MayLeave s text) (sym view) there);
-      }
-
-  -- where they were burnt, the state is what it was, or counts them
-  burns : (n : ℕ) → 1 ≤ n → IsSettled start (sums 1 0 n) left → MayBurnIndices n old new state start.base
-  burns n some settled =
-      let made = (one_burnt start n settled.entries left some settled.after settled.all).reservation in
-      let either : IsOldOr (image_of start.key (start.base + n) (start.openings + 1) start.burnt) old new state
-      = λ text holds. ⊎_elim (λ was. inl ((taken text).0 was)) (λ is. inr (is ∙ image_is n start is_fresh))
-      (leaves_failed _ start.store left.store made.4 text (subst (λ (s : StoreView). MayLeave s text) view (only text holds))) in
-      (start.key, start.openings, start.burnt, counted, omega (arith, made.0, is_fresh.used), opened, either)
-
-  -- a batch that was read used as many indices as there are jobs
-  used_by : (n : ℕ) (sum : Sums) → sum ≡ plus (sums 0 0 0) (sums (min 1 n) n 0) → IsSettled start sum left → MayUseIndices n old new state start.key start.base
-  used_by zero sum is settled = uses_none (subst (λ (s : Sums). IsSettled start s left) is settled)
-  used_by (suc n) sum is settled = uses n (subst (λ (s : Sums). IsSettled start s left) (is ∙ from_some n) settled)
-
-  -- so many, and there are some
-  used_some : (n : ℕ) → 1 ≤ n → IsSettled start (sums 1 n 0) left → MayUseIndices n old new state start.key start.base
-  used_some zero some settled = absurd (omega (arith, some))
-  used_some (suc n) some settled = uses n settled
-
-  signs_batch : (before after : Option (List ℕ)) (sum : Sums) (batch : Batch) (is : IsBatchRead (at_one_desk start) before after (sums 0 0 0) sum batch)
-      → IsSettled start sum left → SignsBatch old new state is.jobs batch
-  signs_batch before after sum batch is settled = record {
-    key = start.key;
-    index = start.base;
-    may_be_used = used_by (length is.jobs) sum is.counted settled;
-    answer = is.answer;
-    start = λ some. starts_at start (length is.jobs) batch (is.reserved some) ∙ is_fresh.used;
-  }
-
-  pub signed_so : (before after : Option (List ℕ)) (signed : SignedJobs) → IsSignedByBook start before after signed left → SignsAsked old new state before after signed
-  signed_so before after signed (sum, (is, asked), settled) =
-      (record { jobs = is.jobs; read = is.read; signs = signs_batch before after sum signed.batch is settled }, asked)
-
-  opens : Opens old state
-  opens = (start.key, start.base, start.openings, start.burnt, counted, opened)
-
-  lines_failed : (before after : Option (List ℕ)) (fault : LinesFault) (sum : Sums)
-      → IsUnsigned (at_one_desk start) before after (sums 0 0 0) sum fault → IsSettled start sum left
-      → FailsToSignInput old new state before after (of_lines fault)
-  lines_failed before after (lines.Jobs jobs.Read) sum is settled = (opens, stays (subst (λ (s : Sums). IsSettled start s left) is.1 settled))
-  lines_failed before after (lines.Jobs (jobs.BadJob line)) sum is settled = (opens, is.0, stays (subst (λ (s : Sums). IsSettled start s left) is.1 settled))
-  lines_failed before after (lines.Jobs jobs.TooManyJobs) sum is settled = (opens, is.0, stays (subst (λ (s : Sums). IsSettled start s left) is.1 settled))
-  lines_failed before after (lines.Jobs jobs.OutOfMemory) sum is settled = stays (subst (λ (s : Sums). IsSettled start s left) is.1 settled)
-  lines_failed before after (lines.Batch unsigned.TooMany) sum is settled = absurd (is.few refl)
-  lines_failed before after (lines.Batch (unsigned.Book (book.Exhausted rest))) sum is settled =
-      let n = length is.jobs in
-      let (full, left_is, same) = (refused_so start n (book.Exhausted rest) is.reserved).1 in
-      let lacks : MayLackIndices n old state rest = (
-        start.key,
-        start.base,
-        start.openings,
-        start.burnt,
-        counted,
-        omega (arith, full, is_fresh.used),
-        omega (arith, left_is, is_fresh.used),
-        opened,
-      ) in
-      ((is.jobs, is.read, lacks), stays (subst (λ (s : Sums). IsSettled start s left) is.counted settled))
-  lines_failed before after (lines.Batch (unsigned.Book book.OutOfMemory)) sum is settled = stays (subst (λ (s : Sums). IsSettled start s left) is.counted settled)
-  lines_failed before after (lines.Batch (unsigned.Book (book.Store first len))) sum is settled =
-      let n = length is.jobs in
-      let refused = (refused_so start n (book.Store first len) is.reserved).1 in
-      let here : start.base ≡ first = sym (refused.1 ∙ is_fresh.used) in
-      let burnt = burns n is.some (subst (λ (s : Sums). IsSettled start s left) (is.counted.1 ∙ from_none _) settled) in
-      (is.jobs, is.read, (is.counted.0, subst (MayBurnIndices n old new state) here burnt))
-  lines_failed before after (lines.Batch (unsigned.OutOfMemory burnt)) sum is settled =
-      let n = length is.jobs in
-      let used = used_some n is.some (subst (λ (s : Sums). IsSettled start s left) (is.counted.1 ∙ from_none _) settled) in
-      (is.jobs, is.read, (is.counted.0, (start.key, start.base, used)))
-  lines_failed before after lines.Write sum is settled = absurd is
-
-  pub failed_so : (before after : Option (List ℕ)) (fault : Fault) → IsRefusedBy start before after fault left → FailsToSignInput old new state before after fault
-  failed_so before after fault (sum, (lines, same, is), settled) =
-      subst (FailsToSignInput old new state before after) (sym same) (lines_failed before after lines sum is settled)
-
--- the same, in terms of the calls that were made
+-- what a list of jobs did to a book, in terms of the calls that were made
 module _ (start left : BookState) (view : StoreView) (before opened back : WorldCalls) (opens : OpensState start before opened) (is_fresh : IsJustOpened start)
     (view_is : view ≡ left.store) (back_is : back ≡ PutBack view ∷ opened) where
   leaves_none : (sum : Sums) → sum ≡ sums 0 0 0 → IsSettled start sum left → LeavesState (state_of start) before back
@@ -264,24 +144,38 @@ module _ (start left : BookState) (view : StoreView) (before opened back : World
 
   log_lines : (input rest : Option (List ℕ)) (fault : LinesFault) (sum : Sums) → IsUnsigned (at_one_desk start) input rest (sums 0 0 0) sum fault
       → IsSettled start sum left → LogsJobsUnsigned input rest (of_lines fault) (state_of start) before back
-  log_lines input rest (lines.Jobs jobs.Read) sum is settled = leaves_none sum is.1 settled
-  log_lines input rest (lines.Jobs (jobs.BadJob line)) sum is settled = leaves_none sum is.1 settled
-  log_lines input rest (lines.Jobs jobs.TooManyJobs) sum is settled = leaves_none sum is.1 settled
-  log_lines input rest (lines.Jobs jobs.OutOfMemory) sum is settled = leaves_none sum is.1 settled
+  log_lines input rest (lines.Jobs jobs.Read) sum is settled = inl (inl (inl refl), leaves_none sum is.1 settled)
+  log_lines input rest (lines.Jobs (jobs.BadJob line)) sum is settled =
+      inl (inr (inl (line, refl, is.0)), leaves_none sum is.1 settled)
+  log_lines input rest (lines.Jobs jobs.TooManyJobs) sum is settled =
+      inl (inr (inr (refl, is.0)), leaves_none sum is.1 settled)
+  log_lines input rest (lines.Jobs jobs.OutOfMemory) sum is settled = inl (inl (inr refl), leaves_none sum is.1 settled)
   log_lines input rest (lines.Batch unsigned.TooMany) sum is settled = absurd (is.few refl)
   log_lines input rest (lines.Batch (unsigned.Book (book.Exhausted count))) sum is settled =
-      let (full, left_is, same) = (refused_so start (length is.jobs) (book.Exhausted count) is.reserved).1 in
-      (is.jobs, is.read, is.some, (omega (arith, full, is_fresh.used), omega (arith, left_is, is_fresh.used), leaves_none sum is.counted settled))
-  log_lines input rest (lines.Batch (unsigned.Book book.OutOfMemory)) sum is settled = leaves_none sum is.counted settled
+      let (full, count_is, same) = (refused_so start (length is.jobs) (book.Exhausted count) is.reserved).1 in
+      let left_is : count ≡ capacity start - start.base = omega (arith, count_is, is_fresh.used) in
+      inr (
+        is.jobs,
+        is.read,
+        is.some,
+        inl (
+          ap (λ (n : ℕ). Exhausted n) left_is,
+          omega (arith, full, is_fresh.used),
+          leaves_none sum is.counted settled,
+        ),
+      )
+  log_lines input rest (lines.Batch (unsigned.Book book.OutOfMemory)) sum is settled =
+      inl (inl (inr refl), leaves_none sum is.counted settled)
   log_lines input rest (lines.Batch (unsigned.Book (book.Store first len))) sum is settled =
       let n = length is.jobs in
       let refused = (refused_so start n (book.Store first len) is.reserved).1 in
       let tries = tries_some n is.some (subst (λ (s : Sums). IsSettled start s left) (is.counted.1 ∙ from_none _) settled) in
-      (is.jobs, is.read, is.some, (refused.1 ∙ is_fresh.used, is.counted.0, tries))
+      let at = ap₂ (λ (a b : ℕ). WriteStateBurnt a b) (refused.1 ∙ is_fresh.used) is.counted.0 in
+      inr (is.jobs, is.read, is.some, inr (inr (inl (at, tries))))
   log_lines input rest (lines.Batch (unsigned.OutOfMemory burnt)) sum is settled =
       let n = length is.jobs in
       let stores = stores_some n is.some (subst (λ (s : Sums). IsSettled start s left) (is.counted.1 ∙ from_none _) settled) in
-      (is.jobs, is.read, is.some, (is.counted.0, stores))
+      inr (is.jobs, is.read, is.some, inr (inr (inr (ap (λ (m : ℕ). OutOfMemoryBurnt m) is.counted.0, stores))))
   log_lines input rest lines.Write sum is settled = absurd is
 
   pub log_refused : (input rest : Option (List ℕ)) (fault : Fault) → IsRefusedBy start input rest fault left
@@ -313,40 +207,6 @@ pub flushed_front : (before mid after : Option (List ℕ)) (text : List ℕ) →
 flushed_front before mid after text appends keeps =
     record { front = text; rest = []; whole = sym (append-nil _); appended = flushed before mid after text appends keeps }
 
--- all jobs were signed and their lines printed
-pub answered_all : (old new : Known) (state : Bytes) (before after : Streams) (signed : SignedJobs) → SignsAsked old new state before.input after.input signed
-    → (signatures_in signed.batch ≡ signed.asked) × Appends before.output after.output (answer_text signed.batch) → SignsAllJobs old new state before after
-answered_all old new state before after signed (is, asked) (count, printed) = (
-  signed.asked,
-  record { batch = signed.batch; made = is; signed_is = sym count; asked_is = asked; printed = printed },
-)
-
--- they were not, or not all lines were printed
-pub unprinted : (old new : Known) (state : Bytes) (before after : Streams) (signed : SignedJobs) → SignsAsked old new state before.input after.input signed
-    → (fault : Fault) → IsUnprinted signed before.output after.output fault → FailsToAnswer old new state before after fault
-unprinted old new state before after signed is BadLevels never = absurd never
-unprinted old new state before after signed is TooManyLevels never = absurd never
-unprinted old new state before after signed is TooTall never = absurd never
-unprinted old new state before after signed is BadSeed never = absurd never
-unprinted old new state before after signed is BadId never = absurd never
-unprinted old new state before after signed is BadRandom never = absurd never
-unprinted old new state before after signed is BadWorkers never = absurd never
-unprinted old new state before after signed is (BadJob line) never = absurd never
-unprinted old new state before after signed is TooManyJobs never = absurd never
-unprinted old new state before after signed is StateExists never = absurd never
-unprinted old new state before after signed is StateInUse never = absurd never
-unprinted old new state before after signed is ReadState never = absurd never
-unprinted old new state before after signed is (BadState bad) never = absurd never
-unprinted old new state before after signed is WriteState never = absurd never
-unprinted old new state before after signed is (WriteStateBurnt start len) never = absurd never
-unprinted old new state before after signed is (Exhausted left) never = absurd never
-unprinted old new state before after signed is OutOfMemory never = absurd never
-unprinted old new state before after signed is (OutOfMemoryBurnt count) never = absurd never
-unprinted old new state before after signed (is, asked) (Partial some all) (differ, signed_is, all_is, printed) =
-    (differ, record { batch = signed.batch; made = is; signed_is = signed_is; asked_is = all_is ∙ asked; printed = printed })
-unprinted old new state before after signed is ReadInput never = absurd never
-unprinted old new state before after signed (is, asked) WriteOutput printed = record { batch = signed.batch; made = is; printed = printed }
-
 -- of an input of which nothing is said
 pub says_nothing : (input : Option (List ℕ)) → IfSome input (λ text. Unit {0})
 says_nothing None = tt
@@ -355,25 +215,8 @@ says_nothing (Some text) = tt
 -- the calls of a batch whose lines are not all printed
 pub log_unprinted : (input rest : Option (List ℕ)) (before printed : List ℕ) (signed : SignedJobs) (old new : WorldCalls)
     (answers : AnswersJobs input rest before signed.batch old new) → signed.asked ≡ length answers.signs.jobs → (fault : Fault)
-    → IsUnprinted signed (Some before) (Some printed) fault → LogsUnanswered input rest before printed fault old new
-log_unprinted input rest before printed signed old new answers asked BadLevels never = absurd never
-log_unprinted input rest before printed signed old new answers asked TooManyLevels never = absurd never
-log_unprinted input rest before printed signed old new answers asked TooTall never = absurd never
-log_unprinted input rest before printed signed old new answers asked BadSeed never = absurd never
-log_unprinted input rest before printed signed old new answers asked BadId never = absurd never
-log_unprinted input rest before printed signed old new answers asked BadRandom never = absurd never
-log_unprinted input rest before printed signed old new answers asked BadWorkers never = absurd never
-log_unprinted input rest before printed signed old new answers asked (BadJob line) never = absurd never
-log_unprinted input rest before printed signed old new answers asked TooManyJobs never = absurd never
-log_unprinted input rest before printed signed old new answers asked StateExists never = absurd never
-log_unprinted input rest before printed signed old new answers asked StateInUse never = absurd never
-log_unprinted input rest before printed signed old new answers asked ReadState never = absurd never
-log_unprinted input rest before printed signed old new answers asked (BadState bad) never = absurd never
-log_unprinted input rest before printed signed old new answers asked WriteState never = absurd never
-log_unprinted input rest before printed signed old new answers asked (WriteStateBurnt start len) never = absurd never
-log_unprinted input rest before printed signed old new answers asked (Exhausted left) never = absurd never
-log_unprinted input rest before printed signed old new answers asked OutOfMemory never = absurd never
-log_unprinted input rest before printed signed old new answers asked (OutOfMemoryBurnt count) never = absurd never
-log_unprinted input rest before printed signed old new answers asked (Partial some all) (differ, some_is, all_is, lines) = (differ, (signed.batch, answers, some_is, all_is ∙ asked, lines))
-log_unprinted input rest before printed signed old new answers asked ReadInput never = absurd never
-log_unprinted input rest before printed signed old new answers asked WriteOutput lines = (signed.batch, answers, lines)
+    → IsUnprinted signed (Some before) (Some printed) fault → LogsUnprinted input rest before printed fault old new
+log_unprinted input rest before printed signed old new answers asked fault (inl (at, differ, lines)) =
+    inl (signatures_in signed.batch, signed.asked, at, differ, (signed.batch, answers, refl, asked, lines))
+log_unprinted input rest before printed signed old new answers asked fault (inr (at, lines)) =
+    inr (at, (signed.batch, answers, lines))

@@ -1,8 +1,14 @@
 pub mod Batches
 pub mod Failing
-pub mod StayingRight
 pub mod Histories
 pub mod Logged
 pub mod Signings
 pub mod Turns
 pub mod SigningTurns
+pub mod Telling
+pub mod AtState
+pub mod KeygenInMemory
+pub mod BatchInMemory
+pub mod ReadingInMemory
+pub mod SignInMemory
+pub mod NodesStaying

@@ -1,5 +1,5 @@
 -- What a command logged, by what its steps did.
-use Rattle.std.proofs.Common.{◌≡◌, ◌∙◌, inl, inr, Bool, true, false, sym, ℕ, ◌+◌, ◌≤◌, List, ◌∷◌, Option, Some, refl, ap, subst, arith}
+use Rattle.std.proofs.Common.{◌≡◌, ◌∙◌, inl, inr, Bool, true, false, sym, ℕ, ◌+◌, ◌-◌, ◌≤◌, List, ◌∷◌, Option, Some, refl, ap, ap₂, subst, arith}
 use Rattle.lms_image.specs.Image.{HasImage}
 use Rattle.lms_book.specs.declared.fault.OpenFault.{OpenFault}
 use Rattle.lms_book.specs.declared.fault.OpenFault.TheVariants as opening
@@ -9,14 +9,14 @@ use Rattle.lms_book.specs.States.{BookState}
 use Rattle.lms_book.specs.Stops.{StoreView, FailsToWrite, after_write}
 use Rattle.lms_kept.specs.Signed.{IsSignedByText}
 use Rattle.lms_kept.specs.Ways.{Way}
-use Rattle.lms_world.specs.Events.{Event, PutBack, Taken, Written}
-use Rattle.lms_world.specs.Known.{Bytes}
+use Rattle.lms_world.specs.Events.{Event, PutBack, Taken, Taking, Written}
+use Rattle.lms_world.specs.Names.{Bytes}
 use Rattle.lms_spec.specs.Profile.{hss_public_key}
 use Rattle.lms_hss.specs.Keys.{hss_key_of}
 use Rattle.lms_hss.specs.declared.key.HssKey.{HssKey as KeyOfCode}
 use Rattle.lms_commands.specs.KeygenLogs.{LogsUnmade, WritesKey, capacity_line}
 use Rattle.lms_commands.specs.declared.fault.Fault.{Fault}
-use Rattle.lms_commands.specs.declared.fault.Fault.TheVariants.{BadLevels, TooManyLevels, TooTall, BadSeed, BadId, BadRandom, BadWorkers, BadJob, TooManyJobs, StateExists, StateInUse, ReadState, BadState, WriteState, WriteStateBurnt, Exhausted, OutOfMemory, OutOfMemoryBurnt, Partial, ReadInput, WriteOutput}
+use Rattle.lms_commands.specs.declared.fault.Fault.TheVariants.{Exhausted, WriteStateBurnt}
 use Rattle.lms_commands.specs.Faults.{of_opening, of_signing}
 use Rattle.lms_commands.specs.Logs.{FailsToPublish, LeavesState, WorldCalls, LogsKeeping, LogsUnopened, LogsUnsigned, OpensState, ReadsState, StoresUse, TriesUse, state_of}
 use Rattle.lms_commands.specs.SignLogs.{LogsSigned}
@@ -33,13 +33,18 @@ pub three_calls : (w x y z : WorldCalls) (a b c : Event) → x ≡ a ∷ w → y
 three_calls w x y z a b c first then last = last ∙ ap (λ (log : WorldCalls). c ∷ log) (two_calls w x y a b first then)
 
 -- a store that was not opened is put back
-pub unopened : (may_fail : Type 0) (fault : OpenFault) (taken left : StoreView) (old new : WorldCalls) → HasCause may_fail taken fault left
-    → new ≡ PutBack left ∷ Taken (Some taken) ∷ old → LogsUnopened (of_opening fault) old new
-unopened may_fail opening.Store taken left old new (may, is) calls = (taken, calls ∙ ap (λ (v : StoreView). PutBack v ∷ Taken (Some taken) ∷ old) is)
-unopened may_fail (opening.Image bad) taken left old new (text, may, has, is) calls =
-    (taken, text, may, has, calls ∙ ap (λ (v : StoreView). PutBack v ∷ Taken (Some taken) ∷ old) is)
-unopened may_fail opening.OutOfMemory taken left old new is calls =
-    inr (taken, calls ∙ ap (λ (v : StoreView). PutBack v ∷ Taken (Some taken) ∷ old) is)
+pub unopened : (fault : OpenFault) (taken : Taking) (left : StoreView) (old new : WorldCalls)
+    → HasCause taken.may_fail taken.view fault left → new ≡ PutBack left ∷ Taken (Some taken) ∷ old
+    → LogsUnopened (of_opening fault) old new
+unopened opening.Store taken left old new (may, is) calls =
+    inr (taken, inr (inl (refl, may, calls ∙ ap (λ (v : StoreView). PutBack v ∷ Taken (Some taken) ∷ old) is)))
+unopened (opening.Image bad) taken left old new (text, may, has, is) calls =
+    inr (
+      taken,
+      inr (inr (bad, text, refl, may, has, calls ∙ ap (λ (v : StoreView). PutBack v ∷ Taken (Some taken) ∷ old) is)),
+    )
+unopened opening.OutOfMemory taken left old new is calls =
+    inr (taken, inl (refl, calls ∙ ap (λ (v : StoreView). PutBack v ∷ Taken (Some taken) ∷ old) is))
 
 -- what a book read, in terms of its state
 pub state_read : (taken : StoreView) (book : BookState) → IsReadFrom taken book → HasImage book.key book.base book.openings book.burnt
@@ -49,7 +54,7 @@ state_read taken book is counted = record { text = is.text; left = is.left; coun
 -- a book was opened, and its store put back
 module _ (before after_it : BookState) (view : StoreView) (old opened back : WorldCalls) (opens : OpensState before old opened)
     (is_fresh : IsJustOpened before) (view_is : view ≡ after_it.store) (back_is : back ≡ PutBack view ∷ opened) where
-  abbrev taken : StoreView
+  abbrev taken : Taking
   taken = opens.0
 
   all : back ≡ PutBack view ∷ Taken (Some taken) ∷ old
@@ -98,34 +103,19 @@ module _ (before after_it : BookState) (view : StoreView) (old opened back : Wor
 
   pub log_unsigned : (fault : NextFault) → SignsNothing before fault after_it → LogsUnsigned 1 (of_signing fault) (state_of before) old back
   log_unsigned (unsigned.Book (book.Exhausted left)) (full, is, same) =
-      (omega (arith, full, is_fresh.used), omega (arith, is, is_fresh.used), left_so same)
-  log_unsigned (unsigned.Book book.OutOfMemory) (enough, same) = left_so same
-  log_unsigned (unsigned.Book (book.Store start len)) (enough, s, l, history, failed) = (s ∙ is_fresh.used, l, tried 1 enough failed)
-  log_unsigned unsigned.OutOfMemory gives = (refl, stored 1 gives.within gives.stored)
+      let left_is : left ≡ capacity before - before.base = omega (arith, is, is_fresh.used) in
+      inl (ap (λ (n : ℕ). Exhausted n) left_is, omega (arith, full, is_fresh.used), left_so same)
+  log_unsigned (unsigned.Book book.OutOfMemory) (enough, same) = inr (inl (refl, left_so same))
+  log_unsigned (unsigned.Book (book.Store start len)) (enough, s, l, history, failed) =
+      inr (inr (inl (ap₂ (λ (a b : ℕ). WriteStateBurnt a b) (s ∙ is_fresh.used) l, tried 1 enough failed)))
+  log_unsigned unsigned.OutOfMemory gives = inr (inr (inr (refl, stored 1 gives.within gives.stored)))
 
 -- a key's state was stored, and its public key or capacity not published
 pub unmade : (key : KeyOfCode) (public : Bytes) (before printed : List ℕ) (old kept new : WorldCalls)
     → ((written : Bool) → WritesKey key public written old (Written public (hss_public_key (hss_key_of key)) written ∷ kept)) → (fault : Fault)
     → FailsToPublish public (hss_public_key (hss_key_of key)) (capacity_line key) before printed fault kept new → LogsUnmade key public before printed fault old new
-unmade key public before printed old kept new writes BadLevels never = absurd never
-unmade key public before printed old kept new writes TooManyLevels never = absurd never
-unmade key public before printed old kept new writes TooTall never = absurd never
-unmade key public before printed old kept new writes BadSeed never = absurd never
-unmade key public before printed old kept new writes BadId never = absurd never
-unmade key public before printed old kept new writes BadRandom never = absurd never
-unmade key public before printed old kept new writes BadWorkers never = absurd never
-unmade key public before printed old kept new writes (BadJob line) never = absurd never
-unmade key public before printed old kept new writes TooManyJobs never = absurd never
-unmade key public before printed old kept new writes StateExists never = absurd never
-unmade key public before printed old kept new writes StateInUse never = absurd never
-unmade key public before printed old kept new writes ReadState never = absurd never
-unmade key public before printed old kept new writes (BadState bad) never = absurd never
-unmade key public before printed old kept new writes WriteState never = absurd never
-unmade key public before printed old kept new writes (WriteStateBurnt start len) never = absurd never
-unmade key public before printed old kept new writes (Exhausted left) never = absurd never
-unmade key public before printed old kept new writes OutOfMemory is = (inr (inr (subst (λ (log : WorldCalls). WritesKey key public false old log) (sym is.0) (writes false))), is.1)
-unmade key public before printed old kept new writes (OutOfMemoryBurnt count) never = absurd never
-unmade key public before printed old kept new writes (Partial signed asked) never = absurd never
-unmade key public before printed old kept new writes ReadInput never = absurd never
-unmade key public before printed old kept new writes WriteOutput (inl is) = inl (subst (λ (log : WorldCalls). WritesKey key public false old log) (sym is.0) (writes false), is.1)
-unmade key public before printed old kept new writes WriteOutput (inr is) = inr (record { until_written = _; writes = writes true; prints = is.0 }, is.1)
+unmade key public before printed old kept new writes fault (inl (refused, calls, same)) =
+    let written = subst (λ (log : WorldCalls). WritesKey key public false old log) (sym calls) (writes false) in
+    inl (same, inr (inr (inr (refused, written))))
+unmade key public before printed old kept new writes fault (inr (at, calls, line)) =
+    inr (at, record { until_written = _; writes = writes true; prints = calls }, line)

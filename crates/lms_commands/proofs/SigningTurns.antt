@@ -1,6 +1,6 @@
 -- What `sign` and `batch` do with their state, and which signatures leave them, by the calls that
 -- they make.
-use Rattle.std.proofs.Common.{◌≡◌, ◌∙◌, ℕ, ◌+◌, ◌≤◌, Bool, true, false, List, [], ◌∷◌, ◌++◌, length, map, Option, Some, None, ap, refl, subst, sym, inl, inr, arith}
+use Rattle.std.proofs.Common.{◌≡◌, ◌∙◌, ℕ, ◌+◌, ◌≤◌, Bool, true, false, List, [], ◌∷◌, ◌++◌, length, map, Option, Some, None, Ok, ap, refl, subst, sym, inl, inr, arith}
 use Rattle.std.specs.Prelude.{Vec}
 use Rattle.std.specs.Global.{Global}
 use Rattle.std.specs.List.{list_any}
@@ -12,14 +12,14 @@ use Rattle.lms_batch.specs.Answers.{IsAnswerTo, start_of}
 use Rattle.lms_batch.specs.declared.collector.Batch.{Batch}
 use Rattle.lms_batch.specs.declared.collector.Batch.TheVariants as batches
 use Rattle.lms_lines.specs.AnswerLines.{answer_line, answer_text, answers, AppendsFront}
-use Rattle.lms_world.specs.Known.{Bytes}
-use Rattle.lms_world.specs.Events.{Event, Locked, NodesRead, Printing, Read, Unlocked}
-use Rattle.lms_commands.specs.BatchLogs.{AnswersJobs, LogsAnswers, LogsJobs, LogsJobsFailed, LogsJobsUnsigned, LogsNoBatch, LogsUnanswered, UsesAll}
+use Rattle.lms_world.specs.Names.{Bytes}
+use Rattle.lms_world.specs.Events.{Acquired, Event, Locked, NodesRead, Printing, Read, Unlocked}
+use Rattle.lms_commands.specs.BatchLogs.{AnswersJobs, LogsAnswers, LogsJobs, LogsJobsFailed, LogsJobsUnsigned, LogsNoBatch, LogsUnanswered, LogsUnprinted, UsesAll}
 use Rattle.lms_commands.specs.Histories.{AreDelivered, AreInOrder, ArePrinted, AreWritten, IsSignature, IsTurn, Prints, StoresNothing, Signature, Turn, hands_out, is_of_store, signature_lines, store_calls, written_in}
 use Rattle.lms_commands.specs.Logs.{KeyState, WorldCalls}
 use Rattle.lms_commands.specs.SignLogs.{DeliversSignature, index_line, LogsNotSigned, LogsSign, LogsSignFailed, LogsUndelivered, WritesSignature}
 use Rattle.lms_commands.specs.declared.fault.Fault.{Fault}
-use Rattle.lms_commands.specs.declared.fault.Fault.TheVariants.{BadLevels, TooManyLevels, TooTall, BadSeed, BadId, BadRandom, BadWorkers, BadJob, TooManyJobs, StateExists, StateInUse, ReadState, BadState, WriteState, WriteStateBurnt, Exhausted, OutOfMemory, OutOfMemoryBurnt, Partial, ReadInput, WriteOutput}
+use Rattle.lms_commands.specs.declared.fault.Fault.TheVariants.{WriteOutput}
 use Rattle.lms_commands.proofs.Turns.{Quietly, idle_as, keeping, left_so, no_text, one_more, unopened, unsigned, used, whole_text}
 
 -- ---- `sign`
@@ -78,7 +78,7 @@ pub sign_turn : (random message state out : Bytes) (before printed : List ℕ) (
     → Delivers before printed whole
 sign_turn random message state out before printed whole (c, text, last, decoded, (delivers, line), calls) =
     unlocked before printed last whole calls
-    (delivered (Locked state true ∷ Read message (Some text) ∷ []) refl refl refl c text out before printed last delivers (whole_text before printed (index_line delivers.writes) line))
+    (delivered (Locked state Acquired ∷ Read message (Ok text) ∷ []) refl refl refl c text out before printed last delivers (whole_text before printed (index_line delivers.writes) line))
 
 nothing_delivered : (before printed : List ℕ) (new calls : WorldCalls) → new ≡ calls → store_calls calls ≡ [] → list_any hands_out calls ≡ false → written_in calls ≡ []
     → printed ≡ before → Delivers before printed new
@@ -86,14 +86,14 @@ nothing_delivered before printed new calls is none quiet no_file same = (StoresN
 
 pub sign_failed_turn : (random message state out : Bytes) (before printed : List ℕ) (fault : Fault) (whole : WorldCalls)
     → LogsSignFailed random message state out before printed fault [] whole → Delivers before printed whole
-sign_failed_turn random message state out before printed fault whole (inl (bad, calls, same)) = nothing_delivered before printed whole _ calls refl refl refl same
-sign_failed_turn random message state out before printed fault whole (inr (inl (refused, calls, same))) =
+sign_failed_turn random message state out before printed fault whole (inl (bad, calls, same, no_hex)) = nothing_delivered before printed whole _ calls refl refl refl same
+sign_failed_turn random message state out before printed fault whole (inr (inl (refused, calls, same, hex))) =
     nothing_delivered before printed whole _ calls refl refl refl same
-sign_failed_turn random message state out before printed fault whole (inr (inr (inl (text, refused, calls, same)))) =
+sign_failed_turn random message state out before printed fault whole (inr (inr (inl (text, refused, calls, same, hex)))) =
     nothing_delivered before printed whole _ calls refl refl refl same
 sign_failed_turn random message state out before printed fault whole (inr (inr (inr (c, text, last, decoded, never, calls)))) =
     unlocked before printed last whole calls
-    (undelivered (Locked state true ∷ Read message (Some text) ∷ []) refl refl refl c text out before printed fault last never)
+    (undelivered (Locked state Acquired ∷ Read message (Ok text) ∷ []) refl refl refl c text out before printed fault last never)
 
 -- ---- `batch`
 
@@ -193,72 +193,37 @@ module _ (old : WorldCalls) (quiet : list_any hands_out old ≡ false) (none : s
   all_answered count asked new (batch, answers, count_is, asked_is, text) =
       answered batch new answers (whole_text before printed (answer_text batch) text)
 
-  unanswered : (new : WorldCalls) (fault : Fault) → LogsUnanswered input rest before printed fault old new → PrintsAll before printed new
-  unanswered new BadLevels never = absurd never
-  unanswered new TooManyLevels never = absurd never
-  unanswered new TooTall never = absurd never
-  unanswered new BadSeed never = absurd never
-  unanswered new BadId never = absurd never
-  unanswered new BadRandom never = absurd never
-  unanswered new BadWorkers never = absurd never
-  unanswered new (BadJob line) never = absurd never
-  unanswered new TooManyJobs never = absurd never
-  unanswered new StateExists never = absurd never
-  unanswered new StateInUse never = absurd never
-  unanswered new ReadState never = absurd never
-  unanswered new (BadState bad) never = absurd never
-  unanswered new WriteState never = absurd never
-  unanswered new (WriteStateBurnt start len) never = absurd never
-  unanswered new (Exhausted left) never = absurd never
-  unanswered new OutOfMemory never = absurd never
-  unanswered new (OutOfMemoryBurnt count) never = absurd never
-  unanswered new (Partial signed asked) (differ, is) = all_answered signed asked new is
-  unanswered new ReadInput never = absurd never
-  unanswered new WriteOutput (batch, answers, lines) = answered batch new answers lines
+  unprinted : (new : WorldCalls) (fault : Fault) → LogsUnprinted input rest before printed fault old new
+      → PrintsAll before printed new
+  unprinted new fault (inl (count, asked, at, differ, is)) = all_answered count asked new is
+  unprinted new fault (inr (at, is)) = answered is.0 new is.1 is.2
 
   jobs_unsigned : (state : KeyState) (new : WorldCalls) (fault : Fault) → LogsJobsUnsigned input rest fault state old new → Quietly old new
-  jobs_unsigned state new BadLevels (jobs, read, some, is) = unsigned old quiet none (length jobs) state new some BadLevels is
-  jobs_unsigned state new TooManyLevels (jobs, read, some, is) = unsigned old quiet none (length jobs) state new some TooManyLevels is
-  jobs_unsigned state new TooTall (jobs, read, some, is) = unsigned old quiet none (length jobs) state new some TooTall is
-  jobs_unsigned state new BadSeed (jobs, read, some, is) = unsigned old quiet none (length jobs) state new some BadSeed is
-  jobs_unsigned state new BadId (jobs, read, some, is) = unsigned old quiet none (length jobs) state new some BadId is
-  jobs_unsigned state new BadRandom (jobs, read, some, is) = unsigned old quiet none (length jobs) state new some BadRandom is
-  jobs_unsigned state new BadWorkers (jobs, read, some, is) = unsigned old quiet none (length jobs) state new some BadWorkers is
-  jobs_unsigned state new (BadJob line) is = left_so old quiet none state new is
-  jobs_unsigned state new TooManyJobs is = left_so old quiet none state new is
-  jobs_unsigned state new StateExists (jobs, read, some, is) = unsigned old quiet none (length jobs) state new some StateExists is
-  jobs_unsigned state new StateInUse (jobs, read, some, is) = unsigned old quiet none (length jobs) state new some StateInUse is
-  jobs_unsigned state new ReadState (jobs, read, some, is) = unsigned old quiet none (length jobs) state new some ReadState is
-  jobs_unsigned state new (BadState bad) (jobs, read, some, is) = unsigned old quiet none (length jobs) state new some (BadState bad) is
-  jobs_unsigned state new WriteState (jobs, read, some, is) = unsigned old quiet none (length jobs) state new some WriteState is
-  jobs_unsigned state new (WriteStateBurnt start len) (jobs, read, some, is) = unsigned old quiet none (length jobs) state new some (WriteStateBurnt start len) is
-  jobs_unsigned state new (Exhausted left) (jobs, read, some, is) = unsigned old quiet none (length jobs) state new some (Exhausted left) is
-  jobs_unsigned state new OutOfMemory is = left_so old quiet none state new is
-  jobs_unsigned state new (OutOfMemoryBurnt count) (jobs, read, some, is) = unsigned old quiet none (length jobs) state new some (OutOfMemoryBurnt count) is
-  jobs_unsigned state new (Partial signed asked) (jobs, read, some, is) = unsigned old quiet none (length jobs) state new some (Partial signed asked) is
-  jobs_unsigned state new ReadInput is = left_so old quiet none state new is
-  jobs_unsigned state new WriteOutput (jobs, read, some, is) = unsigned old quiet none (length jobs) state new some WriteOutput is
+  jobs_unsigned state new fault (inl (unread, is)) = left_so old quiet none state new is
+  jobs_unsigned state new fault (inr (jobs, read, some, is)) =
+      unsigned old quiet none (length jobs) state new some fault is
 
   no_batch : (new : WorldCalls) (fault : Fault) → LogsNoBatch input rest fault old new → Quietly old new
-  no_batch new fault (inl never) = unopened old quiet none new fault never
+  no_batch new fault (inl never) = unopened old quiet none new fault never.0
   no_batch new fault (inr (state, never)) = jobs_unsigned state new fault never
 
-pub jobs_turn : (state : Bytes) (input rest : Option (List ℕ)) (before printed : List ℕ) (whole : WorldCalls) → LogsJobs state input rest before printed [] whole
-    → PrintsAll before printed whole
-jobs_turn state input rest before printed whole (last, count, is, calls) =
-    prints_more before printed last whole Unlocked refl refl calls
-    (all_answered (Locked state true ∷ []) refl refl refl input rest before printed count count last is)
+  unanswered : (new : WorldCalls) (fault : Fault) → LogsUnanswered input rest before printed fault old new
+      → PrintsAll before printed new
+  unanswered new fault (inl (never, same)) = quietly_all new (no_batch new fault never) same
+  unanswered new fault (inr never) = unprinted new fault never
 
-pub jobs_failed_turn : (state : Bytes) (input rest : Option (List ℕ)) (before printed : List ℕ) (fault : Fault) (whole : WorldCalls)
-    → LogsJobsFailed state input rest before printed fault [] whole → PrintsAll before printed whole
-jobs_failed_turn state input rest before printed fault whole (inl (bad, calls, same)) =
+pub jobs_turn : (state workers : Bytes) (input rest : Option (List ℕ)) (before printed : List ℕ) (whole : WorldCalls) → LogsJobs state workers input rest before printed [] whole
+    → PrintsAll before printed whole
+jobs_turn state workers input rest before printed whole (last, count, is, calls, are) =
+    prints_more before printed last whole Unlocked refl refl calls
+    (all_answered (Locked state Acquired ∷ []) refl refl refl input rest before printed count count last is)
+
+pub jobs_failed_turn : (state workers : Bytes) (input rest : Option (List ℕ)) (before printed : List ℕ) (fault : Fault) (whole : WorldCalls)
+    → LogsJobsFailed state workers input rest before printed fault [] whole → PrintsAll before printed whole
+jobs_failed_turn state workers input rest before printed fault whole (inl (bad, calls, same, are, unread)) =
     (StoresNothing, [], idle_as whole [] calls refl refl, (ap written_in calls, no_text before printed [] same))
-jobs_failed_turn state input rest before printed fault whole (inr (inl (refused, calls, same))) =
-    (StoresNothing, [], idle_as whole (Locked state false ∷ []) calls refl refl, (ap written_in calls, no_text before printed [] same))
-jobs_failed_turn state input rest before printed fault whole (inr (inr (last, inl (never, same), calls))) =
+jobs_failed_turn state workers input rest before printed fault whole (inr (inl (refused, calls, same, are, unread))) =
+    (StoresNothing, [], idle_as whole _ calls refl refl, (ap written_in calls, no_text before printed [] same))
+jobs_failed_turn state workers input rest before printed fault whole (inr (inr (last, never, calls, are))) =
     prints_more before printed last whole Unlocked refl refl calls
-    (quietly_all (Locked state true ∷ []) refl refl refl input rest before printed last
-    (no_batch (Locked state true ∷ []) refl refl refl input rest before printed last fault never) same)
-jobs_failed_turn state input rest before printed fault whole (inr (inr (last, inr never, calls))) =
-    prints_more before printed last whole Unlocked refl refl calls
-    (unanswered (Locked state true ∷ []) refl refl refl input rest before printed last fault never)
+    (unanswered (Locked state Acquired ∷ []) refl refl refl input rest before printed last fault never)

@@ -1,5 +1,5 @@
 -- What each command does with its state, by the calls that it makes.
-use Rattle.std.proofs.Common.{append-nil, ⊎_elim, ◌++◌, ◌≡◌, ◌∙◌, ℕ, ◌+◌, ◌≤◌, Bool, true, false, List, [], ◌∷◌, Option, Some, None, ap, refl, subst, sym, inl, inr}
+use Rattle.std.proofs.Common.{append-nil, ⊎_elim, ◌++◌, ◌≡◌, ◌∙◌, ℕ, ◌+◌, ◌≤◌, Bool, true, false, List, [], ◌∷◌, Option, Some, None, Ok, ap, refl, subst, sym, inl, inr}
 use Rattle.std.specs.Prelude.{◌⊎◌, cond}
 use Rattle.std.specs.List.{list_any}
 use Rattle.lms_spec.specs.Profile.{hss_public_key}
@@ -8,15 +8,14 @@ use Rattle.lms_hss.specs.declared.key.HssKey.{HssKey as KeyOfCode}
 use Rattle.lms_image.specs.Image.{image_of}
 use Rattle.lms_book.specs.Stops.{StoreView, after_failure, after_write, having_given}
 use Rattle.lms_kept.specs.Ways.{Way}
-use Rattle.lms_world.specs.Known.{Bytes}
-use Rattle.lms_world.specs.Events.{Event, Asked, Locked, Opened, Printing, PutBack, Read, Taken, Unlocked}
+use Rattle.lms_world.specs.Names.{Bytes}
+use Rattle.lms_world.specs.Events.{Acquired, Event, Asked, Locked, Opened, Printing, PutBack, Read, Taken, Taking, Unlocked}
 use Rattle.lms_commands.specs.Histories.{AreInOrder, Does, IsOneUse, IsTurn, IsUnwritten, HandsKey, HandsNothing, HandsState, HandsVerdict, Prints, StoresNothing, Makes, Signature, Signs, Turn, Uses, hands_out, is_of_store, store_calls, written_in}
 use Rattle.lms_commands.specs.KeygenLogs.{capacity_line, LogsKeygen, LogsKeygenFailed, LogsUnmade, LogsUnstored, PublishesKey, StoresKey, WritesKey}
 use Rattle.lms_commands.specs.Logs.{KeyState, LeavesState, WorldCalls, LogsKeeping, LogsUnopened, LogsUnsigned, StoresUse, TriesUse}
 use Rattle.lms_commands.specs.ReadingLogs.{info_of, LogsInfo, LogsInfoFailed, LogsVerify, LogsVerifyFailed, ReadsToPrint}
 use Rattle.lms_commands.specs.Verdicts.{line_of}
 use Rattle.lms_commands.specs.declared.fault.Fault.{Fault}
-use Rattle.lms_commands.specs.declared.fault.Fault.TheVariants.{BadLevels, TooManyLevels, TooTall, BadSeed, BadId, BadRandom, BadWorkers, BadJob, TooManyJobs, StateExists, StateInUse, ReadState, BadState, WriteState, WriteStateBurnt, Exhausted, OutOfMemory, OutOfMemoryBurnt, Partial, ReadInput, WriteOutput}
 use Rattle.lms_commands.specs.declared.verdict.Verdict.{Verdict}
 
 -- ---- turns, call by call
@@ -57,10 +56,10 @@ keeping trees old new (inr (way, done, trees_are, calls)) is = (one_more new _ r
 -- from calls on in which nothing left and nothing was done with the state
 module _ (old : WorldCalls) (quiet : list_any hands_out old ≡ false) (none : store_calls old ≡ []) where
   -- none of these is made in between
-  one_use : (new : WorldCalls) (taken left : StoreView) → new ≡ PutBack left ∷ Taken (Some taken) ∷ old → IsOneUse taken left new
+  one_use : (new : WorldCalls) (taken : Taking) (left : StoreView) → new ≡ PutBack left ∷ Taken (Some taken) ∷ old → IsOneUse taken left new
   one_use new taken left calls = ap store_calls calls ∙ ap (λ (log : WorldCalls). PutBack left ∷ Taken (Some taken) ∷ log) none
 
-  unwritten : (new : WorldCalls) (taken left : StoreView) → new ≡ PutBack left ∷ Taken (Some taken) ∷ old → IsUnwritten taken left → Quietly old new
+  unwritten : (new : WorldCalls) (taken : Taking) (left : StoreView) → new ≡ PutBack left ∷ Taken (Some taken) ∷ old → IsUnwritten taken.view left → Quietly old new
   unwritten new taken left calls same = (
     StoresNothing,
     record {
@@ -83,28 +82,12 @@ module _ (old : WorldCalls) (quiet : list_any hands_out old ≡ false) (none : s
   )
 
   pub unopened : (new : WorldCalls) (fault : Fault) → LogsUnopened fault old new → Quietly old new
-  unopened new BadLevels never = absurd never
-  unopened new TooManyLevels never = absurd never
-  unopened new TooTall never = absurd never
-  unopened new BadSeed never = absurd never
-  unopened new BadId never = absurd never
-  unopened new BadRandom never = absurd never
-  unopened new BadWorkers never = absurd never
-  unopened new (BadJob line) never = absurd never
-  unopened new TooManyJobs never = absurd never
-  unopened new StateExists never = absurd never
-  unopened new StateInUse never = absurd never
-  unopened new ReadState (taken, calls) = unwritten new taken (after_failure taken) calls (refl, refl)
-  unopened new (BadState bad) (taken, text, may, is, calls) = unwritten new taken (having_given text taken) calls (refl, refl)
-  unopened new WriteState never = absurd never
-  unopened new (WriteStateBurnt start len) never = absurd never
-  unopened new (Exhausted left) never = absurd never
-  unopened new OutOfMemory (inl calls) = untaken new calls
-  unopened new OutOfMemory (inr (taken, calls)) = unwritten new taken taken calls (refl, refl)
-  unopened new (OutOfMemoryBurnt count) never = absurd never
-  unopened new (Partial signed asked) never = absurd never
-  unopened new ReadInput never = absurd never
-  unopened new WriteOutput never = absurd never
+  unopened new fault (inl (at, calls)) = untaken new calls
+  unopened new fault (inr (taken, inl (at, calls))) = unwritten new taken taken.view calls (refl, refl)
+  unopened new fault (inr (taken, inr (inl (at, fails, calls)))) =
+      unwritten new taken (after_failure taken.view) calls (refl, refl)
+  unopened new fault (inr (taken, inr (inr (bad, text, at, may, is, calls)))) =
+      unwritten new taken (having_given text taken.view) calls (refl, refl)
 
   -- the use of n indices is stored for certain
   pub used : (count : ℕ) (state : KeyState) (new : WorldCalls) (uses : StoresUse count state old new) → 1 ≤ count → (signatures : List Signature)
@@ -151,27 +134,10 @@ module _ (old : WorldCalls) (quiet : list_any hands_out old ≡ false) (none : s
   )
 
   pub unsigned : (count : ℕ) (state : KeyState) (new : WorldCalls) → 1 ≤ count → (fault : Fault) → LogsUnsigned count fault state old new → Quietly old new
-  unsigned count state new some BadLevels never = absurd never
-  unsigned count state new some TooManyLevels never = absurd never
-  unsigned count state new some TooTall never = absurd never
-  unsigned count state new some BadSeed never = absurd never
-  unsigned count state new some BadId never = absurd never
-  unsigned count state new some BadRandom never = absurd never
-  unsigned count state new some BadWorkers never = absurd never
-  unsigned count state new some (BadJob line) never = absurd never
-  unsigned count state new some TooManyJobs never = absurd never
-  unsigned count state new some StateExists never = absurd never
-  unsigned count state new some StateInUse never = absurd never
-  unsigned count state new some ReadState never = absurd never
-  unsigned count state new some (BadState bad) never = absurd never
-  unsigned count state new some WriteState never = absurd never
-  unsigned count state new some (WriteStateBurnt start len) (at, so_many, tries) = tried count state new tries some
-  unsigned count state new some (Exhausted left) (lacks, left_is, is) = left_so state new is
-  unsigned count state new some OutOfMemory is = left_so state new is
-  unsigned count state new some (OutOfMemoryBurnt spent) (so_many, uses) = stored_quietly count state new uses some
-  unsigned count state new some (Partial signed asked) never = absurd never
-  unsigned count state new some ReadInput never = absurd never
-  unsigned count state new some WriteOutput never = absurd never
+  unsigned count state new some fault (inl (at, lacks, is)) = left_so state new is
+  unsigned count state new some fault (inr (inl (at, is))) = left_so state new is
+  unsigned count state new some fault (inr (inr (inl (at, tries)))) = tried count state new tries some
+  unsigned count state new some fault (inr (inr (inr (at, uses)))) = stored_quietly count state new uses some
 
 -- a run that does nothing but such calls
 idle : (calls : WorldCalls) → store_calls calls ≡ [] → list_any hands_out calls ≡ false → IsTurn StoresNothing [] calls
@@ -196,10 +162,10 @@ whole_text before printed text all = record { front = text; rest = []; whole = s
 abbrev pub Ends : (WorldCalls → List ℕ → List ℕ → Type 0) → WorldCalls → List ℕ → List ℕ → Type 0
 Ends Hands whole before printed = (turn : Turn) × IsTurn turn [] whole × Hands whole before printed
 
-describes : (read : KeyState) (state : Bytes) (before : List ℕ) (last whole : WorldCalls) → ReadsToPrint read before (Locked state true ∷ []) last → whole ≡ Unlocked ∷ last
+describes : (read : KeyState) (state : Bytes) (before : List ℕ) (last whole : WorldCalls) → ReadsToPrint read before (Locked state Acquired ∷ []) last → whole ≡ Unlocked ∷ last
     → (turn : Turn) × IsTurn turn [] whole × (written_in whole ≡ [])
 describes read state before last whole is calls =
-    let locked = left_so (Locked state true ∷ []) refl refl read is.until_read is.reads in (
+    let locked = left_so (Locked state Acquired ∷ []) refl refl read is.until_read is.reads in (
       locked.0,
       one_more whole Unlocked refl calls (one_more last (Printing before) refl is.prints locked.1.takes),
       ap written_in calls ∙ (ap written_in is.prints ∙ locked.1.unwritten),
@@ -213,21 +179,21 @@ pub info_failed_turn : (state : Bytes) (before printed : List ℕ) (fault : Faul
     → Ends HandsState whole before printed
 info_failed_turn state before printed fault whole (inl (refused, calls, same)) = (StoresNothing, idle_as whole _ calls refl refl, (ap written_in calls, inl same))
 info_failed_turn state before printed fault whole (inr (last, inl (never, same), calls)) =
-    let is = unopened (Locked state true ∷ []) refl refl last fault never in
+    let is = unopened (Locked state Acquired ∷ []) refl refl last fault never in
     (is.0, one_more whole Unlocked refl calls is.1.takes, (ap written_in calls ∙ is.1.unwritten, inl same))
 info_failed_turn state before printed fault whole (inr (last, inr (at, (read, is, text)), calls)) =
     let turn = describes read state before last whole is calls in (turn.0, turn.1, (turn.2, inr (read, text)))
 
-judged : (public message signature : Bytes) (key signed before : List ℕ) (last whole : WorldCalls)
-    → last ≡ Read signature (Some signed) ∷ Opened message true ∷ Read public (Some key) ∷ [] → whole ≡ Printing before ∷ last
+judged : (public message signature : Bytes) (key : List ℕ) (held : Option (List ℕ)) (signed before : List ℕ) (last whole : WorldCalls)
+    → last ≡ Read signature (Ok signed) ∷ Opened message (Ok held) ∷ Read public (Ok key) ∷ [] → whole ≡ Printing before ∷ last
     → IsTurn StoresNothing [] whole × (written_in whole ≡ [])
-judged public message signature key signed before last whole reads calls =
+judged public message signature key held signed before last whole reads calls =
     (one_more whole (Printing before) refl calls (idle_as last _ reads refl refl), ap written_in calls ∙ ap written_in reads)
 
 pub verify_turn : (public message signature : Bytes) (verdict : Verdict) (before printed : List ℕ) (whole : WorldCalls)
     → LogsVerify public message signature verdict before printed [] whole → Ends HandsVerdict whole before printed
-verify_turn public message signature verdict before printed whole (key, text, signed, right, (last, reads, calls), line) =
-    let turn = judged public message signature key signed before last whole reads calls in
+verify_turn public message signature verdict before printed whole (key, text, signed, right, (last, held, is_held, reads, calls), line) =
+    let turn = judged public message signature key held signed before last whole reads calls in
     (StoresNothing, turn.0, (turn.1, inr (verdict, whole_text before printed (line_of verdict) line)))
 
 unread : (before printed : List ℕ) (whole calls : WorldCalls) → printed ≡ before → whole ≡ calls → store_calls calls ≡ [] → list_any hands_out calls ≡ false
@@ -238,11 +204,11 @@ pub verify_failed_turn : (public message signature : Bytes) (before printed : Li
     → LogsVerifyFailed public message signature before printed fault [] whole → Ends HandsVerdict whole before printed
 verify_failed_turn public message signature before printed fault whole (inl (refused, same, inl calls)) = unread before printed whole _ same calls refl refl refl
 verify_failed_turn public message signature before printed fault whole (inl (refused, same, inr (key, inl calls))) = unread before printed whole _ same calls refl refl refl
-verify_failed_turn public message signature before printed fault whole (inl (refused, same, inr (key, inr (inl calls)))) = unread before printed whole _ same calls refl refl refl
+verify_failed_turn public message signature before printed fault whole (inl (refused, same, inr (key, inr (inl (held, calls))))) = unread before printed whole _ same calls refl refl refl
 verify_failed_turn public message signature before printed fault whole (inl (refused, same, inr (key, inr (inr (signed, calls))))) =
     unread before printed whole _ same calls refl refl refl
-verify_failed_turn public message signature before printed fault whole (inr (at, (verdict, key, text, signed, right, (last, reads, calls), line))) =
-    let turn = judged public message signature key signed before last whole reads calls in (StoresNothing, turn.0, (turn.1, inr (verdict, line)))
+verify_failed_turn public message signature before printed fault whole (inr (at, (verdict, key, text, signed, right, (last, held, is_held, reads, calls), line))) =
+    let turn = judged public message signature key held signed before last whole reads calls in (StoresNothing, turn.0, (turn.1, inr (verdict, line)))
 
 -- ---- `keygen`
 
@@ -254,7 +220,7 @@ module _ (old : WorldCalls) (quiet : list_any hands_out old ≡ false) (none : s
   made_key : (new : WorldCalls) → StoresKey key (Asked false ∷ old) new → IsTurn (Makes key) [] new × (written_in new ≡ [])
   made_key new (taken, calls) = (
     begun (Makes key) [] new
-        ((PutBack (after_write (image_of key 0 0 0) taken) ∷ Taken (Some taken) ∷ [], old, calls, none), (taken, _, inl refl, one_use (Asked false ∷ old) quiet none new taken _ calls))
+        ((PutBack (after_write (image_of key 0 0 0) taken.view) ∷ Taken (Some taken) ∷ [], old, calls, none), (taken, _, inl refl, one_use (Asked false ∷ old) quiet none new taken _ calls))
         (ap (list_any hands_out) calls ∙ quiet) refl,
     ap written_in calls ∙ no_file,
   )
@@ -274,65 +240,34 @@ module _ (old : WorldCalls) (quiet : list_any hands_out old ≡ false) (none : s
       let written = writes_key public true is.until_written is.writes in (one_more new _ refl is.prints written.0, ap written_in is.prints ∙ written.1)
 
   unstored : (new : WorldCalls) (fault : Fault) → LogsUnstored key fault (Asked false ∷ old) new → (turn : Turn) × IsTurn turn [] new × (written_in new ≡ [])
-  unstored new BadLevels never = absurd never
-  unstored new TooManyLevels never = absurd never
-  unstored new TooTall never = absurd never
-  unstored new BadSeed never = absurd never
-  unstored new BadId never = absurd never
-  unstored new BadRandom never = absurd never
-  unstored new BadWorkers never = absurd never
-  unstored new (BadJob line) never = absurd never
-  unstored new TooManyJobs never = absurd never
-  unstored new StateExists never = absurd never
-  unstored new StateInUse never = absurd never
-  unstored new ReadState never = absurd never
-  unstored new (BadState bad) never = absurd never
-  unstored new WriteState (taken, left, fails, calls) = (
-    Makes key,
-    begun (Makes key) [] new
-        ((PutBack left ∷ Taken (Some taken) ∷ [], old, calls, none), (taken, left, inr fails, one_use (Asked false ∷ old) quiet none new taken left calls))
-        (ap (list_any hands_out) calls ∙ quiet) refl,
-    ap written_in calls ∙ no_file,
-  )
-  unstored new (WriteStateBurnt start len) never = absurd never
-  unstored new (Exhausted left) never = absurd never
-  unstored new OutOfMemory calls = (StoresNothing, begun StoresNothing [] new (inl (ap store_calls calls ∙ none)) (ap (list_any hands_out) calls ∙ quiet) refl, ap written_in calls ∙ no_file)
-  unstored new (OutOfMemoryBurnt count) never = absurd never
-  unstored new (Partial signed asked) never = absurd never
-  unstored new ReadInput never = absurd never
-  unstored new WriteOutput never = absurd never
+  unstored new fault (inl (at, calls)) = (StoresNothing, idle_as new _ calls none quiet, ap written_in calls ∙ no_file)
+  unstored new fault (inr (at, (taken, left, fails, calls))) =
+      let once = one_use (Asked false ∷ old) quiet none new taken left calls in
+      let quietly = ap (list_any hands_out) calls ∙ quiet in (
+        Makes key,
+        begun (Makes key) [] new
+            ((PutBack left ∷ Taken (Some taken) ∷ [], old, calls, none), (taken, left, inr fails, once)) quietly refl,
+        ap written_in calls ∙ no_file,
+      )
 
   unmade : (public : Bytes) (before printed : List ℕ) (new : WorldCalls) (fault : Fault) → LogsUnmade key public before printed fault old new
       → Ends HandsKeyAtMost new before printed
-  unmade public before printed new BadLevels never = absurd never
-  unmade public before printed new TooManyLevels never = absurd never
-  unmade public before printed new TooTall never = absurd never
-  unmade public before printed new BadSeed never = absurd never
-  unmade public before printed new BadId never = absurd never
-  unmade public before printed new BadRandom never = absurd never
-  unmade public before printed new BadWorkers never = absurd never
-  unmade public before printed new (BadJob line) never = absurd never
-  unmade public before printed new TooManyJobs never = absurd never
-  unmade public before printed new StateExists (calls, same) = (StoresNothing, begun StoresNothing [] new (inl (ap store_calls calls ∙ none)) (ap (list_any hands_out) calls ∙ quiet) refl, inl (ap written_in calls ∙ no_file, same))
-  unmade public before printed new StateInUse never = absurd never
-  unmade public before printed new ReadState never = absurd never
-  unmade public before printed new (BadState bad) never = absurd never
-  unmade public before printed new WriteState (is, same) = let never = unstored new WriteState is in (never.0, never.1, inl (never.2, same))
-  unmade public before printed new (WriteStateBurnt start len) never = absurd never
-  unmade public before printed new (Exhausted left) never = absurd never
-  unmade public before printed new OutOfMemory (inl calls, same) = (StoresNothing, begun StoresNothing [] new (inl (ap store_calls calls ∙ none)) (ap (list_any hands_out) calls ∙ quiet) refl, inl (ap written_in calls ∙ no_file, same))
-  unmade public before printed new OutOfMemory (inr (inl is), same) = let never = unstored new OutOfMemory is in (never.0, never.1, inl (never.2, same))
-  unmade public before printed new OutOfMemory (inr (inr is), same) = let written = writes_key public false new is in (Makes key, written.0, inr (key, written.1, no_text before printed _ same))
-  unmade public before printed new (OutOfMemoryBurnt count) never = absurd never
-  unmade public before printed new (Partial signed asked) never = absurd never
-  unmade public before printed new ReadInput never = absurd never
-  unmade public before printed new WriteOutput (inl (is, same)) = let written = writes_key public false new is in (Makes key, written.0, inr (key, written.1, no_text before printed _ same))
-  unmade public before printed new WriteOutput (inr (is, line)) = let written = publishes_key public before new is in (Makes key, written.0, inr (key, written.1, line))
+  unmade public before printed new fault (inl (same, inl (at, calls))) =
+      (StoresNothing, idle_as new _ calls none quiet, inl (ap written_in calls ∙ no_file, same))
+  unmade public before printed new fault (inl (same, inr (inl (at, calls)))) =
+      (StoresNothing, idle_as new _ calls none quiet, inl (ap written_in calls ∙ no_file, same))
+  unmade public before printed new fault (inl (same, inr (inr (inl never)))) =
+      let is = unstored new fault never in (is.0, is.1, inl (is.2, same))
+  unmade public before printed new fault (inl (same, inr (inr (inr (refused, is))))) =
+      let written = writes_key public false new is in
+      (Makes key, written.0, inr (key, written.1, no_text before printed _ same))
+  unmade public before printed new fault (inr (at, is, line)) =
+      let written = publishes_key public before new is in (Makes key, written.0, inr (key, written.1, line))
 
 pub keygen_turn : (key : KeyOfCode) (state public : Bytes) (before printed : List ℕ) (whole : WorldCalls) → LogsKeygen key state public before printed [] whole
     → Ends HandsKeyAtMost whole before printed
 keygen_turn key state public before printed whole (last, publishes, line, calls) =
-    let written = publishes_key (Locked state true ∷ []) refl refl refl key public before last publishes in (
+    let written = publishes_key (Locked state Acquired ∷ []) refl refl refl key public before last publishes in (
       Makes key,
       one_more whole Unlocked refl calls written.0,
       inr (key, ap written_in calls ∙ written.1, whole_text before printed (capacity_line key) line),
@@ -343,7 +278,7 @@ pub keygen_failed_turn : (key : KeyOfCode) (state public : Bytes) (before printe
 keygen_failed_turn key state public before printed fault whole (inl (refused, calls, same)) =
     (StoresNothing, idle_as whole _ calls refl refl, inl (ap written_in calls, same))
 keygen_failed_turn key state public before printed fault whole (inr (last, never, calls)) =
-    let is = unmade (Locked state true ∷ []) refl refl refl key public before printed last fault never in (
+    let is = unmade (Locked state Acquired ∷ []) refl refl refl key public before printed last fault never in (
       is.0,
       one_more whole Unlocked refl calls is.1,
       ⊎_elim (λ nothing. inl (ap written_in calls ∙ nothing.0, nothing.1)) (λ hands. inr (hands.0, ap written_in calls ∙ hands.1, hands.2)) is.2,

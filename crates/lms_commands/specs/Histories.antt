@@ -11,7 +11,7 @@ use Rattle.lms_book.specs.Stops.{StoreView, FailsToWrite, after_write}
 use Rattle.lms_kept.specs.Signed.{IsSignedBy}
 use Rattle.lms_kept.specs.Ways.{Way}
 use Rattle.lms_lines.specs.AnswerLines.{answer_line, AppendsFront}
-use Rattle.lms_world.specs.Events.{Event, Written, Asked, Taken, PutBack, Printing}
+use Rattle.lms_world.specs.Events.{Event, Written, Asked, Taken, Taking, PutBack, Printing}
 use Rattle.lms_texts.specs.Descriptions.{number_line}
 use Rattle.lms_commands.specs.KeygenLogs.{capacity_line}
 use Rattle.lms_commands.specs.ReadingLogs.{info_of}
@@ -77,7 +77,7 @@ written_in (Written name bytes done ∷ calls) = bytes ∷ written_in calls
 written_in (other ∷ calls) = written_in calls
 
 -- what keeps the state is taken out and put back, once
-abbrev pub IsOneUse : StoreView → StoreView → WorldCalls → Type 0
+abbrev pub IsOneUse : Taking → StoreView → WorldCalls → Type 0
 IsOneUse taken left calls = store_calls calls ≡ PutBack left ∷ Taken (Some taken) ∷ []
 
 -- an image is stored, for certain or not, and no other
@@ -98,10 +98,10 @@ FindsNone calls =
 -- for certain or not
 pub record UsesIndices (count : ℕ) (state : KeyState) (text : List ℕ)
     (calls : WorldCalls) : Type 0 where
-  pub taken : StoreView
+  pub taken : Taking
   pub given : StoreView
   pub left : StoreView
-  pub read : ReadsState state taken given
+  pub read : ReadsState state taken.view given
   pub text_is : read.text ≡ text
   pub some : 1 ≤ count
   pub within : state.index + count ≤ capacity_of (hss_key_of state.key)
@@ -112,10 +112,11 @@ pub record UsesIndices (count : ℕ) (state : KeyState) (text : List ℕ)
 abbrev pub Does : Turn → WorldCalls → Type 0
 Does StoresNothing calls =
     (store_calls calls ≡ [])
-    ⊎ ((taken left : StoreView) × IsUnwritten taken left × IsOneUse taken left calls)
+    ⊎ ((taken : Taking) × (left : StoreView) × IsUnwritten taken.view left
+    × IsOneUse taken left calls)
 Does (Makes key) calls =
     FindsNone calls
-    × ((taken left : StoreView) × Stores (image_of key 0 0 0) taken left
+    × ((taken : Taking) × (left : StoreView) × Stores (image_of key 0 0 0) taken.view left
     × IsOneUse taken left calls)
 Does (Uses count state text) calls = UsesIndices count state text calls
 

@@ -5,33 +5,33 @@ use Rattle.lms_spec.specs.Profile.{hss_public_key}
 use Rattle.lms_hss.specs.Keys.{hss_key_of}
 use Rattle.lms_hss.specs.declared.key.HssKey.{HssKey as KeyOfCode}
 use Rattle.lms_image.specs.Image.{image_of}
-use Rattle.lms_kept.specs.Ways.{AreGenuine, Way}
+use Rattle.lms_kept.specs.Ways.{AreGenuine, IsWay, Way}
 use Rattle.lms_lines.specs.AnswerLines.{AppendsFront}
 use Rattle.lms_texts.specs.Descriptions.{number_line}
 use Rattle.lms_book.specs.Stops.{StoreView, FailsToWrite, after_write}
-use Rattle.lms_world.specs.Known.{Bytes}
-use Rattle.lms_world.specs.Events.{Written, Locked, Unlocked, Asked, Taken, PutBack, Printing, after}
-use Rattle.lms_commands.specs.Logs.{IsLockRefused, WorldCalls, LogsKeeping}
+use Rattle.lms_world.specs.Names.{Bytes}
+use Rattle.lms_world.specs.Events.{Acquired, Written, Locked, Unlocked, Asked, Taken, Taking, Printing, after}
+use Rattle.lms_commands.specs.Logs.{IsLockRefused, IsWriteRefused, WorldCalls, LogsKeeping, PutsBack, lock_answer}
 use Rattle.lms_commands.specs.declared.fault.Fault.{Fault}
 use Rattle.lms_commands.specs.declared.fault.Fault.TheVariants.{StateExists, WriteState, OutOfMemory, WriteOutput}
 
 -- a new key's state is stored for certain: nothing else is written to its store
 abbrev pub StoresKey : KeyOfCode → WorldCalls → WorldCalls → Type 0
 StoresKey key old new =
-    (taken : StoreView)
-    × (new ≡ after (Taken (Some taken) ∷ PutBack (after_write (image_of key 0 0 0) taken) ∷ []) old)
+    (taken : Taking) × PutsBack taken (after_write (image_of key 0 0 0) taken.view) old new
 
 -- why it is not stored
 abbrev pub LogsUnstored : KeyOfCode → Fault → WorldCalls → WorldCalls → Type 0
-LogsUnstored key OutOfMemory old new = new ≡ after (Taken None ∷ []) old
-LogsUnstored key WriteState old new =
-    (taken left : StoreView) × FailsToWrite (image_of key 0 0 0) taken left
-    × (new ≡ after (Taken (Some taken) ∷ PutBack left ∷ []) old)
-LogsUnstored key _ old new = ⊥
+LogsUnstored key fault old new =
+    ((fault ≡ OutOfMemory) × (new ≡ after (Taken None ∷ []) old))
+    ⊎ ((fault ≡ WriteState)
+    × ((taken : Taking) × (left : StoreView) × FailsToWrite (image_of key 0 0 0) taken.view left
+    × PutsBack taken left old new))
 
 -- trees of this key, where there are any, with the nodes that they have
 abbrev pub AreGenuineTrees : KeyOfCode → Option Way → Type 0
-AreGenuineTrees key trees = IfSome trees (λ way. (way.key ≡ key) × AreGenuine way)
+AreGenuineTrees key trees =
+    IfSome trees (λ way. IsWay way × (way.key ≡ key) × AreGenuine way)
 
 -- it is stored where there was none, trees of the key may be kept, and then the public key is
 -- written to its file, once
@@ -61,24 +61,20 @@ capacity_line key = number_line (codes "capacity") (capacity_of (hss_key_of key)
 -- is stored
 abbrev pub LogsUnmade : KeyOfCode → Bytes → List ℕ → List ℕ → Fault → WorldCalls → WorldCalls
     → Type 0
-LogsUnmade key public before printed StateExists old new =
-    (new ≡ after (Asked true ∷ []) old) × (printed ≡ before)
-LogsUnmade key public before printed OutOfMemory old new = ((new ≡ after (Asked false ∷ []) old)
-    ⊎ (LogsUnstored key OutOfMemory (after (Asked false ∷ []) old) new
-    ⊎ WritesKey key public false old new)) × (printed ≡ before)
-LogsUnmade key public before printed WriteState old new =
-    LogsUnstored key WriteState (after (Asked false ∷ []) old) new × (printed ≡ before)
-LogsUnmade key public before printed WriteOutput old new =
-    (WritesKey key public false old new × (printed ≡ before))
-    ⊎ (PublishesKey key public before old new
+LogsUnmade key public before printed fault old new =
+    ((printed ≡ before)
+    × (((fault ≡ StateExists) × (new ≡ after (Asked true ∷ []) old))
+    ⊎ (((fault ≡ OutOfMemory) × (new ≡ after (Asked false ∷ []) old))
+    ⊎ (LogsUnstored key fault (after (Asked false ∷ []) old) new
+    ⊎ (IsWriteRefused fault × WritesKey key public false old new)))))
+    ⊎ ((fault ≡ WriteOutput) × PublishesKey key public before old new
     × AppendsFront (Some before) (Some printed) (capacity_line key))
-LogsUnmade key public before printed _ old new = ⊥
 
 -- all calls of `keygen`, from its lock on until that is handed back
 abbrev pub LogsKeygen : KeyOfCode → Bytes → Bytes → List ℕ → List ℕ → WorldCalls → WorldCalls
     → Type 0
 LogsKeygen key state public before printed old new =
-    (last : WorldCalls) × PublishesKey key public before (after (Locked state true ∷ []) old) last
+    (last : WorldCalls) × PublishesKey key public before (after (Locked state Acquired ∷ []) old) last
     × (printed ≡ before ++ capacity_line key)
     × (new ≡ after (Unlocked ∷ []) last)
 
@@ -86,7 +82,7 @@ LogsKeygen key state public before printed old new =
 abbrev pub LogsKeygenFailed : KeyOfCode → Bytes → Bytes → List ℕ → List ℕ → Fault → WorldCalls
     → WorldCalls → Type 0
 LogsKeygenFailed key state public before printed fault old new =
-    (IsLockRefused fault × (new ≡ after (Locked state false ∷ []) old) × (printed ≡ before))
+    (IsLockRefused fault × (new ≡ after (Locked state (lock_answer fault) ∷ []) old) × (printed ≡ before))
     ⊎ ((last : WorldCalls)
-    × LogsUnmade key public before printed fault (after (Locked state true ∷ []) old) last
+    × LogsUnmade key public before printed fault (after (Locked state Acquired ∷ []) old) last
     × (new ≡ after (Unlocked ∷ []) last))

@@ -1,16 +1,20 @@
 -- The calls that a command makes on its world, one after another, the newest first.
-use Rattle.std.specs.Prelude.{◌≡◌, ◌⊎◌, ◌+◌, ◌-◌, ◌<◌, ◌≤◌, ℕ, List, [], ◌∷◌, Bool, true, false, Option, Some, None}
+use Rattle.std.specs.Prelude.{◌≡◌, ◌⊎◌, ◌+◌, ◌-◌, ◌<◌, ◌≤◌, ℕ, List, [], ◌∷◌, ◌++◌, Bool, true, false, Option, Some, None, Result, Ok, Err}
 use Rattle.lms_spec.specs.Hss.{capacity_of}
 use Rattle.lms_hss.specs.Keys.{hss_key_of}
 use Rattle.lms_hss.specs.declared.key.HssKey.{HssKey as KeyOfCode}
 use Rattle.lms_image.specs.Image.{fault_of, image_of, HasImage, IsImage}
+use Rattle.lms_image.specs.declared.fault.ImageFault.{ImageFault}
 use Rattle.lms_image.specs.declared.image.Image.{Image}
 use Rattle.lms_book.specs.States.{BookState}
 use Rattle.lms_book.specs.Stops.{StoreView, FailsToWrite, MayLeave, after_failure, after_write, having_given}
 use Rattle.lms_kept.specs.Ways.{Way, nodes_text}
 use Rattle.lms_lines.specs.AnswerLines.{AppendsFront}
-use Rattle.lms_world.specs.Events.{Event, Taken, PutBack, NodesWritten, Printing, Written, after}
-use Rattle.lms_world.specs.Known.{Bytes}
+use Rattle.lms_world.specs.Events.{Event, Locking, Acquired, InUse, NoMemory, Taken, Taking, PutBack, NodesWritten, Printing, Written, after}
+use Rattle.lms_world.specs.Names.{Bytes}
+use Rattle.lms_world.specs.declared.fault.WorldFault.{WorldFault}
+use Rattle.lms_world.specs.declared.fault.WorldFault.TheVariants.{Device}
+use Rattle.lms_world.specs.declared.fault.WorldFault.TheVariants as world
 use Rattle.lms_commands.specs.declared.fault.Fault.{Fault}
 use Rattle.lms_commands.specs.declared.fault.Fault.TheVariants.{ReadState, BadState, WriteStateBurnt, Exhausted, StateInUse, ReadInput, WriteOutput, OutOfMemory, OutOfMemoryBurnt}
 
@@ -55,84 +59,107 @@ pub record ReadsState (state : KeyState) (taken read : StoreView) : Type 0 where
 -- a store is taken out and gives this state; it is not put back yet
 abbrev pub OpensState : BookState → WorldCalls → WorldCalls → Type 0
 OpensState book old new =
-    (taken : StoreView) × ReadsState (state_of book) taken book.store
+    (taken : Taking) × ReadsState (state_of book) taken.view book.store
     × (new ≡ after (Taken (Some taken) ∷ []) old)
+
+-- a store is taken out, and put back as what is left of it
+abbrev pub PutsBack : Taking → StoreView → WorldCalls → WorldCalls → Type 0
+PutsBack taken left old new = new ≡ after (Taken (Some taken) ∷ PutBack left ∷ []) old
 
 -- a state is not opened: its store fails, its bytes are no image, or memory runs out; nothing is
 -- written
 abbrev pub LogsUnopened : Fault → WorldCalls → WorldCalls → Type 0
-LogsUnopened ReadState old new =
-    (taken : StoreView)
-    × (new ≡ after (Taken (Some taken) ∷ PutBack (after_failure taken) ∷ []) old)
-LogsUnopened (BadState fault) old new =
-    (taken : StoreView) × (text : List ℕ) × MayLeave taken text × (fault_of text ≡ Some fault)
-    × (new ≡ after (Taken (Some taken) ∷ PutBack (having_given text taken) ∷ []) old)
-LogsUnopened OutOfMemory old new =
-    (new ≡ after (Taken None ∷ []) old)
-    ⊎ ((taken : StoreView) × (new ≡ after (Taken (Some taken) ∷ PutBack taken ∷ []) old))
-LogsUnopened _ old new = ⊥
+LogsUnopened fault old new =
+    ((fault ≡ OutOfMemory) × (new ≡ after (Taken None ∷ []) old))
+    ⊎ ((taken : Taking)
+    × (((fault ≡ OutOfMemory) × PutsBack taken taken.view old new)
+    ⊎ (((fault ≡ ReadState) × (taken.may_fail ≡ true)
+    × PutsBack taken (after_failure taken.view) old new)
+    ⊎ ((bad : ImageFault) × (text : List ℕ) × (fault ≡ BadState bad)
+    × MayLeave taken.view text × (fault_of text ≡ Some bad)
+    × PutsBack taken (having_given text taken.view) old new))))
 
 -- a state is read, and nothing is written
 abbrev pub LeavesState : KeyState → WorldCalls → WorldCalls → Type 0
 LeavesState state old new =
-    (taken read : StoreView) × ReadsState state taken read
-    × (new ≡ after (Taken (Some taken) ∷ PutBack read ∷ []) old)
+    (taken : Taking) × (read : StoreView) × ReadsState state taken.view read
+    × PutsBack taken read old new
 
 -- a state is read, and the image that counts n indices more is stored for certain: nothing else is
 -- written
 abbrev pub StoresUse : ℕ → KeyState → WorldCalls → WorldCalls → Type 0
 StoresUse n state old new =
-    (taken read : StoreView) × ReadsState state taken read
+    (taken : Taking) × (read : StoreView) × ReadsState state taken.view read
     × (state.index + n ≤ capacity_of (hss_key_of state.key))
-    × (new ≡ after (Taken (Some taken) ∷ PutBack (after_write (image_using n state) read) ∷ []) old)
+    × PutsBack taken (after_write (image_using n state) read) old new
 
 -- the same, where it was not stored for certain
 abbrev pub TriesUse : ℕ → KeyState → WorldCalls → WorldCalls → Type 0
 TriesUse n state old new =
-    (taken read left : StoreView) × ReadsState state taken read
+    (taken : Taking) × (read left : StoreView) × ReadsState state taken.view read
     × (state.index + n ≤ capacity_of (hss_key_of state.key))
     × FailsToWrite (image_using n state) read left
-    × (new ≡ after (Taken (Some taken) ∷ PutBack left ∷ []) old)
+    × PutsBack taken left old new
 
 -- n indices of a state that was opened sign nothing: none is used, or their use is stored, for
 -- certain or not
 abbrev pub LogsUnsigned : ℕ → Fault → KeyState → WorldCalls → WorldCalls → Type 0
-LogsUnsigned n (Exhausted left) state old new =
-    (capacity_of (hss_key_of state.key) < state.index + n)
-    × (left ≡ capacity_of (hss_key_of state.key) - state.index) × LeavesState state old new
-LogsUnsigned n OutOfMemory state old new = LeavesState state old new
-LogsUnsigned n (WriteStateBurnt start len) state old new =
-    (start ≡ state.index) × (len ≡ n) × TriesUse n state old new
-LogsUnsigned n (OutOfMemoryBurnt count) state old new = (count ≡ n) × StoresUse n state old new
-LogsUnsigned n _ state old new = ⊥
+LogsUnsigned n fault state old new =
+    ((fault ≡ Exhausted (capacity_of (hss_key_of state.key) - state.index))
+    × (capacity_of (hss_key_of state.key) < state.index + n) × LeavesState state old new)
+    ⊎ (((fault ≡ OutOfMemory) × LeavesState state old new)
+    ⊎ (((fault ≡ WriteStateBurnt state.index n) × TriesUse n state old new)
+    ⊎ ((fault ≡ OutOfMemoryBurnt n) × StoresUse n state old new)))
 
--- the bytes of these trees are kept, which is done or fails, or nothing is
+-- the bytes of these trees are kept, which is done or fails, or nothing is, since memory for them was
+-- refused or there are no trees
 abbrev pub LogsKeeping : Option Way → WorldCalls → WorldCalls → Type 0
 LogsKeeping trees old new =
     (new ≡ old)
     ⊎ ((way : Way) × (done : Bool) × (trees ≡ Some way)
     × (new ≡ after (NodesWritten (nodes_text way) done ∷ []) old))
 
+-- what was not locked, or not read, at this fault
+abbrev pub lock_answer : Fault → Locking
+lock_answer StateInUse = InUse
+lock_answer fault = NoMemory
+
+abbrev pub read_cause : Fault → WorldFault
+read_cause ReadInput = Device
+read_cause fault = world.OutOfMemory
+
+-- what a lock, or a call that reads, came to in the world
+abbrev pub locked_so : {T : Type 0} → Result T Fault → Locking
+locked_so (Ok lock) = Acquired
+locked_so (Err fault) = lock_answer fault
+
+abbrev pub caused : {T : Type 0} → Result T Fault → Result T WorldFault
+caused (Ok given) = Ok given
+caused (Err fault) = Err (read_cause fault)
+
 -- the fault comes where a lock is not acquired
 abbrev pub IsLockRefused : Fault → Type 0
-IsLockRefused StateInUse = Unit {0}
-IsLockRefused OutOfMemory = Unit {0}
-IsLockRefused _ = ⊥
+IsLockRefused fault = (fault ≡ StateInUse) ⊎ (fault ≡ OutOfMemory)
 
 -- the fault comes where a file is not read
 abbrev pub IsReadRefused : Fault → Type 0
-IsReadRefused ReadInput = Unit {0}
-IsReadRefused OutOfMemory = Unit {0}
-IsReadRefused _ = ⊥
+IsReadRefused fault = (fault ≡ ReadInput) ⊎ (fault ≡ OutOfMemory)
+
+-- the fault comes where a file is not written
+abbrev pub IsWriteRefused : Fault → Type 0
+IsWriteRefused fault = (fault ≡ WriteOutput) ⊎ (fault ≡ OutOfMemory)
+
+-- these bytes are written to a file, and the line after them is printed
+abbrev pub Publishes : Bytes → List ℕ → List ℕ → List ℕ → List ℕ → WorldCalls → WorldCalls → Type 0
+Publishes name bytes line before printed old new =
+    (new ≡ after (Written name bytes true ∷ Printing before ∷ []) old)
+    × (printed ≡ before ++ line)
 
 -- at this fault these bytes are not written to a file and nothing is printed; or they are, and of
 -- the line after them a beginning at most is printed
 abbrev pub FailsToPublish : Bytes → List ℕ → List ℕ → List ℕ → List ℕ → Fault → WorldCalls
     → WorldCalls → Type 0
-FailsToPublish name bytes line before printed OutOfMemory old new =
-    (new ≡ after (Written name bytes false ∷ []) old) × (printed ≡ before)
-FailsToPublish name bytes line before printed WriteOutput old new =
-    ((new ≡ after (Written name bytes false ∷ []) old) × (printed ≡ before))
-    ⊎ ((new ≡ after (Written name bytes true ∷ Printing before ∷ []) old)
+FailsToPublish name bytes line before printed fault old new =
+    (IsWriteRefused fault × (new ≡ after (Written name bytes false ∷ []) old) × (printed ≡ before))
+    ⊎ ((fault ≡ WriteOutput) × (new ≡ after (Written name bytes true ∷ Printing before ∷ []) old)
     × AppendsFront (Some before) (Some printed) line)
-FailsToPublish name bytes line before printed _ old new = ⊥

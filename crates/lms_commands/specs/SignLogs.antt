@@ -1,18 +1,21 @@
 -- The calls that `sign` makes on its world.
-use Rattle.std.specs.Prelude.{◌≡◌, ◌⊎◌, List, [], ◌∷◌, ◌++◌, Bool, true, false, ℕ, Option, Some, None, Ok, codes}
+use Rattle.std.specs.Prelude.{◌≡◌, ◌⊎◌, List, [], ◌∷◌, ◌++◌, Bool, true, false, ℕ, Option, Some, Ok, Err, codes, length}
 use Rattle.hex.specs.Hex.{decode_of}
 use Rattle.lms_kept.specs.Signed.{IsSignedByText}
 use Rattle.lms_kept.specs.Ways.{Way}
 use Rattle.lms_lines.specs.AnswerLines.{AppendsFront}
-use Rattle.lms_world.specs.Known.{Bytes}
-use Rattle.lms_world.specs.Events.{Read, Written, Locked, Unlocked, NodesRead, Printing, after}
+use Rattle.lms_world.specs.Names.{Bytes}
+use Rattle.lms_world.specs.Events.{Acquired, Read, Written, Locked, Unlocked, NodesRead, Printing, after}
 use Rattle.lms_texts.specs.Descriptions.{number_line}
-use Rattle.lms_commands.specs.Logs.{IsLockRefused, IsReadRefused, KeyState, WorldCalls, LogsKeeping, LogsUnopened, LogsUnsigned, StoresUse}
+use Rattle.lms_commands.specs.Logs.{IsLockRefused, IsReadRefused, KeyState, WorldCalls, LogsKeeping, LogsUnopened, LogsUnsigned, StoresUse, lock_answer, read_cause}
+use Rattle.lms_commands.specs.Keygen.{IsHexOf}
+use Rattle.lms_spec.specs.HashLength.{hash_length}
 use Rattle.lms_commands.specs.declared.fault.Fault.{Fault}
 use Rattle.lms_commands.specs.declared.fault.Fault.TheVariants.{BadRandom, WriteOutput}
 
 -- the use of a state's next index is stored for certain, and then trees may be kept; the signature
--- is one by that index of its key
+-- is one by that index of its key: the standard's, where the nodes that were read are right or none
+-- were
 pub record LogsSigned (nodes : Option (List ℕ)) (random message : List ℕ) (index : ℕ)
     (signature : List ℕ) (old new : WorldCalls) : Type 0 where
   pub state : KeyState
@@ -64,14 +67,18 @@ LogsUndelivered random message out before printed fault old new =
     ⊎ ((delivers : DeliversSignature random message out before old new)
     × AppendsFront (Some before) (Some printed) (index_line delivers.writes))))
 
+-- the text is 32 bytes in hexadecimal, these
+abbrev pub IsRandomizer : Bytes → List ℕ → Type 0
+IsRandomizer text c = (length c ≡ hash_length) × (decode_of text ≡ Ok c)
+
 -- all calls of `sign`: the message is read, and then from the lock on until that is handed back;
 -- that index is printed
 abbrev pub LogsSign : Bytes → Bytes → Bytes → Bytes → List ℕ → List ℕ → WorldCalls → WorldCalls
     → Type 0
 LogsSign random message state out before printed old new =
-    (c text : List ℕ) × (last : WorldCalls) × (decode_of random ≡ Ok c)
+    (c text : List ℕ) × (last : WorldCalls) × IsRandomizer random c
     × ((delivers : DeliversSignature c text out before
-    (after (Read message (Some text) ∷ Locked state true ∷ []) old) last)
+    (after (Read message (Ok text) ∷ Locked state Acquired ∷ []) old) last)
     × (printed ≡ before ++ index_line delivers.writes))
     × (new ≡ after (Unlocked ∷ []) last)
 
@@ -79,11 +86,13 @@ LogsSign random message state out before printed old new =
 abbrev pub LogsSignFailed : Bytes → Bytes → Bytes → Bytes → List ℕ → List ℕ → Fault → WorldCalls
     → WorldCalls → Type 0
 LogsSignFailed random message state out before printed fault old new =
-    ((fault ≡ BadRandom) × (new ≡ old) × (printed ≡ before))
-    ⊎ ((IsReadRefused fault × (new ≡ after (Read message None ∷ []) old) × (printed ≡ before))
+    ((fault ≡ BadRandom) × (new ≡ old) × (printed ≡ before) × ¬ IsHexOf hash_length random)
+    ⊎ ((IsReadRefused fault × (new ≡ after (Read message (Err (read_cause fault)) ∷ []) old)
+    × (printed ≡ before) × IsHexOf hash_length random)
     ⊎ (((text : List ℕ) × IsLockRefused fault
-    × (new ≡ after (Read message (Some text) ∷ Locked state false ∷ []) old) × (printed ≡ before))
-    ⊎ ((c text : List ℕ) × (last : WorldCalls) × (decode_of random ≡ Ok c)
+    × (new ≡ after (Read message (Ok text) ∷ Locked state (lock_answer fault) ∷ []) old)
+    × (printed ≡ before) × IsHexOf hash_length random)
+    ⊎ ((c text : List ℕ) × (last : WorldCalls) × IsRandomizer random c
     × LogsUndelivered c text out before printed fault
-    (after (Read message (Some text) ∷ Locked state true ∷ []) old) last
+    (after (Read message (Ok text) ∷ Locked state Acquired ∷ []) old) last
     × (new ≡ after (Unlocked ∷ []) last))))

@@ -1,18 +1,18 @@
 //! `batch`: job lines signed by the next indices of a key's state.
 ghost use Rattle.std.specs.Io.KnownBytes.{Appends};
-ghost use Rattle.std.specs.Prelude.{Some, ◌≡◌, ◌⊎◌, ◌≤◌, ℕ, List, [], ◌∷◌, length, IfErr, IfOk, OnOk};
+ghost use Rattle.std.specs.Prelude.{Some, ◌≡◌, ◌≤◌, ℕ, List, [], ◌∷◌, length, IfErr, IfOk, OnOk};
 ghost use Rattle.lms_batch.specs.Jobs.{most_workers};
 ghost use Rattle.lms_shared_book.specs.Desks.{BlankFits, sums};
 ghost use Rattle.lms_lines.specs.AnswerLines.{answer_text};
 ghost use Rattle.lms_lines.specs.SignedLines.{signatures_in};
 ghost use Rattle.lms_commands.specs.BatchLogs.{LogsAnswers, LogsBatch, LogsJobs, LogsJobsFailed, LogsNoBatch, LogsUnanswered};
-ghost use Rattle.lms_commands.specs.Batches.{FailsToBatch, FailsToSignInput, FailsToSignJobs, PrintsNothing, IsUnprinted, SignsAllJobs, SignsAsked, streams};
-ghost use Rattle.lms_world.specs.Known.{SameFiles, SameNodes};
-ghost use Rattle.lms_texts.specs.Options.{AreWorkers};
+ghost use Rattle.lms_commands.specs.Batches.{IsUnprinted};
+ghost use Rattle.lms_world.specs.Held.{Follows};
 ghost use Rattle.lms_commands.specs.SharedBooks.{IsRefusedAtDesk, IsRefusedBy, IsSignedAtDesk, IsSignedByBook};
 
 use crate::fault::Fault;
 use crate::files::{lock_state, open_state};
+use crate::resources::Resources;
 use lms_batch::SigningService;
 use lms_book::{Book, StateStore};
 use lms_hss::Progress;
@@ -20,7 +20,6 @@ use lms_lines::{SignedJobs, count_signatures, read_and_sign, write_batch};
 use lms_shared_book::{Blanks, BookLedger, Desk, SharedBook};
 use lms_texts::workers_from;
 use lms_world::{Printer, World};
-use std::alloc::Global;
 use std::io::{Read, Write};
 use std::marker::Brand;
 use std::sync::Wait;
@@ -44,77 +43,52 @@ use std::thread::Threads;
 ///
 /// `progress` gets how many leaves of the trees that the batch needs are computed.
 pub fn sign_jobs<W: World, I: Read, O: Write>(
-    rt: &(impl Threads + Wait + Sync),
-    alloc: Global,
+    resources: &Resources<impl Threads + Wait + Sync, impl Progress>,
     world: &mut W,
-    log: &mut W::Log,
     state: &str,
     workers: &str,
     input: &mut I,
     output: &mut Printer<O>,
-    progress: &impl Progress,
 ) -> Result<(), Fault>
-    ensures logged { OnOk result (LogsJobs state.now (I.remaining input.old)
-        (I.remaining input.new) output.old output.new (W.events log.old) (W.events log.new)) }
-    ensures log_failed { IfErr result (λ fault. LogsJobsFailed state.now (I.remaining input.old)
-        (I.remaining input.new) output.old output.new fault (W.events log.old) (W.events log.new)) }
-    ensures workers { OnOk result (AreWorkers workers.now) }
-    ensures signed { OnOk result (SignsAllJobs (W.known world.old) (W.known world.new) state.now
-        (streams (I.remaining input.old) (Some output.old))
-        (streams (I.remaining input.new) (Some output.new))) }
-    ensures failed { IfErr result (FailsToBatch (W.known world.old) (W.known world.new)
-        state.now workers.now (streams (I.remaining input.old) (Some output.old))
-        (streams (I.remaining input.new) (Some output.new))) }
-    ensures silent { IfErr result (λ fault. PrintsNothing fault → output.new ≡ output.old) }
-    ensures files { SameFiles (W.known world.old) (W.known world.new) }
-    ensures nodes { SameNodes (W.known world.old) (W.known world.new) }
+    ensures logged { OnOk result (LogsJobs state.now workers.now (I.remaining input.old)
+        (I.remaining input.new) output.old output.new (W.events world.old) (W.events world.new)) }
+    ensures log_failed { IfErr result (λ fault. LogsJobsFailed state.now workers.now
+        (I.remaining input.old) (I.remaining input.new) output.old output.new fault
+        (W.events world.old) (W.events world.new)) }
+    ensures follows { Follows (W.memory world.old) (W.events world.old)
+        (W.memory world.new) (W.events world.new) }
 {
     let Some(workers) = workers_from(workers) else {
         return Err(Fault::BadWorkers);
     };
-    let lock = lock_state(alloc, world, log, state)?;
-    let done = sign_locked(
-        rt, alloc, world, log, &lock, workers, input, output, progress,
-    );
-    world.unlock(log, lock);
+    let lock = lock_state(resources.alloc, world, state)?;
+    let done = sign_locked(resources, world, &lock, workers, input, output);
+    world.unlock(lock);
     done
 }
 
 /// The same, under the lock. The answers are printed after the state's store was put back.
 fn sign_locked<W: World, I: Read, O: Write>(
-    rt: &(impl Threads + Wait + Sync),
-    alloc: Global,
+    resources: &Resources<impl Threads + Wait + Sync, impl Progress>,
     world: &mut W,
-    log: &mut W::Log,
     lock: &W::Lock,
     workers: usize,
     input: &mut I,
     output: &mut Printer<O>,
-    progress: &impl Progress,
 ) -> Result<(), Fault>
     requires some { 1 ≤ workers }
     requires at_most { workers ≤ most_workers }
     ensures logged { OnOk result ((count : ℕ) × LogsAnswers
         (I.remaining input.old) (I.remaining input.new) output.old output.new count count
-        (W.events log.old) (W.events log.new)) }
-    ensures log_failed { IfErr result (λ fault.
-        (LogsNoBatch (I.remaining input.old) (I.remaining input.new) fault (W.events log.old)
-        (W.events log.new) × (output.new ≡ output.old)) ⊎ LogsUnanswered (I.remaining input.old)
-        (I.remaining input.new) output.old output.new fault (W.events log.old) (W.events log.new)) }
-    ensures signed { OnOk result ((state : List ℕ) → W.is_lock_of lock.now state
-        → SignsAllJobs (W.known world.old) (W.known world.new) state
-        (streams (I.remaining input.old) (Some output.old))
-        (streams (I.remaining input.new) (Some output.new))) }
-    ensures failed { IfErr result (λ fault. (state : List ℕ) → W.is_lock_of lock.now state
-        → FailsToSignJobs (W.known world.old) (W.known world.new) state
-        (streams (I.remaining input.old) (Some output.old))
-        (streams (I.remaining input.new) (Some output.new)) fault) }
-    ensures silent { IfErr result (λ fault. PrintsNothing fault → output.new ≡ output.old) }
-    ensures files { SameFiles (W.known world.old) (W.known world.new) }
-    ensures nodes { SameNodes (W.known world.old) (W.known world.new) }
+        (W.events world.old) (W.events world.new)) }
+    ensures log_failed { IfErr result (λ fault. LogsUnanswered
+        (I.remaining input.old) (I.remaining input.new) output.old output.new fault
+        (W.events world.old) (W.events world.new)) }
+    ensures follows { Follows (W.memory world.old) (W.events world.old)
+        (W.memory world.new) (W.events world.new) }
 {
-    let signed = sign_by_state(rt, alloc, world, log, lock, workers, input, progress)?;
-    world.begin_printing(log, output);
+    let signed = sign_by_state(resources, world, lock, workers, input)?;
+    world.begin_printing(output);
     print_answers(&signed, output)
 }
 
@@ -142,45 +116,34 @@ fn print_answers<O: Write>(signed: &SignedJobs, output: &mut O) -> Result<(), Fa
 
 /// Signs job lines with the next indices of the key of a lock's state.
 fn sign_by_state<W: World, I: Read>(
-    rt: &(impl Threads + Wait + Sync),
-    alloc: Global,
+    resources: &Resources<impl Threads + Wait + Sync, impl Progress>,
     world: &mut W,
-    log: &mut W::Log,
     lock: &W::Lock,
     workers: usize,
     input: &mut I,
-    progress: &impl Progress,
 ) -> Result<SignedJobs, Fault>
     requires some { 1 ≤ workers }
     requires at_most { workers ≤ most_workers }
     ensures logged { IfOk result (λ signed.
         (signs : LogsBatch (I.remaining input.old) (I.remaining input.new) signed.batch
-        (W.events log.old) (W.events log.new)) × (signed.asked ≡ length signs.jobs)) }
+        (W.events world.old) (W.events world.new)) × (signed.asked ≡ length signs.jobs)) }
     ensures log_failed { IfErr result (λ fault. LogsNoBatch (I.remaining input.old)
-        (I.remaining input.new) fault (W.events log.old) (W.events log.new)) }
-    ensures signed { IfOk result (λ signed. (state : List ℕ) → W.is_lock_of lock.now state
-        → SignsAsked (W.known world.old) (W.known world.new) state (I.remaining input.old)
-        (I.remaining input.new) signed) }
-    ensures failed { IfErr result (λ fault. (state : List ℕ) → W.is_lock_of lock.now state
-        → FailsToSignInput (W.known world.old) (W.known world.new) state (I.remaining input.old)
-        (I.remaining input.new) fault) }
-    ensures files { SameFiles (W.known world.old) (W.known world.new) }
-    ensures nodes { SameNodes (W.known world.old) (W.known world.new) }
+        (I.remaining input.new) fault (W.events world.old) (W.events world.new)) }
+    ensures follows { Follows (W.memory world.old) (W.events world.old)
+        (W.memory world.new) (W.events world.new) }
 {
-    let book = open_state(alloc, world, log, lock)?;
-    let (answer, left) = sign_by_book(rt, alloc, book, workers, input, progress);
-    world.put_back(log, lock, left.close());
+    let book = open_state(resources.alloc, world, lock)?;
+    let (answer, left) = sign_by_book(resources, book, workers, input);
+    world.put_back(lock, left.close());
     answer
 }
 
 /// Signs job lines by a book that is shared meanwhile, with one desk, and hands the book back.
 fn sign_by_book<S: StateStore, I: Read>(
-    rt: &(impl Threads + Wait + Sync),
-    alloc: Global,
+    resources: &Resources<impl Threads + Wait + Sync, impl Progress>,
     book: Book<S>,
     workers: usize,
     input: &mut I,
-    progress: &impl Progress,
 ) -> (Result<SignedJobs, Fault>, Book<S>)
     requires some { 1 ≤ workers }
     requires at_most { workers ≤ most_workers }
@@ -194,18 +157,16 @@ fn sign_by_book<S: StateStore, I: Read>(
         received: Blank::new(2),
         burnt: Blank::new(2),
     };
-    sign_shared::<Brand, Brand, Brand, S, I>(rt, alloc, book, blanks, workers, input, progress)
+    sign_shared::<Brand, Brand, Brand, S, I>(resources, book, blanks, workers, input)
 }
 
 /// The same, with the ledgers of the desk. Where memory for the desk is refused, no line is read.
 fn sign_shared<E: BookLedger, G: BookLedger, B: BookLedger, S: StateStore, I: Read>(
-    rt: &(impl Threads + Wait + Sync),
-    alloc: Global,
+    resources: &Resources<impl Threads + Wait + Sync, impl Progress>,
     book: Book<S>,
     blanks: Blanks,
     workers: usize,
     input: &mut I,
-    progress: &impl Progress,
 ) -> (Result<SignedJobs, Fault>, Book<S>)
     requires some { 1 ≤ workers }
     requires at_most { workers ≤ most_workers }
@@ -218,12 +179,17 @@ fn sign_shared<E: BookLedger, G: BookLedger, B: BookLedger, S: StateStore, I: Re
     ensures refused { IfErr result.0 (λ fault.
         IsRefusedBy book (I.remaining input.old) (I.remaining input.new) fault result.1) }
 {
-    let (shared, mut desks) = match SharedBook::<S, E, G, B>::share(alloc, book, blanks, 1) {
+    let (shared, mut desks) = match SharedBook::<S, E, G, B>::share(
+        resources.alloc,
+        book,
+        blanks,
+        1,
+    ) {
         Ok(shared) => shared,
         Err((_, book, _)) => return (Err(Fault::OutOfMemory), book),
     };
     let service = SigningService::over(shared);
-    let answer = sign_at_desk(rt, alloc, &service, &mut desks, workers, input, progress);
+    let answer = sign_at_desk(resources, &service, &mut desks, workers, input);
     match service.into_book().settle(desks) {
         Ok(left) => (answer, left),
         // All desks have come, so that nothing is dropped here.
@@ -233,13 +199,11 @@ fn sign_shared<E: BookLedger, G: BookLedger, B: BookLedger, S: StateStore, I: Re
 
 /// Signs job lines at the only desk of a service, which has counted nothing.
 fn sign_at_desk<E: BookLedger, G: BookLedger, B: BookLedger, S: StateStore, I: Read>(
-    rt: &(impl Threads + Wait + Sync),
-    alloc: Global,
+    resources: &Resources<impl Threads + Wait + Sync, impl Progress>,
     service: &SigningService<S, E, G, B>,
     desks: &mut [Desk<E, G, B>],
     workers: usize,
     input: &mut I,
-    progress: &impl Progress,
 ) -> Result<SignedJobs, Fault>
     requires some { 1 ≤ workers }
     requires at_most { workers ≤ most_workers }
@@ -248,7 +212,14 @@ fn sign_at_desk<E: BookLedger, G: BookLedger, B: BookLedger, S: StateStore, I: R
         (I.remaining input.old) (I.remaining input.new) signed desks.new) }
     ensures refused { IfErr result (λ fault. IsRefusedAtDesk service.now
         (I.remaining input.old) (I.remaining input.new) fault desks.new) }
-    ensures still { length desks.new ≡ 1 }
 {
-    Ok(read_and_sign(rt, alloc, service, input, &mut desks[0], workers, progress)?)
+    Ok(read_and_sign(
+        resources.rt,
+        resources.alloc,
+        service,
+        input,
+        &mut desks[0],
+        workers,
+        resources.progress,
+    )?)
 }

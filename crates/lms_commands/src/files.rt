@@ -1,13 +1,8 @@
 //! What every command does with files and states.
-ghost use Rattle.std.specs.Prelude.{[], ◌∷◌, ◌≡◌, ◌⊎◌, ◌↔◌, ℕ, List, IfErr, IfOk, OnOk};
-ghost use Rattle.lms_image.specs.Image.{HasImage};
-ghost use Rattle.lms_book.specs.Stops.{MayLeave};
-ghost use Rattle.lms_world.specs.Known.{MayBeRead, SameFiles, SameFilesBut, SameNodes, Stays};
-ghost use Rattle.lms_world.specs.Events.{Read, Opened, Written, Locked, bytes_of, is_done};
-ghost use Rattle.lms_commands.specs.Faults.{of_read};
-ghost use Rattle.lms_commands.specs.Logs.{LogsUnopened, OpensState};
-ghost use Rattle.lms_commands.specs.Signing.{FailsToOpen, MayBeImageOf};
-ghost use Rattle.lms_commands.specs.Verifying.{MayBeRefusedAt};
+ghost use Rattle.std.specs.Prelude.{[], ◌∷◌, ◌≡◌, ℕ, List, None, IfErr, IfOk, IfSome, OnOk};
+ghost use Rattle.lms_world.specs.Events.{Read, Opened, Written, Locked, is_done, opening_of, read_of};
+ghost use Rattle.lms_world.specs.Held.{Does, Follows};
+ghost use Rattle.lms_commands.specs.Logs.{IsLockRefused, IsReadRefused, IsWriteRefused, LogsUnopened, OpensState, caused, locked_so};
 
 use crate::fault::Fault;
 use lms_book::Book;
@@ -19,63 +14,64 @@ use std::alloc::Global;
 /// refused.
 pub(crate) fn read_file<W: World>(
     alloc: Global,
-    world: &W,
-    log: &mut W::Log,
+    world: &mut W,
     name: &str,
 ) -> Result<Vec<u8>, Fault>
-    ensures logged { W.events log.new ≡ Read name.now (bytes_of result) ∷ W.events log.old }
-    ensures given { IfOk result (λ bytes. (W.known world.now).may_give name.now bytes.items) }
-    ensures refused { IfErr result (MayBeRefusedAt (W.known world.now) name.now) }
+    ensures logged { W.events world.new
+        ≡ Read name.now (read_of (caused result)) ∷ W.events world.old }
+    ensures refused { IfErr result IsReadRefused }
+    ensures acts { Does (Read name.now (read_of (caused result)))
+        (W.memory world.old) (W.memory world.new) }
 {
-    Ok(world.read(alloc, log, name)?)
+    match world.read(alloc, name) {
+        Ok(bytes) => Ok(bytes),
+        Err(WorldFault::Device) => Err(Fault::ReadInput),
+        Err(WorldFault::OutOfMemory) => Err(Fault::OutOfMemory),
+    }
 }
 
 /// Opens a file to be read in pieces. Faults as `read_file`.
 pub(crate) fn open_file<W: World>(
     alloc: Global,
-    world: &W,
-    log: &mut W::Log,
+    world: &mut W,
     name: &str,
 ) -> Result<W::Contents, Fault>
-    ensures logged { W.events log.new ≡ Opened name.now (is_done result) ∷ W.events log.old }
-    ensures there { IfOk result (λ _. MayBeRead (W.known world.now) name.now) }
-    ensures given { IfOk result (λ contents. (bytes : List ℕ)
-        → W.Contents.may_give contents bytes → (W.known world.now).may_give name.now bytes) }
-    ensures refuses { IfOk result (λ contents. (fault : WorldFault)
-        → W.Contents.may_refuse contents fault → (W.known world.now).may_refuse name.now fault) }
-    ensures refused { IfErr result (MayBeRefusedAt (W.known world.now) name.now) }
+    ensures logged { W.events world.new
+        ≡ Opened name.now (opening_of W.Contents.holds (caused result)) ∷ W.events world.old }
+    ensures refused { IfErr result IsReadRefused }
+    ensures acts { Does (Opened name.now (opening_of W.Contents.holds (caused result)))
+        (W.memory world.old) (W.memory world.new) }
 {
-    Ok(world.open(alloc, log, name)?)
+    match world.open(alloc, name) {
+        Ok(contents) => Ok(contents),
+        Err(WorldFault::Device) => Err(Fault::ReadInput),
+        Err(WorldFault::OutOfMemory) => Err(Fault::OutOfMemory),
+    }
 }
 
 /// Hands the bytes of a file over, piece by piece. Faults as `read_file`.
 pub(crate) fn hand_over<C: Contents, T: Taker>(contents: C, taker: &mut T) -> Result<(), Fault>
-    ensures handed { OnOk result
-        ((bytes : List ℕ) × C.may_give contents bytes × T.after taker.old bytes taker.new) }
-    ensures refused { IfErr result (λ fault.
-        (cause : WorldFault) × C.may_refuse contents cause × (fault ≡ of_read cause)) }
+    ensures handed { OnOk result ((bytes : List ℕ)
+        × IfSome (C.holds contents) (λ held. bytes ≡ held) × T.after taker.old bytes taker.new) }
+    ensures refused { IfErr result (λ fault. IsReadRefused fault × (C.holds contents ≡ None)) }
 {
-    Ok(contents.hand_over(taker)?)
+    match contents.hand_over(taker) {
+        Ok(()) => Ok(()),
+        Err(WorldFault::Device) => Err(Fault::ReadInput),
+        Err(WorldFault::OutOfMemory) => Err(Fault::OutOfMemory),
+    }
 }
 
 /// Makes these the bytes of a file, and changes no other. `WriteOutput` where it can't be written,
 /// `OutOfMemory` where memory for that was refused.
-pub(crate) fn write_file<W: World>(
-    world: &mut W,
-    log: &mut W::Log,
-    name: &str,
-    bytes: &[u8],
-) -> Result<(), Fault>
-    ensures logged { W.events log.new
-        ≡ Written name.now bytes.now (is_done result) ∷ W.events log.old }
-    ensures given { OnOk result ((W.known world.new).may_give name.now bytes.now) }
-    ensures failed { IfErr result (λ fault.
-        (fault ≡ Fault.WriteOutput) ⊎ (fault ≡ Fault.OutOfMemory)) }
-    ensures others { SameFilesBut name.now (W.known world.old) (W.known world.new) }
-    ensures states { (state : List ℕ) → Stays (W.known world.old) (W.known world.new) state }
-    ensures nodes { SameNodes (W.known world.old) (W.known world.new) }
+pub(crate) fn write_file<W: World>(world: &mut W, name: &str, bytes: &[u8]) -> Result<(), Fault>
+    ensures logged { W.events world.new
+        ≡ Written name.now bytes.now (is_done result) ∷ W.events world.old }
+    ensures refused { IfErr result IsWriteRefused }
+    ensures acts { Does (Written name.now bytes.now (is_done result))
+        (W.memory world.old) (W.memory world.new) }
 {
-    match world.write(log, name, bytes) {
+    match world.write(name, bytes) {
         Ok(()) => Ok(()),
         Err(WorldFault::Device) => Err(Fault::WriteOutput),
         Err(WorldFault::OutOfMemory) => Err(Fault::OutOfMemory),
@@ -86,16 +82,15 @@ pub(crate) fn write_file<W: World>(
 /// name was refused.
 pub(crate) fn lock_state<W: World>(
     alloc: Global,
-    world: &W,
-    log: &mut W::Log,
+    world: &mut W,
     state: &str,
 ) -> Result<W::Lock, Fault>
-    ensures logged { W.events log.new ≡ Locked state.now (is_done result) ∷ W.events log.old }
-    ensures locked { IfOk result (λ lock. W.is_lock_of lock state.now) }
-    ensures refused { IfErr result (λ fault. ((fault ≡ Fault.StateInUse)
-        × (W.known world.now).may_be_in_use state.now) ⊎ (fault ≡ Fault.OutOfMemory)) }
+    ensures logged { W.events world.new ≡ Locked state.now (locked_so result) ∷ W.events world.old }
+    ensures refused { IfErr result IsLockRefused }
+    ensures acts { Does (Locked state.now (locked_so result))
+        (W.memory world.old) (W.memory world.new) }
 {
-    match world.lock(alloc, log, state) {
+    match world.lock(alloc, state) {
         Ok(Some(lock)) => Ok(lock),
         Ok(None) => Err(Fault::StateInUse),
         Err(OutOfMemory) => Err(Fault::OutOfMemory),
@@ -107,30 +102,20 @@ pub(crate) fn lock_state<W: World>(
 pub(crate) fn open_state<W: World>(
     alloc: Global,
     world: &mut W,
-    log: &mut W::Log,
     lock: &W::Lock,
 ) -> Result<Book<W::Store>, Fault>
-    ensures logged { IfOk result (λ book. OpensState book (W.events log.old) (W.events log.new)) }
+    ensures logged { IfOk result (λ book. OpensState book (W.events world.old) (W.events world.new)) }
     ensures unopened { IfErr result (λ fault.
-        LogsUnopened fault (W.events log.old) (W.events log.new)) }
-    ensures opened { IfOk result (λ book. (state : List ℕ) → W.is_lock_of lock.now state
-        → MayBeImageOf (W.known world.old) state book.key book.base book.openings book.burnt) }
-    ensures counted { IfOk result (λ book. HasImage book.key book.base book.openings book.burnt) }
+        LogsUnopened fault (W.events world.old) (W.events world.new)) }
     ensures fresh { IfOk result (λ book. book.history ≡ []) }
-    ensures taken { IfOk result (λ book. (state : List ℕ) → W.is_lock_of lock.now state
-        → (text : List ℕ) → MayLeave book.store text ↔ (W.known world.old).may_hold state text) }
-    ensures failed { IfErr result (λ fault. (state : List ℕ) → W.is_lock_of lock.now state
-        → FailsToOpen (W.known world.old) state fault) }
-    ensures stays { IfErr result (λ _. (state : List ℕ) → W.is_lock_of lock.now state
-        → Stays (W.known world.old) (W.known world.new) state) }
-    ensures files { SameFiles (W.known world.old) (W.known world.new) }
-    ensures nodes { SameNodes (W.known world.old) (W.known world.new) }
+    ensures follows { Follows (W.memory world.old) (W.events world.old)
+        (W.memory world.new) (W.events world.new) }
 {
-    let store = world.take_store(alloc, log, lock)?;
+    let store = world.take_store(alloc, lock)?;
     match Book::open(alloc, store) {
         Ok(book) => Ok(book),
         Err((fault, store)) => {
-            world.put_back(log, lock, store);
+            world.put_back(lock, store);
             Err(Fault::from(fault))
         }
     }

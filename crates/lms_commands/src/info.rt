@@ -1,10 +1,8 @@
 //! `info`: what a key's state says.
-ghost use Rattle.std.specs.Prelude.{Some, ◌≡◌, ◌≢◌, ◌++◌, ℕ, List, IfErr, IfOk, OnOk};
-ghost use Rattle.lms_image.specs.Image.{HasImage};
-ghost use Rattle.lms_world.specs.Known.{SameFiles, SameNodes, Stays};
+ghost use Rattle.std.specs.Prelude.{◌≡◌, ◌++◌, IfErr, IfOk, OnOk};
+ghost use Rattle.lms_world.specs.Held.{Follows};
 ghost use Rattle.lms_commands.specs.Logs.{KeyState, LeavesState, LogsUnopened, state_in};
 ghost use Rattle.lms_commands.specs.ReadingLogs.{LogsInfo, LogsInfoFailed, LogsUndescribed, ReadsToPrint, info_of};
-ghost use Rattle.lms_commands.specs.Signing.{Describes, FailsToDescribe, FailsToOpen, MayBeImageOf};
 
 use crate::fault::Fault;
 use crate::files::{lock_state, open_state};
@@ -23,25 +21,19 @@ use std::io::Write;
 pub fn describe<W: World, O: Write>(
     alloc: Global,
     world: &mut W,
-    log: &mut W::Log,
     state: &str,
     output: &mut Printer<O>,
 ) -> Result<(), Fault>
     ensures logged { OnOk result
-        (LogsInfo state.now output.old output.new (W.events log.old) (W.events log.new)) }
+        (LogsInfo state.now output.old output.new (W.events world.old) (W.events world.new)) }
     ensures log_failed { IfErr result (λ fault. LogsInfoFailed state.now output.old output.new fault
-        (W.events log.old) (W.events log.new)) }
-    ensures described { OnOk result (Describes (W.known world.old) state.now
-        (Some output.old) (Some output.new)) }
-    ensures failed { IfErr result (FailsToDescribe (W.known world.old) state.now) }
-    ensures stays { Stays (W.known world.old) (W.known world.new) state.now }
-    ensures files { SameFiles (W.known world.old) (W.known world.new) }
-    ensures nodes { SameNodes (W.known world.old) (W.known world.new) }
-    ensures silent { IfErr result (λ fault. fault ≢ Fault.WriteOutput → output.new ≡ output.old) }
+        (W.events world.old) (W.events world.new)) }
+    ensures follows { Follows (W.memory world.old) (W.events world.old)
+        (W.memory world.new) (W.events world.new) }
 {
-    let lock = lock_state(alloc, world, log, state)?;
-    let described = describe_locked(alloc, world, log, &lock, output);
-    world.unlock(log, lock);
+    let lock = lock_state(alloc, world, state)?;
+    let described = describe_locked(alloc, world, &lock, output);
+    world.unlock(lock);
     described
 }
 
@@ -49,59 +41,37 @@ pub fn describe<W: World, O: Write>(
 fn describe_locked<W: World, O: Write>(
     alloc: Global,
     world: &mut W,
-    log: &mut W::Log,
     lock: &W::Lock,
     output: &mut Printer<O>,
 ) -> Result<(), Fault>
     ensures logged { OnOk result ((read : KeyState) × ReadsToPrint read output.old
-        (W.events log.old) (W.events log.new) × (output.new ≡ output.old ++ info_of read)) }
+        (W.events world.old) (W.events world.new) × (output.new ≡ output.old ++ info_of read)) }
     ensures log_failed { IfErr result (λ fault.
-        LogsUndescribed output.old output.new fault (W.events log.old) (W.events log.new)) }
-    ensures described { OnOk result ((state : List ℕ) → W.is_lock_of lock.now state
-        → Describes (W.known world.old) state (Some output.old) (Some output.new)) }
-    ensures failed { IfErr result (λ fault. (state : List ℕ)
-        → W.is_lock_of lock.now state → FailsToDescribe (W.known world.old) state fault) }
-    ensures stays { (state : List ℕ) → W.is_lock_of lock.now state
-        → Stays (W.known world.old) (W.known world.new) state }
-    ensures files { SameFiles (W.known world.old) (W.known world.new) }
-    ensures nodes { SameNodes (W.known world.old) (W.known world.new) }
-    ensures silent { IfErr result (λ fault. fault ≢ Fault.WriteOutput → output.new ≡ output.old) }
+        LogsUndescribed output.old output.new fault (W.events world.old) (W.events world.new)) }
+    ensures follows { Follows (W.memory world.old) (W.events world.old)
+        (W.memory world.new) (W.events world.new) }
 {
-    let image = read_state(alloc, world, log, lock)?;
-    world.begin_printing(log, output);
+    let image = read_state(alloc, world, lock)?;
+    world.begin_printing(output);
     Ok(print_info(output, &image)?)
 }
 
 /// The key of the state of a lock, and what is counted of it.
-fn read_state<W: World>(
-    alloc: Global,
-    world: &mut W,
-    log: &mut W::Log,
-    lock: &W::Lock,
-) -> Result<Image, Fault>
+fn read_state<W: World>(alloc: Global, world: &mut W, lock: &W::Lock) -> Result<Image, Fault>
     ensures logged { IfOk result (λ image.
-        LeavesState (state_in image) (W.events log.old) (W.events log.new)) }
+        LeavesState (state_in image) (W.events world.old) (W.events world.new)) }
     ensures unopened { IfErr result (λ fault.
-        LogsUnopened fault (W.events log.old) (W.events log.new)) }
-    ensures opened { IfOk result (λ image. (state : List ℕ) → W.is_lock_of lock.now state
-        → MayBeImageOf
-        (W.known world.old) state image.key image.counter image.openings image.burnt) }
-    ensures stays { (state : List ℕ) → W.is_lock_of lock.now state
-        → Stays (W.known world.old) (W.known world.new) state }
-    ensures files { SameFiles (W.known world.old) (W.known world.new) }
-    ensures nodes { SameNodes (W.known world.old) (W.known world.new) }
-    ensures counted { IfOk result (λ image.
-        HasImage image.key image.counter image.openings image.burnt) }
-    ensures failed { IfErr result (λ fault. (state : List ℕ) → W.is_lock_of lock.now state
-        → FailsToOpen (W.known world.old) state fault) }
+        LogsUnopened fault (W.events world.old) (W.events world.new)) }
+    ensures follows { Follows (W.memory world.old) (W.events world.old)
+        (W.memory world.new) (W.events world.new) }
 {
-    let book = open_state(alloc, world, log, lock)?;
+    let book = open_state(alloc, world, lock)?;
     let image = Image {
         key: book.key(),
         counter: book.base(),
         openings: book.openings(),
         burnt: book.burnt(),
     };
-    world.put_back(log, lock, book.close());
+    world.put_back(lock, book.close());
     Ok(image)
 }

@@ -1,18 +1,17 @@
 //! `keygen`: a new key's state, and its public key.
-ghost use Rattle.std.specs.Prelude.{Some, [], ◌∷◌, ◌++◌, ◌≡◌, ◌≢◌, ℕ, List, IfErr, IfOk, OnOk, codes, true};
-ghost use Rattle.std.specs.Io.KnownBytes.{Appends};
+ghost use Rattle.std.specs.Prelude.{◌++◌, ◌≡◌, IfErr, IfOk, OnOk, codes};
 ghost use Rattle.lms_image.specs.Image.{image_of};
 ghost use Rattle.lms_book.specs.Stops.{WritesStore};
-ghost use Rattle.lms_commands.specs.Keygen.{FailsToMakeKey, FailsToStore, IsKeyOf, IsNoKey, IsTaken, KeepsWhereStored, MakesKey};
+ghost use Rattle.lms_commands.specs.Keygen.{IsKeyOf, IsNoKey, IsTaken};
 ghost use Rattle.lms_texts.specs.Descriptions.{number_line};
-ghost use Rattle.lms_commands.specs.Logs.{FailsToPublish};
+ghost use Rattle.lms_commands.specs.Logs.{FailsToPublish, Publishes};
 ghost use Rattle.lms_commands.specs.KeygenLogs.{capacity_line, LogsKeygen, LogsKeygenFailed, LogsUnmade, LogsUnstored, PublishesKey, StoresKey};
-ghost use Rattle.lms_world.specs.Events.{Printing, Written, after};
-ghost use Rattle.lms_world.specs.Known.{SameFiles, SameFilesBut, SameNodes, Stays};
+ghost use Rattle.lms_world.specs.Held.{Follows};
 
 use crate::fault::Fault;
 use crate::files::{lock_state, write_file};
 use crate::keeping::keep_trees;
+use crate::resources::Resources;
 use lms_book::{StateStore, StoreFault};
 use lms_hss::{HssKey, Levels, Progress};
 use lms_image::{Image, encode_image};
@@ -65,94 +64,71 @@ fn key_of(levels: Levels, seed: [u8; HASH_LEN], id: [u8; 16]) -> HssKey
 ///
 /// `progress` gets how many leaves of the top tree are computed.
 pub fn make_key<W: World, O: Write>(
-    rt: &(impl Threads + Sync),
-    alloc: Global,
+    resources: &Resources<impl Threads + Sync, impl Progress>,
     world: &mut W,
-    log: &mut W::Log,
     key: HssKey,
     state: &str,
     public: &str,
     output: &mut Printer<O>,
-    progress: &impl Progress,
 ) -> Result<(), Fault>
     ensures logged { OnOk result (LogsKeygen key state.now public.now output.old output.new
-        (W.events log.old) (W.events log.new)) }
+        (W.events world.old) (W.events world.new)) }
     ensures log_failed { IfErr result (λ fault. LogsKeygenFailed key
-        state.now public.now output.old output.new fault (W.events log.old) (W.events log.new)) }
-    ensures made { OnOk result (MakesKey (W.known world.old)
-        (W.known world.new) key state.now public.now (Some output.old) (Some output.new)) }
-    ensures failed { IfErr result
-        (FailsToMakeKey (W.known world.old) (W.known world.new) key state.now) }
-    ensures silent { IfErr result (λ fault. fault ≢ Fault.WriteOutput → output.new ≡ output.old) }
-    ensures files { SameFilesBut public.now (W.known world.old) (W.known world.new) }
-    ensures nodes { KeepsWhereStored (W.known world.old) (W.known world.new) key state.now }
+        state.now public.now output.old output.new fault (W.events world.old) (W.events world.new)) }
+    ensures follows { Follows (W.memory world.old) (W.events world.old)
+        (W.memory world.new) (W.events world.new) }
 {
-    let lock = lock_state(alloc, world, log, state)?;
-    let made = make_locked(rt, alloc, world, log, &lock, key, public, output, progress);
-    world.unlock(log, lock);
+    let lock = lock_state(resources.alloc, world, state)?;
+    let made = make_locked(resources, world, &lock, key, public, output);
+    world.unlock(lock);
     made
 }
 
 /// The same, once the lock is acquired.
 fn make_locked<W: World, O: Write>(
-    rt: &(impl Threads + Sync),
-    alloc: Global,
+    resources: &Resources<impl Threads + Sync, impl Progress>,
     world: &mut W,
-    log: &mut W::Log,
     lock: &W::Lock,
     key: HssKey,
     public: &str,
     output: &mut Printer<O>,
-    progress: &impl Progress,
 ) -> Result<(), Fault>
     ensures logged { OnOk result (PublishesKey key public.now output.old
-        (W.events log.old) (W.events log.new) × (output.new ≡ output.old ++ capacity_line key)) }
+        (W.events world.old) (W.events world.new) × (output.new ≡ output.old ++ capacity_line key)) }
     ensures log_failed { IfErr result (λ fault. LogsUnmade
-        key public.now output.old output.new fault (W.events log.old) (W.events log.new)) }
-    ensures made { OnOk result ((state : List ℕ) → W.is_lock_of lock.now state
-        → MakesKey (W.known world.old) (W.known world.new) key state public.now
-        (Some output.old) (Some output.new)) }
-    ensures failed { IfErr result (λ fault. (state : List ℕ) → W.is_lock_of lock.now state
-        → FailsToMakeKey (W.known world.old) (W.known world.new) key state fault) }
-    ensures silent { IfErr result (λ fault. fault ≢ Fault.WriteOutput → output.new ≡ output.old) }
-    ensures files { SameFilesBut public.now (W.known world.old) (W.known world.new) }
-    ensures nodes { (state : List ℕ) → W.is_lock_of lock.now state
-        → KeepsWhereStored (W.known world.old) (W.known world.new) key state }
+        key public.now output.old output.new fault (W.events world.old) (W.events world.new)) }
+    ensures follows { Follows (W.memory world.old) (W.events world.old)
+        (W.memory world.new) (W.events world.new) }
 {
-    if world.exists(log, lock) {
+    if world.exists(lock) {
         return Err(Fault::StateExists);
     }
-    let trees = KeptTrees::top(rt, alloc, key, progress)?;
-    store_key(alloc, world, log, lock, key)?;
-    keep_trees(alloc, world, log, lock, &trees);
-    publish(world, log, public, &trees.public(), key.capacity(), output)
+    let trees = KeptTrees::top(resources.rt, resources.alloc, key, resources.progress)?;
+    store_key(resources.alloc, world, lock, key)?;
+    keep_trees(resources.alloc, world, lock, &trees);
+    publish(world, public, &trees.public(), key.capacity(), output)
 }
 
 /// Writes a public key to a file, and then prints its capacity. `OutOfMemory` where memory for the
 /// file was refused, `WriteOutput` where it can't be written, or the capacity not printed.
 fn publish<W: World, O: Write>(
     world: &mut W,
-    log: &mut W::Log,
     name: &str,
     public_key: &[u8],
     capacity: u64,
     output: &mut Printer<O>,
 ) -> Result<(), Fault>
-    ensures logged { OnOk result (W.events log.new ≡ after
-        (Written name.now public_key.now true ∷ Printing output.old ∷ []) (W.events log.old)) }
+    ensures published { OnOk result
+        (Publishes name.now public_key.now (number_line (codes "capacity") capacity)
+        output.old output.new (W.events world.old) (W.events world.new)) }
     ensures failed { IfErr result
         (λ fault. FailsToPublish name.now public_key.now (number_line (codes "capacity") capacity)
-        output.old output.new fault (W.events log.old) (W.events log.new)) }
-    ensures given { OnOk result ((W.known world.new).may_give name.now public_key.now) }
-    ensures printed { OnOk result (Appends (Some output.old) (Some output.new)
-        (number_line (codes "capacity") capacity)) }
-    ensures silent { IfErr result (λ fault. fault ≢ Fault.WriteOutput → output.new ≡ output.old) }
-    ensures others { SameFilesBut name.now (W.known world.old) (W.known world.new) }
-    ensures states { (state : List ℕ) → Stays (W.known world.old) (W.known world.new) state }
-    ensures nodes { SameNodes (W.known world.old) (W.known world.new) }
+        output.old output.new fault (W.events world.old) (W.events world.new)) }
+    ensures follows { Follows (W.memory world.old) (W.events world.old)
+        (W.memory world.new) (W.events world.new) }
 {
-    write_file(world, log, name, public_key)?;
-    world.begin_printing(log, output);
+    write_file(world, name, public_key)?;
+    world.begin_printing(output);
     Ok(print_capacity(output, capacity)?)
 }
 
@@ -161,23 +137,18 @@ fn publish<W: World, O: Write>(
 fn store_key<W: World>(
     alloc: Global,
     world: &mut W,
-    log: &mut W::Log,
     lock: &W::Lock,
     key: HssKey,
 ) -> Result<(), Fault>
-    ensures logged { OnOk result (StoresKey key (W.events log.old) (W.events log.new)) }
+    ensures logged { OnOk result (StoresKey key (W.events world.old) (W.events world.new)) }
     ensures unstored { IfErr result (λ fault.
-        LogsUnstored key fault (W.events log.old) (W.events log.new)) }
-    ensures stored { OnOk result ((state : List ℕ) → W.is_lock_of lock.now state
-        → (W.known world.new).may_hold state (image_of key 0 0 0)) }
-    ensures failed { IfErr result (λ fault. (state : List ℕ) → W.is_lock_of lock.now state
-        → FailsToStore (W.known world.old) (W.known world.new) key state fault) }
-    ensures files { SameFiles (W.known world.old) (W.known world.new) }
-    ensures nodes { SameNodes (W.known world.old) (W.known world.new) }
+        LogsUnstored key fault (W.events world.old) (W.events world.new)) }
+    ensures follows { Follows (W.memory world.old) (W.events world.old)
+        (W.memory world.new) (W.events world.new) }
 {
-    let mut store = world.take_store(alloc, log, lock)?;
+    let mut store = world.take_store(alloc, lock)?;
     let stored = store_unused(&mut store, key);
-    world.put_back(log, lock, store);
+    world.put_back(lock, store);
     match stored {
         Ok(()) => Ok(()),
         Err(_) => Err(Fault::WriteState),

@@ -1,24 +1,20 @@
 //! `sign`: a message signed with the next index of a key's state.
-ghost use Rattle.std.specs.Prelude.{[], ◌∷◌, ◌++◌, ◌≡◌, ◌≢◌, ◌+◌, ℕ, List, ◌<◌, IfErr, IfOk, IfSome, Ok, OnOk, Some, codes, length, option_map, true};
-ghost use Rattle.std.specs.Io.KnownBytes.{Appends};
-ghost use Rattle.hex.specs.Hex.{decode_of};
+ghost use Rattle.std.specs.Prelude.{◌++◌, ◌≡◌, IfErr, IfOk, OnOk, codes, option_map};
 ghost use Rattle.lms_spec.specs.HashLength.{hash_length};
 ghost use Rattle.lms_kept.specs.Signed.{IsSignedByText};
 ghost use Rattle.lms_book.specs.Books.{counter};
-ghost use Rattle.lms_book.specs.States.{IsSameOpening};
 ghost use Rattle.lms_commands.specs.Faults.{of_signing};
 ghost use Rattle.lms_texts.specs.Descriptions.{number_line};
 ghost use Rattle.lms_commands.specs.Keygen.{IsHexOf};
-ghost use Rattle.lms_world.specs.Events.{Printing, Written, after};
-ghost use Rattle.lms_commands.specs.Logs.{FailsToPublish, LogsKeeping};
-ghost use Rattle.lms_commands.specs.SignLogs.{index_line, DeliversSignature, LogsNotSigned, LogsSign, LogsSignFailed, LogsSigned, LogsUndelivered};
-ghost use Rattle.lms_world.specs.Known.{SameFiles, SameFilesBut, SameNodes, Stays};
-ghost use Rattle.lms_commands.specs.Keeping.{KeepsOnly};
-ghost use Rattle.lms_commands.specs.Signing.{FailsToSign, FailsToSignNext, FailsUnder, GivesOne, KeepsWhereUsed, SignsFile, SignsNext, SignsNothing, SignsUnder};
+ghost use Rattle.lms_commands.specs.Logs.{FailsToPublish, LogsKeeping, Publishes};
+ghost use Rattle.lms_commands.specs.SignLogs.{index_line, DeliversSignature, IsRandomizer, LogsNotSigned, LogsSign, LogsSignFailed, LogsSigned, LogsUndelivered};
+ghost use Rattle.lms_world.specs.Held.{Follows};
+ghost use Rattle.lms_commands.specs.Signing.{GivesOne, SignsNothing};
 
 use crate::fault::Fault;
 use crate::files::{lock_state, open_state, read_file, write_file};
 use crate::keeping::{keep_trees, kept_text};
+use crate::resources::Resources;
 use lms_batch::Job;
 use lms_book::{Book, BookFault, Lease, StateStore};
 use lms_hss::Progress;
@@ -58,6 +54,16 @@ struct Signed {
     trees: Option<KeptTrees>,
 }
 
+/// What `sign` is asked for: a randomizer of 64 hexadecimal digits, and the names of the key's state
+/// and of the files of the message and the signature.
+#[derive(Clone, Copy)]
+pub struct SignRequest<'a> {
+    pub state: &'a str,
+    pub random: &'a str,
+    pub message: &'a str,
+    pub out: &'a str,
+}
+
 /// Signs the message in a file with the next index of a state's key, under a randomizer of 64
 /// hexadecimal digits, writes the signature to a file and prints the index.
 ///
@@ -72,79 +78,59 @@ struct Signed {
 /// the signature needed other nodes it is kept anew once the use of the index was stored, before
 /// the file is written. Where either can't be done, that is no fault.
 ///
-/// `progress` gets how many leaves of the trees that the signature needs are computed.
+/// `resources.progress` gets how many leaves of the trees that the signature needs are computed.
 pub fn sign_file<W: World, O: Write>(
-    rt: &(impl Threads + Sync),
-    alloc: Global,
+    resources: &Resources<impl Threads + Sync, impl Progress>,
     world: &mut W,
-    log: &mut W::Log,
-    state: &str,
-    random: &str,
-    message: &str,
-    out: &str,
+    request: &SignRequest,
     output: &mut Printer<O>,
-    progress: &impl Progress,
 ) -> Result<(), Fault>
-    ensures logged { OnOk result (LogsSign random.now
-        message.now state.now out.now output.old output.new (W.events log.old) (W.events log.new)) }
-    ensures log_failed { IfErr result (λ fault. LogsSignFailed random.now message.now
-        state.now out.now output.old output.new fault (W.events log.old) (W.events log.new)) }
-    ensures signed { OnOk result (SignsFile (W.known world.old) (W.known world.new)
-        state.now random.now message.now out.now (Some output.old) (Some output.new)) }
-    ensures failed { IfErr result (FailsToSign (W.known world.old)
-        (W.known world.new) state.now random.now message.now) }
-    ensures silent { IfErr result (λ fault. fault ≢ Fault.WriteOutput → output.new ≡ output.old) }
-    ensures files { SameFilesBut out.now (W.known world.old) (W.known world.new) }
-    ensures nodes { KeepsWhereUsed (W.known world.old) (W.known world.new) state.now }
+    ensures logged { OnOk result (LogsSign request.now.random.now request.now.message.now
+        request.now.state.now request.now.out.now output.old output.new
+        (W.events world.old) (W.events world.new)) }
+    ensures log_failed { IfErr result (λ fault. LogsSignFailed request.now.random.now
+        request.now.message.now request.now.state.now request.now.out.now output.old output.new fault
+        (W.events world.old) (W.events world.new)) }
+    ensures follows { Follows (W.memory world.old) (W.events world.old)
+        (W.memory world.new) (W.events world.new) }
 {
-    let randomizer = randomizer_from(random)?;
-    let message = read_file(alloc, world, log, message)?;
+    let randomizer = randomizer_from(request.random)?;
+    let message = read_file(resources.alloc, world, request.message)?;
     let job = Job {
         c: randomizer,
         message,
     };
-    let lock = lock_state(alloc, world, log, state)?;
-    let done = sign_locked(rt, alloc, world, log, &lock, &job, out, output, progress);
-    world.unlock(log, lock);
+    let lock = lock_state(resources.alloc, world, request.state)?;
+    let done = sign_locked(resources, world, &lock, &job, request.out, output);
+    world.unlock(lock);
     done
 }
 
 /// The same, once the message is read and the lock is acquired.
 fn sign_locked<W: World, O: Write>(
-    rt: &(impl Threads + Sync),
-    alloc: Global,
+    resources: &Resources<impl Threads + Sync, impl Progress>,
     world: &mut W,
-    log: &mut W::Log,
     lock: &W::Lock,
     job: &Job,
     out: &str,
     output: &mut Printer<O>,
-    progress: &impl Progress,
 ) -> Result<(), Fault>
     ensures logged { OnOk result ((delivers : DeliversSignature
-        job.now.c job.now.message.items out.now output.old (W.events log.old) (W.events log.new))
+        job.now.c job.now.message.items out.now output.old (W.events world.old) (W.events world.new))
         × (output.new ≡ output.old ++ index_line delivers.writes)) }
     ensures log_failed { IfErr result (λ fault. LogsUndelivered job.now.c job.now.message.items
-        out.now output.old output.new fault (W.events log.old) (W.events log.new)) }
-    ensures signed { OnOk result ((state : List ℕ)
-        → W.is_lock_of lock.now state → SignsUnder (W.known world.old) (W.known world.new)
-        state job.now.c job.now.message.items out.now (Some output.old) (Some output.new)) }
-    ensures failed { IfErr result (λ fault. (state : List ℕ) → W.is_lock_of lock.now state
-        → FailsUnder (W.known world.old)
-        (W.known world.new) state job.now.c job.now.message.items fault) }
-    ensures silent { IfErr result (λ fault. fault ≢ Fault.WriteOutput → output.new ≡ output.old) }
-    ensures files { SameFilesBut out.now (W.known world.old) (W.known world.new) }
-    ensures nodes { (state : List ℕ) → W.is_lock_of lock.now state
-        → KeepsWhereUsed (W.known world.old) (W.known world.new) state }
+        out.now output.old output.new fault (W.events world.old) (W.events world.new)) }
+    ensures follows { Follows (W.memory world.old) (W.events world.old)
+        (W.memory world.new) (W.events world.new) }
 {
-    let kept = kept_text(alloc, world, log, lock);
-    let signed = sign_by_state(rt, alloc, world, log, lock, job, kept.as_deref(), progress)?;
-    deliver(world, log, out, &signed, output)
+    let kept = kept_text(resources.alloc, world, lock);
+    let signed = sign_by_state(resources, world, lock, job, kept.as_deref())?;
+    deliver(world, out, &signed, output)
 }
 
 /// The randomizer of a text of 64 hexadecimal digits, else `BadRandom`.
 fn randomizer_from(text: &str) -> Result<[u8; HASH_LEN], Fault>
-    ensures read { IfOk result (λ c. (length c ≡ hash_length) × (decode_of text.now ≡ Ok c)) }
+    ensures read { IfOk result (IsRandomizer text.now) }
     ensures refused { IfErr result (λ fault.
         (fault ≡ Fault.BadRandom) × ¬ IsHexOf hash_length text.now) }
 {
@@ -155,26 +141,22 @@ fn randomizer_from(text: &str) -> Result<[u8; HASH_LEN], Fault>
 /// done, also where memory for the file was refused, since the index is used.
 fn deliver<W: World, O: Write>(
     world: &mut W,
-    log: &mut W::Log,
     out: &str,
     signed: &Signed,
     output: &mut Printer<O>,
 ) -> Result<(), Fault>
-    ensures logged { OnOk result (W.events log.new ≡ after (Written
-        out.now signed.now.signature.items true ∷ Printing output.old ∷ []) (W.events log.old)) }
+    ensures published { OnOk result (Publishes
+        out.now signed.now.signature.items (number_line (codes "index") signed.now.index)
+        output.old output.new (W.events world.old) (W.events world.new)) }
     ensures failed { IfErr result (λ fault. (fault ≡ Fault.WriteOutput) × FailsToPublish
         out.now signed.now.signature.items (number_line (codes "index") signed.now.index)
-        output.old output.new Fault.WriteOutput (W.events log.old) (W.events log.new)) }
-    ensures given { OnOk result ((W.known world.new).may_give out.now signed.now.signature.items) }
-    ensures printed { OnOk result (Appends (Some output.old) (Some output.new)
-        (number_line (codes "index") signed.now.index)) }
-    ensures others { SameFilesBut out.now (W.known world.old) (W.known world.new) }
-    ensures states { (state : List ℕ) → Stays (W.known world.old) (W.known world.new) state }
-    ensures nodes { SameNodes (W.known world.old) (W.known world.new) }
+        output.old output.new fault (W.events world.old) (W.events world.new)) }
+    ensures follows { Follows (W.memory world.old) (W.events world.old)
+        (W.memory world.new) (W.events world.new) }
 {
-    match write_file(world, log, out, &signed.signature) {
+    match write_file(world, out, &signed.signature) {
         Ok(()) => {
-            world.begin_printing(log, output);
+            world.begin_printing(output);
             Ok(print_index(output, signed.index)?)
         }
         Err(_) => Err(Fault::WriteOutput),
@@ -183,37 +165,26 @@ fn deliver<W: World, O: Write>(
 
 /// Signs a message with the next index of the key of a lock's state.
 fn sign_by_state<W: World>(
-    rt: &(impl Threads + Sync),
-    alloc: Global,
+    resources: &Resources<impl Threads + Sync, impl Progress>,
     world: &mut W,
-    log: &mut W::Log,
     lock: &W::Lock,
     job: &Job,
     kept: Option<&[u8]>,
-    progress: &impl Progress,
 ) -> Result<Signed, Fault>
-    requires { (state : List ℕ) → W.is_lock_of lock.now state
-        → IfSome kept (λ text. (W.known world.old).may_keep state text.now) }
     ensures logged { IfOk result (λ signed.
         LogsSigned (option_map (λ text. text.now) kept.entry) job.now.c job.now.message.items
-        signed.index signed.signature.items (W.events log.old) (W.events log.new)) }
+        signed.index signed.signature.items (W.events world.old) (W.events world.new)) }
     ensures log_failed { IfErr result (λ fault.
-        LogsNotSigned fault (W.events log.old) (W.events log.new)) }
-    ensures signed { IfOk result (λ signed. (state : List ℕ) → W.is_lock_of lock.now state
-        → SignsNext (W.known world.old) (W.known world.new) state job.now.c job.now.message.items
-        signed.signature.items signed.index) }
-    ensures failed { IfErr result (λ fault. (state : List ℕ) → W.is_lock_of lock.now state
-        → FailsToSignNext (W.known world.old) (W.known world.new) state fault) }
-    ensures files { SameFiles (W.known world.old) (W.known world.new) }
-    ensures nodes { (state : List ℕ) → W.is_lock_of lock.now state
-        → KeepsWhereUsed (W.known world.old) (W.known world.new) state }
+        LogsNotSigned fault (W.events world.old) (W.events world.new)) }
+    ensures follows { Follows (W.memory world.old) (W.events world.old)
+        (W.memory world.new) (W.events world.new) }
 {
-    let mut book = open_state(alloc, world, log, lock)?;
-    let signed = sign_next(rt, alloc, &mut book, job, kept, progress);
-    world.put_back(log, lock, book.close());
+    let mut book = open_state(resources.alloc, world, lock)?;
+    let signed = sign_next(resources, &mut book, job, kept);
+    world.put_back(lock, book.close());
     match signed {
         Ok(signed) => {
-            keep_signers(alloc, world, log, lock, &signed);
+            keep_signers(resources.alloc, world, lock, &signed);
             Ok(signed)
         }
         Err(fault) => Err(Fault::from(fault)),
@@ -221,20 +192,13 @@ fn sign_by_state<W: World>(
 }
 
 /// Keeps the trees that signed, where what was read did not serve the index as it was.
-fn keep_signers<W: World>(
-    alloc: Global,
-    world: &mut W,
-    log: &mut W::Log,
-    lock: &W::Lock,
-    signed: &Signed,
-)
-    ensures logged { LogsKeeping signed.now.trees (W.events log.old) (W.events log.new) }
-    ensures kept { KeepsOnly signed.now.trees (W.known world.old) (W.known world.new) }
-    ensures states { (state : List ℕ) → Stays (W.known world.old) (W.known world.new) state }
-    ensures files { SameFiles (W.known world.old) (W.known world.new) }
+fn keep_signers<W: World>(alloc: Global, world: &mut W, lock: &W::Lock, signed: &Signed)
+    ensures logged { LogsKeeping signed.now.trees (W.events world.old) (W.events world.new) }
+    ensures follows { Follows (W.memory world.old) (W.events world.old)
+        (W.memory world.new) (W.events world.new) }
 {
     if let Some(trees) = &signed.trees {
-        keep_trees(alloc, world, log, lock, trees);
+        keep_trees(alloc, world, lock, trees);
     }
 }
 
@@ -243,14 +207,11 @@ fn keep_signers<W: World>(
 /// after that, and the index stays used. A crash at any moment leaves what it could leave before,
 /// or the image that counts the index.
 fn sign_next<S: StateStore>(
-    rt: &(impl Threads + Sync),
-    alloc: Global,
+    resources: &Resources<impl Threads + Sync, impl Progress>,
     book: &mut Book<S>,
     job: &Job,
     kept: Option<&[u8]>,
-    progress: &impl Progress,
 ) -> Result<Signed, NextFault>
-    ensures opening { IsSameOpening book.old book.new }
     ensures index { IfOk result (λ signed. signed.index ≡ counter book.old) }
     ensures reserved { IfOk result (λ _. GivesOne book.old book.new) }
     ensures failed { IfErr result (λ fault. SignsNothing book.old fault book.new) }
@@ -259,7 +220,7 @@ fn sign_next<S: StateStore>(
         job.now.c job.now.message.items signed.signature.items signed.trees) }
 {
     let lease = book.reserve(1).map_err(|fault| NextFault::Book(fault))?;
-    let signed = sign_lease(rt, alloc, lease, job, kept, progress);
+    let signed = sign_lease(resources, lease, job, kept);
     match signed {
         Ok(signed) => Ok(signed),
         Err(_) => Err(NextFault::OutOfMemory),
@@ -270,12 +231,10 @@ fn sign_next<S: StateStore>(
 /// accepted, and else by trees that are computed. `OutOfMemory` where memory is refused; the index
 /// is spent in any case.
 fn sign_lease(
-    rt: &(impl Threads + Sync),
-    alloc: Global,
+    resources: &Resources<impl Threads + Sync, impl Progress>,
     lease: Lease,
     job: &Job,
     kept: Option<&[u8]>,
-    progress: &impl Progress,
 ) -> Result<Signed, OutOfMemory>
     requires { lease.len ≡ 1 }
     ensures index { IfOk result (λ signed. signed.index ≡ lease.start) }
@@ -287,7 +246,16 @@ fn sign_lease(
     let _len = lease.len();
     let (key, index) = (lease.key(), lease.start());
     let message = job.message.as_slice();
-    let signed = sign_by_text(rt, alloc, key, index, &job.c, message, kept, progress);
+    let signed = sign_by_text(
+        resources.rt,
+        resources.alloc,
+        key,
+        index,
+        &job.c,
+        message,
+        kept,
+        resources.progress,
+    );
     lease.end();
     let KeptSignature { signature, trees } = signed?;
     Ok(Signed {

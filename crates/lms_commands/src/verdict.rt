@@ -1,8 +1,7 @@
 //! What verification says, and its printed line.
-ghost use Rattle.std.specs.Prelude.{◌≡◌, ◌<◌, OnErr, OnOk};
+ghost use Rattle.std.specs.Prelude.{◌≡◌, OnErr, OnOk};
 ghost use Rattle.std.specs.Io.KnownBytes.{Appends};
 ghost use Rattle.lms_lines.specs.AnswerLines.{AppendsFront};
-ghost use Rattle.lms_commands.specs.Faults.{status_number};
 ghost use Rattle.lms_commands.specs.Verdicts.{line_of, verdict_status};
 
 use crate::status::Status;
@@ -20,8 +19,7 @@ pub enum Verdict {
 impl Verdict {
     /// How the program ends with this verdict.
     pub fn status(self) -> Status
-        ensures status { result ≡ verdict_status self }
-        ensures small { status_number result < 2 }
+        ensures { result ≡ verdict_status self }
     {
         match self {
             Verdict::Valid => Status::Done,

@@ -1,11 +1,10 @@
 //! `verify`: a signature judged.
-ghost use Rattle.std.specs.Prelude.{Some, ◌≡◌, ◌≢◌, ℕ, List, [], IfErr, IfOk};
-ghost use Rattle.std.specs.Io.KnownBytes.{Appends};
+ghost use Rattle.std.specs.Prelude.{ℕ, List, [], IfErr, IfOk};
 ghost use Rattle.lms_hss.specs.Verifying.{HasTaken as HasTakenByVerifier};
 ghost use Rattle.lms_commands.specs.Judging.{HasTaken};
-ghost use Rattle.lms_commands.specs.Verdicts.{IsRightFor, line_of};
+ghost use Rattle.lms_commands.specs.Verdicts.{IsRightFor};
 ghost use Rattle.lms_commands.specs.ReadingLogs.{LogsVerify, LogsVerifyFailed};
-ghost use Rattle.lms_commands.specs.Verifying.{FailsToJudge, Judges};
+ghost use Rattle.lms_world.specs.Held.{Follows};
 
 use crate::fault::Fault;
 use crate::files::{hand_over, open_file, read_file};
@@ -22,31 +21,26 @@ use std::io::Write;
 /// `WriteOutput` where the verdict can't be printed, maybe after a beginning of it.
 pub fn verify_files<W: World, O: Write>(
     alloc: Global,
-    world: &W,
-    log: &mut W::Log,
+    world: &mut W,
     public: &str,
     message: &str,
     signature: &str,
     output: &mut Printer<O>,
 ) -> Result<Verdict, Fault>
     ensures logged { IfOk result (λ verdict. LogsVerify public.now message.now
-        signature.now verdict output.old output.new (W.events log.old) (W.events log.new)) }
+        signature.now verdict output.old output.new (W.events world.old) (W.events world.new)) }
     ensures log_failed { IfErr result (λ fault. LogsVerifyFailed public.now message.now
-        signature.now output.old output.new fault (W.events log.old) (W.events log.new)) }
-    ensures judged { IfOk result (Judges (W.known world.now) public.now message.now signature.now) }
-    ensures printed { IfOk result (λ verdict.
-        Appends (Some output.old) (Some output.new) (line_of verdict)) }
-    ensures failed { IfErr result (FailsToJudge (W.known world.now)
-        public.now message.now signature.now) }
-    ensures silent { IfErr result (λ fault. fault ≢ Fault.WriteOutput → output.new ≡ output.old) }
+        signature.now output.old output.new fault (W.events world.old) (W.events world.new)) }
+    ensures follows { Follows (W.memory world.old) (W.events world.old)
+        (W.memory world.new) (W.events world.new) }
 {
-    let public = read_file(alloc, world, log, public)?;
-    let message = open_file(alloc, world, log, message)?;
-    let signature = read_file(alloc, world, log, signature)?;
+    let public = read_file(alloc, world, public)?;
+    let message = open_file(alloc, world, message)?;
+    let signature = read_file(alloc, world, signature)?;
     let mut judge = Judge::begin(&public, &signature);
     hand_over(message, &mut judge)?;
     let verdict = judge.finish();
-    world.begin_printing(log, output);
+    world.begin_printing(output);
     print_verdict(output, verdict)?;
     Ok(verdict)
 }

@@ -3,18 +3,18 @@ ghost use Rattle.std.specs.Prelude.{◌≡◌, None, OnOk, OnErr};
 ghost use Rattle.lms_example.specs.HeldTexts.{holding};
 
 use lms_book::{LastRead, ReadFault, StateStore, StoreFault};
+use lms_ghost_log::GhostLog;
 use lms_params::OutOfMemory;
 use std::alloc::Global;
 use std::marker::Model;
-use std::mem;
 
-/// One byte string in memory, and those before it, so that contracts can say what a crash could
-/// have left. A real store keeps its bytes where they outlive the program.
+/// One byte string in memory. Contracts also see those before it, to say what a crash could have
+/// left. A real store keeps its bytes where they outlive the program.
 #[derive(Drop)]
 pub(crate) struct OneText {
     alloc: Global,
-    past: Vec<Option<Vec<u8>>>,
     text: Option<Vec<u8>>,
+    past: GhostLog<Option<Vec<u8>>>,
     given: LastRead,
     failures: u64,
 }
@@ -26,8 +26,8 @@ impl Model for OneText {
     ghost Value = { HeldTexts };
 
     ghost view = { λ store. record {
-      past = map (option_map (λ text. text.items)) store.past.items;
       text = option_map (λ text. text.items) store.text;
+      past = map (option_map (λ text. text.items)) store.past;
       given = store.given;
       failures = store.failures;
     } };
@@ -40,32 +40,32 @@ impl OneText {
     {
         OneText {
             alloc,
-            past: Vec::new(alloc),
             text: None,
+            past: GhostLog::new(),
             given: LastRead::none(),
             failures: 0,
         }
     }
 
-    /// Holds these bytes from now on. All memory is taken first, so that an error changes nothing.
+    /// Holds these bytes from now on. An error changes nothing.
     fn hold(&mut self, text: &[u8]) -> Result<(), OutOfMemory>
         ensures held { OnOk result (self.new ≡ holding self.old text.now) }
         ensures same { OnErr result (self.new ≡ self.old) }
     {
         let text = Vec::from_slice(self.alloc, text)?;
-        self.past.reserve(1)?;
-        let before = mem::replace(&mut self.text, Some(text));
-        self.past.push_reserved(before);
+        self.past = self.past.and(&self.text);
+        self.text = Some(text);
         Ok(())
     }
 }
 
 impl StateStore for OneText {
+    ghost use Rattle.std.specs.Prelude.{is_none};
     ghost use Rattle.lms_example.specs.HeldTexts.{view_of};
 
     ghost seen = { view_of };
 
-    ghost may_fail = { λ store. store.text ≡ None };
+    ghost may_fail = { λ store. is_none store.text };
 
     /// Fails while it holds no bytes.
     fn read(&mut self, alloc: Global) -> Result<Vec<u8>, ReadFault> {

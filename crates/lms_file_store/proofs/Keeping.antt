@@ -3,7 +3,8 @@ use Rattle.std.proofs.Common.{◌≡◌, ◌∙◌, ℕ, ◌<◌, ◌-◌, List,
 use Rattle.std.proofs.lemmas.List.{length-reverse, get_or-reverse}
 use Rattle.std.proofs.lemmas.List.Elements.{All-cons, All-take, All-get_or, All-from_get_or, All-weaker, All-contains, All-contains_itself, Contains-append_left, Contains-push}
 use Rattle.lms_book.specs.Stops.{Texts, IsAmong, or_else}
-use Rattle.lms_file_store.specs.FileStores.{FileWrite, Knows, Leaves, kept_of, last_certain, left_after, most_tried, texts_now, tried_since}
+use Rattle.lms_file_store.specs.declared.record.FileWrite.{FileWrite}
+use Rattle.lms_file_store.specs.FileStores.{Knows, Leaves, kept_of, last_certain, left_after, most_tried, texts_now, tried_since}
 
 -- the byte strings tried since the certain one, and then that one; any where none is certain
 abbrev pub left_of : Option (List ℕ) → List (List ℕ) → Texts

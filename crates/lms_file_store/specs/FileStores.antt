@@ -6,11 +6,7 @@ use Rattle.lms_book.specs.declared.fault.ReadFault.{ReadFault}
 use Rattle.lms_book.specs.declared.fault.ReadFault.TheVariants.{Device, OutOfMemory}
 use Rattle.lms_book.specs.declared.fault.StoreFault.{StoreFault}
 use Rattle.lms_book.specs.Stops.{Texts, IsAmong, longest_text, only, or_else, StoreView, raised}
-
--- a write: its bytes, and whether they were stored for certain
-pub record FileWrite : Type 0 where
-  pub text : List ℕ
-  pub stored : Bool
+use Rattle.lms_file_store.specs.declared.record.FileWrite.{FileWrite}
 
 -- the writes since the store was made, the newest first, the bytes that the last read gave, none
 -- before one, and how many calls failed

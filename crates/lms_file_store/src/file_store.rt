@@ -103,12 +103,13 @@ impl<'a, R: Files> FileStore<'a, R> {
 }
 
 impl<R: Files + Sync> StateStore for FileStore<'_, R> {
+    ghost use Rattle.std.specs.Prelude.{true};
     ghost use Rattle.lms_file_store.specs.FileStores.{view_of, ReadsKnown, RecordsWrite};
     ghost use Rattle.lms_book.specs.Stops.{ReadsStore, WritesStore};
 
     ghost seen = { view_of };
 
-    ghost may_fail = { λ _. Unit {0} };
+    ghost may_fail = { λ _. true };
 
     /// All bytes of the file. `Device` where they can't be read, and where they are none of the
     /// kept images: then somebody else wrote them, or a failed write that three others followed.
@@ -116,7 +117,7 @@ impl<R: Files + Sync> StateStore for FileStore<'_, R> {
     /// be there.
     #[tactic(auto, using(crate::proofs::Keeping::knows_leaves))]
     fn read(&mut self, alloc: Global) -> Result<Vec<u8>, ReadFault>
-        ensures seen { ReadsStore (Unit {0}) (view_of self.old) result (view_of self.new) }
+        ensures seen { ReadsStore true (view_of self.old) result (view_of self.new) }
         ensures known { ReadsKnown self.old result self.new }
     {
         match self.fetch(alloc) {

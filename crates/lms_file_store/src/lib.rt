@@ -16,7 +16,6 @@ mod locking;
 mod nodes;
 mod paths;
 mod record;
-mod writes;
 
 pub use crate::file_store::FileStore;
 pub use crate::locking::{StateLock, TryLock, lock};

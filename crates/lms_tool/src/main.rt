@@ -4,10 +4,10 @@
 mod streams;
 
 use crate::streams::hold_closed_streams;
-use lms_cli::run::{report, run_watched};
-use lms_commands::Fault;
+use lms_cli::run::{report, run};
+use lms_commands::{Fault, Resources};
 use lms_meter::{Meter, Wiping};
-use lms_world::{DiskWorld, Log, Printer};
+use lms_world::{DiskWorld, Printer};
 use std::env;
 use std::io::{ErrorKind, IsTerminal};
 use std::process::ExitCode;
@@ -24,16 +24,17 @@ fn main(rt: HostRuntime) -> ExitCode {
         Err(Fault::ReadInput)
     };
     let status = match arguments {
-        Ok(arguments) => run_watched(
-            &rt,
-            rt.alloc(),
+        Ok(arguments) => run(
+            &Resources {
+                rt: &rt,
+                alloc: rt.alloc(),
+                progress: &meter,
+            },
             arguments.as_slice(),
             &mut DiskWorld::new(&rt),
-            &mut Log::new(),
             &mut rt.reader(),
             &mut Printer::new(Wiping::new(&meter, rt.stdout())),
             &mut Wiping::new(&meter, rt.stderr()),
-            &meter,
         ),
         Err(fault) => report(fault, &mut errors),
     };

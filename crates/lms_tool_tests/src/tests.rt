@@ -9,8 +9,10 @@ mod meter;
 mod states;
 
 use lms_cli::run::run;
+use lms_commands::Resources;
+use lms_hss::Unwatched;
 use lms_slow::vectors::ONE_5_8;
-use lms_world::{Log, MemoryWorld, Printer, World, WorldFault};
+use lms_world::{MemoryWorld, Printer, World, WorldFault};
 use std::alloc::Global;
 use std::io::Write;
 use std::sync::Wait;
@@ -63,7 +65,7 @@ fn text_of(bytes: &[u8]) -> &str {
 
 /// Runs the program with no input. What `run` promises of the status and of what it is lent is left
 /// to its proof.
-fn status_of<W: World<Log = Log>, O: Write, E: Write>(
+fn status_of<W: World, O: Write, E: Write>(
     rt: &(impl Threads + Wait + AllocGlobal + Sync),
     arguments: &[&str],
     world: &mut W,
@@ -72,11 +74,13 @@ fn status_of<W: World<Log = Log>, O: Write, E: Write>(
 ) -> u8 {
     let mut input: &[u8] = &[];
     run(
-        rt,
-        rt.alloc(),
+        &Resources {
+            rt,
+            alloc: rt.alloc(),
+            progress: &Unwatched,
+        },
         arguments,
         world,
-        &mut Log::new(),
         &mut input,
         &mut Printer::new(output),
         errors,
@@ -84,7 +88,7 @@ fn status_of<W: World<Log = Log>, O: Write, E: Write>(
     .code()
 }
 
-fn end_of<W: World<Log = Log>>(
+fn end_of<W: World>(
     rt: &(impl Threads + Wait + AllocGlobal + Sync),
     arguments: &[&str],
     world: &mut W,
@@ -100,7 +104,7 @@ fn end_of<W: World<Log = Log>>(
 }
 
 /// Whether a run ends with this status, and prints this output and these errors.
-fn ends<W: World<Log = Log>>(
+fn ends<W: World>(
     rt: &(impl Threads + Wait + AllocGlobal + Sync),
     arguments: &[&str],
     world: &mut W,
@@ -136,7 +140,7 @@ fn fails_with(
 /// Writes the bytes of a text of hexadecimal digits.
 fn write_hex(alloc: Global, world: &mut MemoryWorld, name: &str, digits: &str) -> Result<(), Fail> {
     let bytes = hex::decode(alloc, digits)?;
-    world.write(&mut Log::new(), name, &bytes)?;
+    world.write(name, &bytes)?;
     Ok(())
 }
 
@@ -144,7 +148,7 @@ fn write_hex(alloc: Global, world: &mut MemoryWorld, name: &str, digits: &str) -
 fn signed(alloc: Global) -> Result<MemoryWorld, Fail> {
     let mut world = MemoryWorld::new(alloc);
     write_hex(alloc, &mut world, "key.pub", ONE_5_8.public)?;
-    world.write(&mut Log::new(), "text", ONE_5_8.message.as_bytes())?;
+    world.write("text", ONE_5_8.message.as_bytes())?;
     write_hex(alloc, &mut world, "text.sig", ONE_5_8.signature)?;
     Ok(world)
 }

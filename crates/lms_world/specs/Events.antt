@@ -2,22 +2,34 @@
 use Rattle.std.specs.Prelude.{ℕ, List, [], ◌∷◌, ◌++◌, Bool, true, false, Option, Some, None, Result, Ok, Err}
 use Rattle.std.specs.Global.{Vec}
 use Rattle.lms_book.specs.Stops.{StoreView}
-use Rattle.lms_world.specs.Known.{Bytes}
+use Rattle.lms_world.specs.Names.{Bytes}
+use Rattle.lms_world.specs.declared.fault.WorldFault.{WorldFault}
 
--- one call, with what it was handed, and whether it was done
+-- what a lock of a state comes to: it is acquired, or not available, or memory for it was refused
+pub data Locking : Type 0 where
+  Acquired : Locking
+  InUse : Locking
+  NoMemory : Locking
+
+-- what contracts see of a store that is taken out, and whether its next read may fail
+pub record Taking : Type 0 where
+  pub view : StoreView
+  pub may_fail : Bool
+
+-- one call, with what it was handed and what it gave
 pub data Event : Type 0 where
-  -- a file was read, and gave these bytes if it did; or it was opened
-  Read : (name : Bytes) (bytes : Option (List ℕ)) → Event
-  Opened : (name : Bytes) (done : Bool) → Event
+  -- a file was read; or it was opened, and holds these bytes, where that is known
+  Read : (name : Bytes) (answer : Result (List ℕ) WorldFault) → Event
+  Opened : (name : Bytes) (answer : Result (Option (List ℕ)) WorldFault) → Event
   -- bytes were written to a file
   Written : (name : Bytes) (bytes : List ℕ) (done : Bool) → Event
   -- a state was locked, and its lock handed back
-  Locked : (name : Bytes) (acquired : Bool) → Event
+  Locked : (name : Bytes) (answer : Locking) → Event
   Unlocked : Event
   -- it was asked whether there is the state of the lock
   Asked : (there : Bool) → Event
   -- what keeps the state was taken out, as contracts see it, and put back
-  Taken : (store : Option StoreView) → Event
+  Taken : (store : Option Taking) → Event
   PutBack : (store : StoreView) → Event
   -- what is kept of nodes beside the state was read or written
   NodesRead : (text : Option (List ℕ)) → Event
@@ -37,21 +49,31 @@ abbrev pub is_done : {T E : Type 0} → Result T E → Bool
 is_done (Ok given) = true
 is_done (Err fault) = false
 
--- the bytes that a call gave
-abbrev pub bytes_of : {E : Type 0} → Result (Vec ℕ) E → Option (List ℕ)
-bytes_of (Ok bytes) = Some bytes.items
-bytes_of (Err fault) = None
+-- what a read comes to
+abbrev pub read_of : {E : Type 0} → Result (Vec ℕ) E → Result (List ℕ) E
+read_of (Ok bytes) = Ok bytes.items
+read_of (Err fault) = Err fault
 
--- whether a lock was acquired
-abbrev pub is_acquired : {T E : Type 0} → Result (Option T) E → Bool
-is_acquired (Ok (Some lock)) = true
-is_acquired (Ok None) = false
-is_acquired (Err fault) = false
+-- what an opening comes to, where this is known of the files that it gives
+abbrev pub opening_of : {C E : Type 0} → (C → Option (List ℕ)) → Result C E
+    → Result (Option (List ℕ)) E
+opening_of holds (Ok contents) = Ok (holds contents)
+opening_of holds (Err fault) = Err fault
+
+-- what a lock comes to
+abbrev pub locking_of : {T E : Type 0} → Result (Option T) E → Locking
+locking_of (Ok (Some lock)) = Acquired
+locking_of (Ok None) = InUse
+locking_of (Err fault) = NoMemory
+
+-- a store, as it is taken out
+abbrev pub as_taken : {S : Type 0} → (S → StoreView) → (S → Bool) → S → Taking
+as_taken seen may_fail store = record { view = seen store; may_fail = may_fail store }
 
 -- the taking out of a store, if it was
-abbrev pub taking_of : {S E : Type 0} → (S → StoreView) → Result S E → Event
-taking_of seen (Ok store) = Taken (Some (seen store))
-taking_of seen (Err fault) = Taken None
+abbrev pub taking_of : {S E : Type 0} → (S → StoreView) → (S → Bool) → Result S E → Event
+taking_of seen may_fail (Ok store) = Taken (Some (as_taken seen may_fail store))
+taking_of seen may_fail (Err fault) = Taken None
 
 -- all bytes that a stream took
 abbrev pub printed : List Event → List ℕ

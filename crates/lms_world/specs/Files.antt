@@ -1,9 +1,10 @@
 -- Files and a state in memory.
-use Rattle.std.specs.Prelude.{ℕ, ◌≡◌, ◌⊎◌, List, Bool, true, Option, Some, None, Result, Ok, Err, String, find, option_map, string_bytes}
+use Rattle.std.specs.Prelude.{ℕ, ◌≡◌, ◌⊎◌, List, map, Bool, true, Option, Some, None, Result, Ok, Err, String, find, option_map, string_bytes}
 use Rattle.std.specs.Global.{Global, Vec}
 use Rattle.std.specs.Str.{bytes_eq}
-use Rattle.lms_book.specs.Memory.{MayFail, MemoryState}
-use Rattle.lms_world.specs.Known.{Known}
+use Rattle.lms_book.specs.Memory.{MemoryState, cannot_read, held}
+use Rattle.lms_world.specs.Names.{Bytes}
+use Rattle.lms_world.specs.Held.{Answers, Held}
 use Rattle.lms_world.specs.declared.fault.WorldFault.{WorldFault}
 use Rattle.lms_world.specs.declared.fault.WorldFault.TheVariants.{Device, OutOfMemory}
 use Rattle.lms_world.specs.declared.memory.MemoryWorld.{MemoryWorld}
@@ -28,19 +29,15 @@ entry_of world name = find (λ entry. bytes_eq (string_bytes entry.0) name) worl
 abbrev pub answer_of : MemoryWorld → List ℕ → Result (List ℕ) WorldFault
 answer_of world name = entry_answer (entry_of world name)
 
--- a read of the name may be refused by this fault: by its answer, or since memory ran out
-abbrev pub MayRefuse : MemoryWorld → List ℕ → WorldFault → Type 0
-MayRefuse world name fault = (answer_of world name ≡ Err fault) ⊎ (fault ≡ OutOfMemory)
-
 -- the bytes of a state: with no store there are none
 abbrev pub state_text : Option MemoryState → Option (List ℕ)
 state_text None = None
 state_text (Some store) = store.text
 
--- a read of a state may fail: with no store it does
-abbrev pub MayFailToRead : Option MemoryState → Type 0
-MayFailToRead None = Unit {0}
-MayFailToRead (Some store) = MayFail store
+-- whether a read of a state fails: with no store it does
+abbrev pub state_fails : Option MemoryState → Bool
+state_fails None = true
+state_fails (Some store) = cannot_read store
 
 -- the store that keeps the state, where there is one
 abbrev pub store_in : MemoryWorld → Option MemoryState
@@ -70,16 +67,21 @@ with_nodes nodes world = record world { nodes = Some nodes }
 abbrev pub with_failing_nodes : WorldFault → MemoryWorld → MemoryWorld
 with_failing_nodes fault world = record world { nodes_fault = Some fault }
 
--- what is known in such a world: there is one state, whatever its name
-abbrev pub known_in_memory : MemoryWorld → Known
-known_in_memory world = record {
-  may_give = λ name bytes. answer_of world name ≡ Ok bytes;
-  may_refuse = MayRefuse world;
-  may_hold = λ _ text. state_text (store_in world) ≡ Some text;
-  may_lack = λ _. state_text (store_in world) ≡ None;
-  holds = λ _ text. state_text (store_in world) ≡ Some text;
-  may_fail = λ _. MayFailToRead (store_in world);
-  may_be_in_use = λ _. is_used_elsewhere world ≡ true;
-  may_keep = λ _ text. nodes_in world ≡ Some text;
-  held_is_possible = λ name text is. is;
-}
+-- an entry, as contracts see it
+abbrev pub answer_at : Entry → Bytes × Result (List ℕ) WorldFault
+answer_at entry = (string_bytes entry.0, bytes_or_fault entry.1)
+
+-- what reads of files answer
+abbrev pub files_in : MemoryWorld → Answers
+files_in world = map answer_at world.entries.items
+
+-- what the world holds
+abbrev pub held_in : MemoryWorld → Held
+held_in world =
+    record {
+      files = files_in world;
+      state = held (state_text (store_in world));
+      may_fail = state_fails (store_in world);
+      in_use = is_used_elsewhere world;
+      nodes = nodes_in world;
+    }

@@ -1,4 +1,6 @@
 pub mod Calls
 pub mod Events
 pub mod Files
-pub mod Known
+pub mod Held
+pub mod Names
+pub mod Outcomes

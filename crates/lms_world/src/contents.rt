@@ -1,5 +1,5 @@
 //! What a file holds, handed over piece by piece.
-ghost use Rattle.std.specs.Prelude.{ℕ, ◌++◌, List, [], IfErr, OnOk};
+ghost use Rattle.std.specs.Prelude.{ℕ, ◌++◌, ◌≡◌, List, [], Option, None, IfErr, IfSome, OnOk};
 
 use crate::fault::WorldFault;
 
@@ -22,12 +22,8 @@ pub trait Taker {
 
 /// A file that was opened to be read.
 pub trait Contents {
-    ghost use Rattle.lms_world.specs.declared.fault.WorldFault.{WorldFault};
-
-    // What it may hold, and by which fault it may be refused.
-    ghost may_give: { Self → List ℕ → Type 0 };
-
-    ghost may_refuse: { Self → WorldFault → Type 0 };
+    // The bytes that it holds, where that is known.
+    ghost holds: { Self → Option (List ℕ) };
 
     /// Hands all of its bytes over, one piece after another. It takes no memory.
     ///
@@ -35,6 +31,7 @@ pub trait Contents {
     /// `OutOfMemory` where the system lacks it.
     fn hand_over<T: Taker>(self, taker: &mut T) -> Result<(), WorldFault>
         ensures handed { OnOk result
-            ((bytes : List ℕ) × may_give self bytes × T.after taker.old bytes taker.new) }
-        ensures refused { IfErr result (may_refuse self) };
+            ((bytes : List ℕ) × IfSome (holds self) (λ held. bytes ≡ held)
+            × T.after taker.old bytes taker.new) }
+        ensures refused { IfErr result (λ _. holds self ≡ None) };
 }

@@ -1,10 +1,10 @@
 //! The files of the disk.
-ghost use Rattle.std.specs.Prelude.{◌≡◌, ◌≢◌, ℕ, List, IfOk, IfSome, OnOk};
+ghost use Rattle.std.specs.Prelude.{[], ◌≡◌, ◌≢◌, ℕ, List, None, IfOk, IfSome, OnOk};
 ghost use Rattle.std.specs.IoError.{error_kind};
 
 use crate::contents::{Contents, Taker};
 use crate::fault::WorldFault;
-use crate::log::{Call, Log, PutIn, TakenOut};
+use crate::log::{Call, Log, OpenedAs, PutIn, TakenOut};
 use crate::printer::{Beginning, Printer};
 use crate::world::World;
 use lms_blocks::read_block;
@@ -12,7 +12,7 @@ use lms_file_store::{FileStore, StateLock, TryLock, lock};
 use lms_params::OutOfMemory;
 use std::alloc::Global;
 use std::fs::OpenFile;
-use std::io::{ErrorKind, Read};
+use std::io::{ErrorKind, Read, Write};
 use std::rt::Files;
 use std::{fs, io};
 
@@ -24,14 +24,20 @@ const BLOCK: usize = 4096;
 #[derive(Drop)]
 pub struct DiskWorld<'a, R: Files> {
     files: &'a R,
+    // The calls that were made on it.
+    log: Log,
 }
 
 impl<'a, R: Files> DiskWorld<'a, R> {
     /// The files that the runtime reaches.
     pub fn new(files: &'a R) -> Self
-        ensures { result.files ≡ files.entry }
+        ensures files { result.files ≡ files.entry }
+        ensures uncalled { result.log ≡ [] }
     {
-        DiskWorld { files }
+        DiskWorld {
+            files,
+            log: Log::new(),
+        }
     }
 }
 
@@ -45,126 +51,113 @@ where
 
     type Contents = DiskContents<R::File>;
 
-    type Log = Log;
+    ghost events = { λ world. world.log };
 
-    ghost use Rattle.lms_world.specs.Known.{nothing_known};
+    ghost memory = { λ _. None };
 
-    ghost events = { λ log. log.events };
-
-    ghost known = { λ _. nothing_known };
-
-    ghost is_lock_of = { λ _ _. Unit {0} };
-
-    fn read(&self, alloc: Global, log: &mut Log, name: &str) -> Result<Vec<u8>, WorldFault> {
+    fn read(&mut self, alloc: Global, name: &str) -> Result<Vec<u8>, WorldFault> {
         let answer = read_whole(self.files, alloc, name).map_err(|error| fault_of(&error));
         match &answer {
-            Ok(bytes) => *log = log.and(&Call::Given { name, bytes }),
-            Err(_) => *log = log.and(&Call::Refused { name }),
+            Ok(bytes) => self.log = self.log.and(&Call::Given { name, bytes }),
+            Err(fault) => {
+                self.log = self.log.and(&Call::Refused {
+                    name,
+                    fault: *fault,
+                })
+            }
         }
         answer
     }
 
-    fn open(
-        &self,
-        _alloc: Global,
-        log: &mut Log,
-        name: &str,
-    ) -> Result<DiskContents<R::File>, WorldFault> {
+    fn open(&mut self, _alloc: Global, name: &str) -> Result<DiskContents<R::File>, WorldFault> {
         match fs::open(self.files, name) {
             Ok(file) => {
-                *log = log.and(&Call::Opened { name, done: true });
-                Ok(DiskContents { file })
+                let contents = DiskContents { file };
+                self.log = self.log.and(&OpenedAs {
+                    name,
+                    contents: &contents,
+                });
+                Ok(contents)
             }
             Err(error) => {
-                *log = log.and(&Call::Opened { name, done: false });
-                Err(fault_of(&error))
+                let fault = fault_of(&error);
+                self.log = self.log.and(&Call::NotOpened { name, fault });
+                Err(fault)
             }
         }
     }
 
-    fn write(&mut self, log: &mut Log, name: &str, bytes: &[u8]) -> Result<(), WorldFault> {
+    fn write(&mut self, name: &str, bytes: &[u8]) -> Result<(), WorldFault> {
         let answer = fs::write(self.files, name, bytes).map_err(|error| fault_of(&error));
         let done = answer.is_ok();
-        *log = log.and(&Call::Written { name, bytes, done });
+        self.log = self.log.and(&Call::Written { name, bytes, done });
         answer
     }
 
     fn lock(
-        &self,
+        &mut self,
         alloc: Global,
-        log: &mut Log,
         name: &str,
     ) -> Result<Option<StateLock<R::File>>, OutOfMemory> {
         match lock(self.files, alloc, name) {
             Ok(Some(found)) => {
-                *log = log.and(&Call::Locked {
-                    name,
-                    acquired: true,
-                });
+                self.log = self.log.and(&Call::Acquired { name });
                 Ok(Some(found))
             }
             Ok(None) => {
-                *log = log.and(&Call::Locked {
-                    name,
-                    acquired: false,
-                });
+                self.log = self.log.and(&Call::InUse { name });
                 Ok(None)
             }
             Err(fault) => {
-                *log = log.and(&Call::Locked {
-                    name,
-                    acquired: false,
-                });
+                self.log = self.log.and(&Call::NoLock { name });
                 Err(fault)
             }
         }
     }
 
     /// The file is closed here, which frees the lock.
-    fn unlock(&self, log: &mut Log, _lock: StateLock<R::File>) {
-        *log = log.and(&Call::Unlocked);
+    fn unlock(&mut self, _lock: StateLock<R::File>) {
+        self.log = self.log.and(&Call::Unlocked);
     }
 
-    fn exists(&self, log: &mut Log, lock: &StateLock<R::File>) -> bool {
+    fn exists(&mut self, lock: &StateLock<R::File>) -> bool {
         let there = lock.is_of_a_state(self.files);
-        *log = log.and(&Call::Asked { there });
+        self.log = self.log.and(&Call::Asked { there });
         there
     }
 
     fn take_store(
         &mut self,
         alloc: Global,
-        log: &mut Log,
         lock: &StateLock<R::File>,
     ) -> Result<FileStore<'a, R>, OutOfMemory> {
         match FileStore::locked(alloc, self.files, lock) {
             Ok(store) => {
-                *log = log.and(&TakenOut { store: &store });
+                self.log = self.log.and(&TakenOut { store: &store });
                 Ok(store)
             }
             Err(fault) => {
-                *log = log.and(&Call::NotTaken);
+                self.log = self.log.and(&Call::NotTaken);
                 Err(fault)
             }
         }
     }
 
     /// The state is in its file already.
-    fn put_back(&mut self, log: &mut Log, _lock: &StateLock<R::File>, store: FileStore<'a, R>) {
-        *log = log.and(&PutIn { store: &store });
+    fn put_back(&mut self, _lock: &StateLock<R::File>, store: FileStore<'a, R>) {
+        self.log = self.log.and(&PutIn { store: &store });
     }
 
     fn read_nodes(
-        &self,
+        &mut self,
         alloc: Global,
-        log: &mut Log,
         lock: &StateLock<R::File>,
         most: usize,
     ) -> Option<Vec<u8>> {
         let found = lock.read_nodes(self.files, alloc, most);
         match &found {
-            Some(text) => *log = log.and(&Call::NodesGiven { text }),
-            None => *log = log.and(&Call::NodesRefused),
+            Some(text) => self.log = self.log.and(&Call::NodesGiven { text }),
+            None => self.log = self.log.and(&Call::NodesRefused),
         }
         found
     }
@@ -172,7 +165,6 @@ where
     fn write_nodes(
         &mut self,
         alloc: Global,
-        log: &mut Log,
         lock: &StateLock<R::File>,
         text: &[u8],
     ) -> Result<(), WorldFault> {
@@ -180,12 +172,12 @@ where
             .write_nodes(self.files, alloc, text)
             .map_err(|error| fault_of(&error));
         let done = answer.is_ok();
-        *log = log.and(&Call::NodesWritten { text, done });
+        self.log = self.log.and(&Call::NodesWritten { text, done });
         answer
     }
 
-    fn begin_printing<O>(&self, log: &mut Log, output: &Printer<O>) {
-        *log = log.and(&Beginning { output });
+    fn begin_printing<O: Write>(&mut self, output: &Printer<O>) {
+        self.log = self.log.and(&Beginning { output });
     }
 }
 
@@ -196,9 +188,7 @@ pub struct DiskContents<F> {
 }
 
 impl<F: Read + Drop> Contents for DiskContents<F> {
-    ghost may_give = { λ _ _. Unit {0} };
-
-    ghost may_refuse = { λ _ _. Unit {0} };
+    ghost holds = { λ _. None };
 
     fn hand_over<T: Taker>(self, taker: &mut T) -> Result<(), WorldFault> {
         let mut file = self.file;

@@ -7,6 +7,7 @@
 mod contents;
 mod disk;
 mod fault;
+mod laws;
 mod log;
 mod memory;
 mod printer;
@@ -15,7 +16,6 @@ mod world;
 pub use crate::contents::{Contents, Taker};
 pub use crate::disk::{DiskContents, DiskWorld};
 pub use crate::fault::WorldFault;
-pub use crate::log::Log;
 pub use crate::memory::{MemoryContents, MemoryLock, MemoryWorld};
 pub use crate::printer::Printer;
 pub use crate::world::World;

@@ -1,20 +1,29 @@
-//! The log of a world, as contracts see it. At run time nothing is kept of it.
-//!
-//! No code sets a ghost field: `new` and `and` make a struct of no bytes. Each of the two is proved
-//! by a walk written by hand, in `proofs/log`, which sets `events` to what the contract says.
-//! Nothing else sets it.
-ghost use Rattle.std.specs.Prelude.{◌≡◌, List, Some, [], ◌∷◌};
+//! The log of a world, as contracts see it, and what is logged. At run time nothing is kept of it.
+ghost use Rattle.std.specs.Prelude.{Some, Ok};
 ghost use Rattle.std.specs.Borrow.{ftrue};
 ghost use Rattle.lms_world.specs.Events as events;
-ghost use Rattle.lms_world.specs.Events.{Event};
 
+use crate::contents::Contents;
+use crate::fault::WorldFault;
 use lms_book::StateStore;
-use std::marker::{Model, PhantomData};
+use lms_ghost_log::{GhostLog, Logged};
+use std::marker::Model;
 
-/// A call that a log records.
-pub trait Logged {
-    // What contracts see of it.
-    ghost event: { Self → Event };
+/// The calls that were made on a world, the newest first.
+pub(crate) type Log = GhostLog<Event>;
+
+/// A call, as contracts see it. No code makes one.
+#[derive(Drop)]
+pub(crate) struct Event {
+    ghost event: { events.Event },
+}
+
+impl Model for Event {
+    ghost Value = { events.Event };
+
+    ghost view = { λ call. call.event };
+
+    ghost also_owns = { λ _. ftrue };
 }
 
 /// All calls but those that take a store out or put it back.
@@ -26,19 +35,25 @@ pub(crate) enum Call<'a> {
     },
     Refused {
         name: &'a str,
+        fault: WorldFault,
     },
-    Opened {
+    NotOpened {
         name: &'a str,
-        done: bool,
+        fault: WorldFault,
     },
     Written {
         name: &'a str,
         bytes: &'a [u8],
         done: bool,
     },
-    Locked {
+    Acquired {
         name: &'a str,
-        acquired: bool,
+    },
+    InUse {
+        name: &'a str,
+    },
+    NoLock {
+        name: &'a str,
     },
     Unlocked,
     Asked {
@@ -58,10 +73,29 @@ pub(crate) enum Call<'a> {
     },
 }
 
-impl Logged for Call<'_> {
+impl Logged<Event> for Call<'_> {
     ghost use Rattle.lms_world.specs.Calls.{event_of};
 
-    ghost event = { event_of };
+    ghost entry = { event_of };
+}
+
+/// This file is opened.
+pub(crate) struct OpenedAs<'a, C: Contents> {
+    pub(crate) name: &'a str,
+    pub(crate) contents: &'a C,
+}
+
+impl<C: Contents> Drop for OpenedAs<'_, C> {
+    fn drop(self) {
+        let OpenedAs {
+            name: _,
+            contents: _,
+        } = self;
+    }
+}
+
+impl<C: Contents> Logged<Event> for OpenedAs<'_, C> {
+    ghost entry = { λ call. events.Opened call.name.now (Ok (C.holds call.contents.now)) };
 }
 
 /// This store is taken out.
@@ -75,8 +109,9 @@ impl<S: StateStore> Drop for TakenOut<'_, S> {
     }
 }
 
-impl<S: StateStore> Logged for TakenOut<'_, S> {
-    ghost event = { λ call. events.Taken (Some (S.seen call.store.now)) };
+impl<S: StateStore> Logged<Event> for TakenOut<'_, S> {
+    ghost entry = { λ call. events.Taken
+        (Some (events.as_taken S.seen S.may_fail call.store.now)) };
 }
 
 /// This store is put back.
@@ -90,37 +125,6 @@ impl<S: StateStore> Drop for PutIn<'_, S> {
     }
 }
 
-impl<S: StateStore> Logged for PutIn<'_, S> {
-    ghost event = { λ call. events.PutBack (S.seen call.store.now) };
-}
-
-/// The calls that were made on a world, the newest first. It takes no memory.
-#[derive(Drop)]
-pub struct Log {
-    marker: PhantomData<u8>,
-    pub ghost events: { List Event },
-}
-
-impl Model for Log {
-    ghost also_owns = { λ _. ftrue };
-}
-
-impl Log {
-    /// No calls.
-    pub fn new() -> Self
-        ensures { result.events ≡ [] }
-    {
-        Log {
-            marker: PhantomData,
-        }
-    }
-
-    /// The log with one call more.
-    pub(crate) fn and<E: Logged>(&self, _call: &E) -> Log
-        ensures { result.events ≡ E.event _call.now ∷ self.now.events }
-    {
-        Log {
-            marker: PhantomData,
-        }
-    }
+impl<S: StateStore> Logged<Event> for PutIn<'_, S> {
+    ghost entry = { λ call. events.PutBack (S.seen call.store.now) };
 }

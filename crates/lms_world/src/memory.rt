@@ -1,16 +1,18 @@
 //! Files and a state in memory.
-ghost use Rattle.std.specs.Prelude.{ℕ, ◌≡◌, ◌≢◌, ◌≤◌, ◌⊎◌, List, IfErr, IfOk, IfSome, OnOk, Ok, Err, None, Some, false, true, length, option_map};
-ghost use Rattle.lms_book.specs.Memory.{MayFail};
-ghost use Rattle.lms_world.specs.Files.{answer_of, bytes_or_fault, entry_of, is_used_elsewhere, known_in_memory, MayFailToRead, MayRefuse, nodes_in, state_text, store_in, used_elsewhere, with_failing_nodes, with_nodes, with_store};
+ghost use Rattle.std.specs.Prelude.{ℕ, [], ◌≡◌, ◌≤◌, ◌⊎◌, ◌∷◌, List, IfErr, IfOk, IfSome, OnErr, OnOk, Ok, Err, None, Some, false, if◌then◌else◌, is_ok, length, option_map};
+ghost use Rattle.lms_book.specs.Memory.{cannot_read, held};
+ghost use Rattle.lms_world.specs.Held.{answer_in, is_there, with_file, with_nodes_kept};
+ghost use Rattle.lms_world.specs.Files.{answer_of, bytes_or_fault, entry_of, files_in, held_in, is_used_elsewhere, nodes_in, state_fails, state_text, store_in, used_elsewhere, with_failing_nodes, with_nodes, with_store};
 
 use crate::contents::{Contents, Taker};
 use crate::fault::WorldFault;
-use crate::log::{Call, Log, PutIn, TakenOut};
+use crate::log::{Call, Log, OpenedAs, PutIn, TakenOut};
 use crate::printer::{Beginning, Printer};
 use crate::world::World;
 use lms_book::MemoryStore;
 use lms_params::OutOfMemory;
 use std::alloc::{AllocError, Global};
+use std::io::Write;
 
 /// The capacity of a state's record, in writes.
 const CAPACITY: usize = 8;
@@ -27,6 +29,8 @@ pub struct MemoryWorld {
     // What is kept of nodes, and by which fault a write of them fails.
     nodes: Option<Vec<u8>>,
     nodes_fault: Option<WorldFault>,
+    // The calls that were made on it.
+    log: Log,
 }
 
 /// The lock of the state in memory, whatever its name. Only a world gives one.
@@ -40,9 +44,7 @@ pub struct MemoryContents {
 }
 
 impl Contents for MemoryContents {
-    ghost may_give = { λ contents bytes. bytes ≡ contents.bytes.items };
-
-    ghost may_refuse = { λ _ _. ⊥ };
+    ghost holds = { λ contents. Some contents.bytes.items };
 
     /// In one piece.
     fn hand_over<T: Taker>(self, taker: &mut T) -> Result<(), WorldFault> {
@@ -58,6 +60,7 @@ impl MemoryWorld {
         ensures state { state_text (store_in result) ≡ None }
         ensures free { is_used_elsewhere result ≡ false }
         ensures nodes { nodes_in result ≡ None }
+        ensures uncalled { result.log ≡ [] }
     {
         MemoryWorld {
             alloc,
@@ -66,6 +69,7 @@ impl MemoryWorld {
             in_use: false,
             nodes: None,
             nodes_fault: None,
+            log: Log::new(),
         }
     }
 
@@ -116,19 +120,16 @@ impl MemoryWorld {
 
     /// Makes each read and each write of a name fail. An error means out of memory.
     pub fn fail(&mut self, name: &str, fault: WorldFault) -> Result<(), AllocError>
-        ensures fails { OnOk result (answer_of self.new name.now ≡ Err fault) }
-        ensures state { store_in self.new ≡ store_in self.old }
-        ensures nodes { nodes_in self.new ≡ nodes_in self.old }
+        ensures fails { OnOk result (answer_in (files_in self.new) name.now ≡ Err fault) }
+        ensures others { self.new ≡ record self.old { entries = self.new.entries } }
     {
         self.put(name, Err(fault))
     }
 
     fn put(&mut self, name: &str, answer: Result<Vec<u8>, WorldFault>) -> Result<(), AllocError>
-        ensures answer { OnOk result (answer_of self.new name.now ≡ bytes_or_fault answer) }
-        ensures others { (other : List ℕ) → other ≢ name.now
-            → answer_of self.new other ≡ answer_of self.old other }
-        ensures state { store_in self.new ≡ store_in self.old }
-        ensures nodes { nodes_in self.new ≡ nodes_in self.old }
+        ensures files { files_in self.new ≡ (if is_ok result
+            then (name.now, bytes_or_fault answer) ∷ files_in self.old else files_in self.old) }
+        ensures others { self.new ≡ record self.old { entries = self.new.entries } }
     {
         let name = String::from_str(self.alloc, name)?;
         self.entries.insert(0, (name, answer))?;
@@ -145,7 +146,8 @@ impl MemoryWorld {
     /// A copy of the bytes of a name.
     fn copy_of(&self, alloc: Global, name: &str) -> Result<Vec<u8>, WorldFault>
         ensures given { IfOk result (λ bytes. answer_of self.now name.now ≡ Ok bytes.items) }
-        ensures refused { IfErr result (MayRefuse self.now name.now) }
+        ensures refused { IfErr result (λ fault.
+            (answer_of self.now name.now ≡ Err fault) ⊎ (fault ≡ WorldFault.OutOfMemory)) }
     {
         match self.entry(name) {
             Some((_, Ok(bytes))) => {
@@ -158,11 +160,9 @@ impl MemoryWorld {
 
     /// Makes these the bytes of a name.
     fn set(&mut self, name: &str, bytes: &[u8]) -> Result<(), WorldFault>
-        ensures given { OnOk result (answer_of self.new name.now ≡ Ok bytes.now) }
-        ensures others { (other : List ℕ) → other ≢ name.now
-            → answer_of self.new other ≡ answer_of self.old other }
-        ensures state { store_in self.new ≡ store_in self.old }
-        ensures nodes { nodes_in self.new ≡ nodes_in self.old }
+        ensures held { held_in self.new ≡ (if is_ok result
+            then with_file name.now bytes.now (held_in self.old) else held_in self.old) }
+        ensures uncalled { self.new.log ≡ self.old.log }
     {
         if let Some((_, Err(fault))) = self.entry(name) {
             return Err(*fault);
@@ -174,9 +174,7 @@ impl MemoryWorld {
 
     /// Whether the state has bytes.
     fn has_state(&self) -> bool
-        ensures missing { result ≡ false → state_text (store_in self.now) ≡ None }
-        ensures there { result ≡ true → (text : List ℕ)
-            × (state_text (store_in self.now) ≡ Some text) }
+        ensures { result ≡ is_there (held (state_text (store_in self.now))) }
     {
         match &self.state {
             Some(store) => store.text().is_some(),
@@ -187,10 +185,10 @@ impl MemoryWorld {
     /// The store that keeps the state, or a new one.
     fn lend(&mut self, alloc: Global) -> Result<MemoryStore, OutOfMemory>
         ensures text { IfOk result (λ store. store.text ≡ state_text (store_in self.old)) }
-        ensures fails { IfOk result (λ store. MayFail store → MayFailToRead (store_in self.old)) }
-        ensures stays { IfErr result (λ _. self.new ≡ self.old) }
-        ensures files { self.new.entries ≡ self.old.entries }
-        ensures nodes { nodes_in self.new ≡ nodes_in self.old }
+        ensures fails { IfOk result (λ store.
+            cannot_read store ≡ state_fails (store_in self.old)) }
+        ensures taken { OnOk result (self.new ≡ record self.old { state = None }) }
+        ensures stays { OnErr result (self.new ≡ self.old) }
     {
         match self.state.take() {
             Some(store) => Ok(store),
@@ -212,11 +210,9 @@ impl MemoryWorld {
 
     /// Keeps these bytes of nodes. After an error what was kept is kept still.
     fn keep(&mut self, alloc: Global, text: &[u8]) -> Result<(), WorldFault>
-        ensures given { OnOk result (nodes_in self.new ≡ Some text.now) }
-        ensures kept { (nodes_in self.new ≡ Some text.now)
-            ⊎ (nodes_in self.new ≡ nodes_in self.old) }
-        ensures state { store_in self.new ≡ store_in self.old }
-        ensures files { self.new.entries ≡ self.old.entries }
+        ensures held { held_in self.new ≡ (if is_ok result
+            then with_nodes_kept text.now (held_in self.old) else held_in self.old) }
+        ensures uncalled { self.new.log ≡ self.old.log }
     {
         if let Some(fault) = self.nodes_fault {
             return Err(fault);
@@ -234,102 +230,95 @@ impl World for MemoryWorld {
 
     type Contents = MemoryContents;
 
-    type Log = Log;
+    ghost events = { λ world. world.log };
 
-    ghost events = { λ log. log.events };
+    ghost memory = { λ world. Some (held_in world) };
 
-    ghost known = { known_in_memory };
-
-    ghost is_lock_of = { λ _ _. Unit {0} };
-
-    fn read(&self, alloc: Global, log: &mut Log, name: &str) -> Result<Vec<u8>, WorldFault> {
+    fn read(&mut self, alloc: Global, name: &str) -> Result<Vec<u8>, WorldFault> {
         let answer = self.copy_of(alloc, name);
         match &answer {
-            Ok(bytes) => *log = log.and(&Call::Given { name, bytes }),
-            Err(_) => *log = log.and(&Call::Refused { name }),
+            Ok(bytes) => self.log = self.log.and(&Call::Given { name, bytes }),
+            Err(fault) => {
+                self.log = self.log.and(&Call::Refused {
+                    name,
+                    fault: *fault,
+                })
+            }
         }
         answer
     }
 
-    fn open(&self, alloc: Global, log: &mut Log, name: &str) -> Result<MemoryContents, WorldFault> {
+    fn open(&mut self, alloc: Global, name: &str) -> Result<MemoryContents, WorldFault> {
         match self.copy_of(alloc, name) {
             Ok(bytes) => {
-                *log = log.and(&Call::Opened { name, done: true });
-                Ok(MemoryContents { bytes })
+                let contents = MemoryContents { bytes };
+                self.log = self.log.and(&OpenedAs {
+                    name,
+                    contents: &contents,
+                });
+                Ok(contents)
             }
             Err(fault) => {
-                *log = log.and(&Call::Opened { name, done: false });
+                self.log = self.log.and(&Call::NotOpened { name, fault });
                 Err(fault)
             }
         }
     }
 
-    fn write(&mut self, log: &mut Log, name: &str, bytes: &[u8]) -> Result<(), WorldFault> {
+    fn write(&mut self, name: &str, bytes: &[u8]) -> Result<(), WorldFault> {
         let answer = self.set(name, bytes);
         let done = answer.is_ok();
-        *log = log.and(&Call::Written { name, bytes, done });
+        self.log = self.log.and(&Call::Written { name, bytes, done });
         answer
     }
 
-    fn lock(
-        &self,
-        _alloc: Global,
-        log: &mut Log,
-        name: &str,
-    ) -> Result<Option<MemoryLock>, OutOfMemory> {
-        let acquired = !self.in_use;
-        *log = log.and(&Call::Locked { name, acquired });
-        if acquired {
-            Ok(Some(MemoryLock(())))
-        } else {
+    fn lock(&mut self, _alloc: Global, name: &str) -> Result<Option<MemoryLock>, OutOfMemory> {
+        if self.in_use {
+            self.log = self.log.and(&Call::InUse { name });
             Ok(None)
+        } else {
+            self.log = self.log.and(&Call::Acquired { name });
+            Ok(Some(MemoryLock(())))
         }
     }
 
-    fn unlock(&self, log: &mut Log, _lock: MemoryLock) {
-        *log = log.and(&Call::Unlocked);
+    fn unlock(&mut self, _lock: MemoryLock) {
+        self.log = self.log.and(&Call::Unlocked);
     }
 
-    fn exists(&self, log: &mut Log, _lock: &MemoryLock) -> bool {
+    fn exists(&mut self, _lock: &MemoryLock) -> bool {
         let there = self.has_state();
-        *log = log.and(&Call::Asked { there });
+        self.log = self.log.and(&Call::Asked { there });
         there
     }
 
     fn take_store(
         &mut self,
         alloc: Global,
-        log: &mut Log,
         _lock: &MemoryLock,
     ) -> Result<MemoryStore, OutOfMemory> {
         match self.lend(alloc) {
             Ok(store) => {
-                *log = log.and(&TakenOut { store: &store });
+                self.log = self.log.and(&TakenOut { store: &store });
                 Ok(store)
             }
             Err(fault) => {
-                *log = log.and(&Call::NotTaken);
+                self.log = self.log.and(&Call::NotTaken);
                 Err(fault)
             }
         }
     }
 
-    fn put_back(&mut self, log: &mut Log, _lock: &MemoryLock, store: MemoryStore) {
-        *log = log.and(&PutIn { store: &store });
+    fn put_back(&mut self, _lock: &MemoryLock, store: MemoryStore) {
+        self.log = self.log.and(&PutIn { store: &store });
         self.set_state(store);
     }
 
-    fn read_nodes(
-        &self,
-        alloc: Global,
-        log: &mut Log,
-        _lock: &MemoryLock,
-        most: usize,
-    ) -> Option<Vec<u8>> {
+    fn read_nodes(&mut self, alloc: Global, _lock: &MemoryLock, most: usize) -> Option<Vec<u8>> {
         let found = self.copy_of_nodes(alloc, most);
         match &found {
-            Some(text) => *log = log.and(&Call::NodesGiven { text }),
-            None => *log = log.and(&Call::NodesRefused),
+            Some(text) => self.log = self.log.and(&Call::NodesGiven { text }),
+            None => self.log = self.log.and(&Call::NodesRefused),
         }
         found
     }
@@ -337,17 +326,16 @@ impl World for MemoryWorld {
     fn write_nodes(
         &mut self,
         alloc: Global,
-        log: &mut Log,
         _lock: &MemoryLock,
         text: &[u8],
     ) -> Result<(), WorldFault> {
         let answer = self.keep(alloc, text);
         let done = answer.is_ok();
-        *log = log.and(&Call::NodesWritten { text, done });
+        self.log = self.log.and(&Call::NodesWritten { text, done });
         answer
     }
 
-    fn begin_printing<O>(&self, log: &mut Log, output: &Printer<O>) {
-        *log = log.and(&Beginning { output });
+    fn begin_printing<O: Write>(&mut self, output: &Printer<O>) {
+        self.log = self.log.and(&Beginning { output });
     }
 }

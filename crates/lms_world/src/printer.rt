@@ -2,34 +2,44 @@
 ghost use Rattle.std.specs.Prelude.{◌≡◌, []};
 ghost use Rattle.lms_world.specs.Events as events;
 
-use crate::log::{Call, Log, Logged};
+use crate::log::{Call, Event, Log};
+use lms_ghost_log::Logged;
 use std::io;
 use std::io::Write;
 use std::marker::Model;
+use std::snapshot::Snapshot;
 
 /// Forwards all bytes to a stream. Contracts see the bytes that the stream took, whatever is known
 /// of the stream itself. It takes no memory.
 #[derive(Drop)]
-pub struct Printer<O> {
+pub struct Printer<O: Write> {
     stream: O,
+    // The stream as it was when it had taken nothing yet.
+    begun: Snapshot<O>,
     log: Log,
 }
 
-impl<O> Model for Printer<O> {
+impl<O: Write> Model for Printer<O> {
     ghost use Rattle.std.specs.Prelude.{List, ℕ};
+    ghost use Rattle.std.specs.Io.KnownBytes.{Appends};
     ghost use Rattle.lms_world.specs.Events.{printed};
 
     ghost Value = { List ℕ };
 
-    ghost view = { λ printer. printed printer.log.events };
+    ghost view = { λ printer. printed printer.log };
+
+    // What the stream is known to have taken since then is what the log says.
+    ghost invariant = { λ printer. Appends (O.contents printer.begun.value)
+        (O.contents printer.stream) (printed printer.log) };
 }
 
-impl<O> Printer<O> {
+impl<O: Write> Printer<O> {
     /// A stream that took nothing yet.
     pub fn new(stream: O) -> Self
         ensures { result ≡ [] }
     {
         Printer {
+            begun: Snapshot::of(&stream),
             stream,
             log: Log::new(),
         }
@@ -59,10 +69,10 @@ impl<O: Write> Write for Printer<O> {
 
 /// From here on this stream is printed to.
 #[derive(Drop)]
-pub(crate) struct Beginning<'a, O> {
+pub(crate) struct Beginning<'a, O: Write> {
     pub(crate) output: &'a Printer<O>,
 }
 
-impl<O> Logged for Beginning<'_, O> {
-    ghost event = { λ call. events.Printing call.output.now };
+impl<O: Write> Logged<Event> for Beginning<'_, O> {
+    ghost entry = { λ call. events.Printing call.output.now };
 }

@@ -1,7 +1,8 @@
 mod nodes;
+mod replays;
 
 use lms_file_store::TryLock;
-use lms_world::{Contents, DiskWorld, Log, Taker, World, WorldFault};
+use lms_world::{Contents, DiskWorld, Taker, World, WorldFault};
 use std::alloc::{Allocator, Global};
 use std::fs::{Metadata, OpenFile, OpenOptions};
 use std::io::{ErrorKind, Read, Seek, SeekFrom, Write};
@@ -143,8 +144,8 @@ fn empty_folder(rt: &HostRuntime, folder: &str) -> Result<(), Fail> {
 }
 
 /// Whether a world reads these bytes from the file of a name.
-fn reads<W: World<Log = Log>>(alloc: Global, world: &W, name: &str, bytes: &[u8]) -> bool {
-    match world.read(alloc, &mut Log::new(), name) {
+fn reads<W: World>(alloc: Global, world: &mut W, name: &str, bytes: &[u8]) -> bool {
+    match world.read(alloc, name) {
         Ok(found) => found.as_slice() == bytes,
         Err(_) => false,
     }
@@ -175,13 +176,13 @@ impl Taker for Comparing<'_> {
 }
 
 /// Whether a world hands these bytes over from the file of a name, none of the pieces over 4 KiB.
-fn hands_over<W: World<Log = Log>>(alloc: Global, world: &W, name: &str, bytes: &[u8]) -> bool {
+fn hands_over<W: World>(alloc: Global, world: &mut W, name: &str, bytes: &[u8]) -> bool {
     let mut comparing = Comparing {
         left: bytes,
         is_same: true,
         longest: 0,
     };
-    match world.open(alloc, &mut Log::new(), name) {
+    match world.open(alloc, name) {
         Ok(contents) => {
             contents.hand_over(&mut comparing).is_ok()
                 && comparing.is_same
@@ -193,21 +194,21 @@ fn hands_over<W: World<Log = Log>>(alloc: Global, world: &W, name: &str, bytes: 
 }
 
 /// Whether a file is opened, and then can't be read.
-fn breaks_off<W: World<Log = Log>>(alloc: Global, world: &W, name: &str) -> bool {
+fn breaks_off<W: World>(alloc: Global, world: &mut W, name: &str) -> bool {
     let mut comparing = Comparing {
         left: b"",
         is_same: true,
         longest: 0,
     };
-    match world.open(alloc, &mut Log::new(), name) {
+    match world.open(alloc, name) {
         Ok(contents) => contents.hand_over(&mut comparing) == Err(WorldFault::Device),
         Err(_) => false,
     }
 }
 
 /// Whether a world writes these bytes to the file of a name.
-fn writes<W: World<Log = Log>>(world: &mut W, name: &str, bytes: &[u8]) -> bool {
-    world.write(&mut Log::new(), name, bytes).is_ok()
+fn writes<W: World>(world: &mut W, name: &str, bytes: &[u8]) -> bool {
+    world.write(name, bytes).is_ok()
 }
 
 /// Whether the file of a name holds these bytes.
@@ -232,11 +233,25 @@ fn a_large_file_is_whole(rt: HostRuntime) -> Result<(), Fail> {
     let text = large_text(rt.alloc())?;
     assert!(rt; writes(&mut DiskWorld::new(&rt), LARGE, text.as_bytes()));
     assert!(rt; holds(&rt, LARGE, text.as_bytes()));
-    assert!(rt; reads(rt.alloc(), &DiskWorld::new(&rt), LARGE, text.as_bytes()));
-    assert!(rt; hands_over(rt.alloc(), &DiskWorld::new(&rt), LARGE, text.as_bytes()));
+    assert!(rt; reads(rt.alloc(), &mut DiskWorld::new(&rt), LARGE, text.as_bytes()));
+    assert!(rt; hands_over(rt.alloc(), &mut DiskWorld::new(&rt), LARGE, text.as_bytes()));
     let poor = PoorFiles { files: &rt };
-    assert!(rt; reads(rt.alloc(), &DiskWorld::new(&poor), LARGE, text.as_bytes()));
-    assert!(rt; hands_over(rt.alloc(), &DiskWorld::new(&poor), LARGE, text.as_bytes()));
+    assert!(rt;
+        reads(
+            rt.alloc(),
+            &mut DiskWorld::new(&poor),
+            LARGE,
+            text.as_bytes()
+        )
+    );
+    assert!(rt;
+        hands_over(
+            rt.alloc(),
+            &mut DiskWorld::new(&poor),
+            LARGE,
+            text.as_bytes()
+        )
+    );
     fs::remove_file(&rt, LARGE)?;
     assert!(rt; writes(&mut DiskWorld::new(&poor), LARGE, text.as_bytes()));
     assert!(rt; holds(&rt, LARGE, text.as_bytes()));
@@ -249,11 +264,7 @@ fn a_large_file_is_whole(rt: HostRuntime) -> Result<(), Fail> {
 fn a_file_that_tells_no_size_is_whole(rt: HostRuntime) -> Result<(), Fail> {
     let name = "/proc/self/stat";
     assert!(rt; fs::metadata(&rt, name)?.len() == 0);
-    assert!(rt;
-        !DiskWorld::new(&rt)
-            .read(rt.alloc(), &mut Log::new(), name)?
-            .is_empty()
-    );
+    assert!(rt; !DiskWorld::new(&rt).read(rt.alloc(), name)?.is_empty());
     Ok(())
 }
 
@@ -261,11 +272,11 @@ fn a_file_that_tells_no_size_is_whole(rt: HostRuntime) -> Result<(), Fail> {
 #[test]
 fn a_folder_breaks_off(rt: HostRuntime) -> Result<(), Fail> {
     empty_folder(&rt, "disk_world_folder")?;
-    assert!(rt; breaks_off(rt.alloc(), &DiskWorld::new(&rt), "disk_world_folder"));
+    assert!(rt; breaks_off(rt.alloc(), &mut DiskWorld::new(&rt), "disk_world_folder"));
     assert!(rt;
         !hands_over(
             rt.alloc(),
-            &DiskWorld::new(&rt),
+            &mut DiskWorld::new(&rt),
             "disk_world_folder/none",
             b""
         )
@@ -276,9 +287,9 @@ fn a_folder_breaks_off(rt: HostRuntime) -> Result<(), Fail> {
 
 /// Whether the state of a name exists, once it is locked. `None` where it is not.
 fn is_there(rt: &HostRuntime, name: &str) -> Option<bool> {
-    let world = DiskWorld::new(rt);
-    match world.lock(rt.alloc(), &mut Log::new(), name) {
-        Ok(Some(lock)) => Some(world.exists(&mut Log::new(), &lock)),
+    let mut world = DiskWorld::new(rt);
+    match world.lock(rt.alloc(), name) {
+        Ok(Some(lock)) => Some(world.exists(&lock)),
         _ => None,
     }
 }
@@ -293,12 +304,12 @@ fn what_can_not_be_looked_up_exists(rt: HostRuntime) -> Result<(), Fail> {
     assert!(rt; is_there(&rt, "disk_world_names/file/state").is_none());
     assert!(rt; is_there(&rt, long.as_str()).is_none());
     let poor = PoorFiles { files: &rt };
-    let world = DiskWorld::new(&poor);
-    let Some(lock) = world.lock(rt.alloc(), &mut Log::new(), "disk_world_names/file")? else {
+    let mut world = DiskWorld::new(&poor);
+    let Some(lock) = world.lock(rt.alloc(), "disk_world_names/file")? else {
         return Err(Fail::from("the state can be locked"));
     };
     fs::remove_file(&rt, "disk_world_names/file")?;
-    assert!(rt; world.exists(&mut Log::new(), &lock));
+    assert!(rt; world.exists(&lock));
     fs::remove_dir_all(&rt, "disk_world_names")?;
     Ok(())
 }

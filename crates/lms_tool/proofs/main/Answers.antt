@@ -3,5 +3,5 @@ use Rattle.std.proofs.Crossing.{crosses}
 use Rattle.lms_world.proofs.Sent.{store_is_sent}
 use Rattle.lms_tool.proofs.main.Goals as goal
 
-pub run_watched-status-requires-send-W-Store : goal.run_watched-status-requires-send-W-Store
-run_watched-status-requires-send-W-Store g c κs within = search (store_is_sent, sendable, crosses) depth 20
+pub run-status-requires-send-W-Store : goal.run-status-requires-send-W-Store
+run-status-requires-send-W-Store g c κs within = search (store_is_sent, sendable, crosses) depth 20

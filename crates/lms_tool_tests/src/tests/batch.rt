@@ -1,7 +1,9 @@
 //! `batch`: job lines signed by the whole program.
 use super::ProgramEnd;
 use lms_cli::run::run;
-use lms_world::{Log, MemoryWorld, Printer};
+use lms_commands::Resources;
+use lms_hss::Unwatched;
+use lms_world::{MemoryWorld, Printer};
 use std::sync::Wait;
 use std::thread::Threads;
 
@@ -54,11 +56,13 @@ pub(super) fn end_of_batch_to(
     let mut errors = Vec::new(rt.alloc());
     let arguments = batch(workers);
     let status = run(
-        rt,
-        rt.alloc(),
+        &Resources {
+            rt,
+            alloc: rt.alloc(),
+            progress: &Unwatched,
+        },
         &arguments,
         world,
-        &mut Log::new(),
         &mut rest,
         &mut Printer::new(&mut output),
         &mut errors,

@@ -5,8 +5,9 @@ use super::states::{is_with, keyed, store_at};
 use super::{Closed, ProgramEnd, Stuck, text_of};
 use lms_book::Left;
 use lms_cli::run::run;
-use lms_commands::Status;
-use lms_world::{Log, MemoryWorld, Printer, World};
+use lms_commands::{Resources, Status};
+use lms_hss::Unwatched;
+use lms_world::{MemoryWorld, Printer, World};
 use std::alloc::Global;
 use std::io;
 use std::io::{ErrorKind, Read, Write};
@@ -66,11 +67,13 @@ fn fails_by<I: Read, O: Write>(
     let mut said = Vec::new(rt.alloc());
     let arguments = batch("2");
     let status = run(
-        rt,
-        rt.alloc(),
+        &Resources {
+            rt,
+            alloc: rt.alloc(),
+            progress: &Unwatched,
+        },
         &arguments,
         world,
-        &mut Log::new(),
         input,
         &mut Printer::new(output),
         &mut said,

@@ -3,7 +3,7 @@ use super::arguments::{INFO, ONE, SIGN, keygen};
 use super::states::{is_with, keyed, store_at};
 use super::{fails_with, says};
 use lms_book::{Left, MemoryStore};
-use lms_world::{Log, MemoryWorld, World, WorldFault};
+use lms_world::{MemoryWorld, World, WorldFault};
 use std::alloc::Global;
 use std::sync::Wait;
 use std::test::Fail;
@@ -36,8 +36,8 @@ fn cannot_read_the_state(rt: HostRuntime) -> Result<(), Fail> {
 }
 
 /// Whether the file of a name can't be read.
-fn is_missing(alloc: Global, world: &MemoryWorld, name: &str) -> bool {
-    world.read(alloc, &mut Log::new(), name).is_err()
+fn is_missing(alloc: Global, world: &mut MemoryWorld, name: &str) -> bool {
+    world.read(alloc, name).is_err()
 }
 
 /// No state, and a store whose next write fails, and leaves the old bytes or the new ones.
@@ -57,7 +57,7 @@ fn stores_no_key(
     let mut world = no_state(rt.alloc(), left)?;
     let line = "error: cannot write state\n";
     let failed = fails_with(rt, &keygen("5/8"), &mut world, 3, line);
-    Ok(failed && is_missing(rt.alloc(), &world, "key.pub"))
+    Ok(failed && is_missing(rt.alloc(), &mut world, "key.pub"))
 }
 
 #[test]

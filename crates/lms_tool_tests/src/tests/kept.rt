@@ -3,7 +3,7 @@ use super::arguments::{CHEAP_TWICE, SIGN, keygen};
 use super::meter::reports;
 use super::states::store_at;
 use super::{VERIFY, says};
-use lms_world::{Log, MemoryWorld, World, WorldFault};
+use lms_world::{MemoryWorld, World, WorldFault};
 use std::alloc::Global;
 use std::sync::Wait;
 use std::test::Fail;
@@ -28,7 +28,7 @@ fn signs(
 #[test]
 fn what_is_kept_is_not_computed_again(rt: HostRuntime) -> Result<(), Fail> {
     let mut world = MemoryWorld::new(rt.alloc());
-    world.write(&mut Log::new(), "text", b"abc")?;
+    world.write("text", b"abc")?;
     assert!(rt; reports(&rt, &keygen("5/2,5/2"), &mut world, b"", 32));
     let top = kept(rt.alloc(), &world)?;
     assert!(rt; reports(&rt, &SIGN, &mut world, b"", 32));
@@ -51,7 +51,7 @@ fn goes_without(
 ) -> Result<bool, Fail> {
     let mut world = MemoryWorld::new(rt.alloc());
     world.fail_nodes(fault);
-    world.write(&mut Log::new(), "text", b"abc")?;
+    world.write("text", b"abc")?;
     let done = says(rt, &keygen("5/2"), &mut world, 0, "capacity 32\n")
         && signs(rt, &mut world, "index 0\n")
         && signs(rt, &mut world, "index 1\n");

@@ -2,7 +2,7 @@
 use super::arguments::{CHEAP_TWICE, INFO, SIGN, keygen};
 use super::states::is_with;
 use super::{ProgramEnd, VERIFY, end_of};
-use lms_world::{Log, MemoryWorld, World};
+use lms_world::{MemoryWorld, World};
 use std::alloc::Global;
 use std::sync::Wait;
 use std::test::Fail;
@@ -86,22 +86,21 @@ fn ends_once(
 }
 
 /// Whether the public key was written.
-fn is_published(alloc: Global, world: &MemoryWorld) -> bool {
-    world.read(alloc, &mut Log::new(), "key.pub").is_ok()
-        || world.read(alloc, &mut Log::new(), "key.pub").is_ok()
+fn is_published(alloc: Global, world: &mut MemoryWorld) -> bool {
+    world.read(alloc, "key.pub").is_ok() || world.read(alloc, "key.pub").is_ok()
 }
 
 /// Files with a message, written at the first or at the second try.
 fn with_text(alloc: Global) -> Result<MemoryWorld, Fail> {
     let mut world = MemoryWorld::new(alloc);
-    if world.write(&mut Log::new(), "text", b"abc").is_err() {
-        world.write(&mut Log::new(), "text", b"abc")?;
+    if world.write("text", b"abc").is_err() {
+        world.write("text", b"abc")?;
     }
     Ok(world)
 }
 
 /// The status of a `verify`, by whether there is a public key.
-fn verified(alloc: Global, world: &MemoryWorld) -> u8 {
+fn verified(alloc: Global, world: &mut MemoryWorld) -> u8 {
     if is_published(alloc, world) { 0 } else { 6 }
 }
 
@@ -113,7 +112,7 @@ fn refused_memory_is_said(rt: HostRuntime) -> Result<(), Fail> {
     assert!(rt; signs(&rt, &mut world)?);
     let before = used(&world)?;
     assert!(rt; ends_once(&rt, &INFO, &mut world, 0));
-    let status = verified(rt.alloc(), &world);
+    let status = verified(rt.alloc(), &mut world);
     assert!(rt; ends_once(&rt, &VERIFY, &mut world, status));
     assert!(rt; used(&world)? == before);
     Ok(())

@@ -2,10 +2,11 @@
 use super::arguments::{INFO, SIGN, keygen};
 use super::batch::{TWO_LINES, batch};
 use super::lines::Marked;
-use lms_cli::run::run_watched;
+use lms_cli::run::run;
+use lms_commands::Resources;
 use lms_hss::Progress;
 use lms_meter::{Meter, Wiping};
-use lms_world::{Log, MemoryWorld, Printer, World};
+use lms_world::{MemoryWorld, Printer, World};
 use std::fmt::Display;
 use std::io;
 use std::io::{Print, Write};
@@ -169,16 +170,17 @@ pub(super) fn reports(
     let mut rest = input;
     let mut output = Vec::new(rt.alloc());
     let mut errors = Vec::new(rt.alloc());
-    let status = run_watched(
-        rt,
-        rt.alloc(),
+    let status = run(
+        &Resources {
+            rt,
+            alloc: rt.alloc(),
+            progress: &sums,
+        },
         arguments,
         world,
-        &mut Log::new(),
         &mut rest,
         &mut Printer::new(&mut output),
         &mut errors,
-        &sums,
     );
     status.code() == 0
         && sums.to_do.load(Ordering::SeqCst) == leaves
@@ -189,7 +191,7 @@ pub(super) fn reports(
 #[test]
 fn keygen_sign_and_batch_report_their_leaves(rt: HostRuntime) -> Result<(), Fail> {
     let mut world = MemoryWorld::new(rt.alloc());
-    world.write(&mut Log::new(), "text", b"abc")?;
+    world.write("text", b"abc")?;
     assert!(rt; reports(&rt, &keygen("5/2,5/2"), &mut world, b"", 32));
     assert!(rt; reports(&rt, &SIGN, &mut world, b"", 32));
     assert!(rt; reports(&rt, &batch("2"), &mut world, TWO_LINES.as_bytes(), 64));

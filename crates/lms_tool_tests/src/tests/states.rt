@@ -2,7 +2,7 @@
 use lms_book::MemoryStore;
 use lms_fixtures::{image_of, image_with, key_of, store_of};
 use lms_params::{LmsType, OtsType};
-use lms_world::{Log, MemoryWorld, World};
+use lms_world::{MemoryWorld, World};
 use std::alloc::Global;
 use std::test::Fail;
 
@@ -18,7 +18,7 @@ pub(super) fn store_at(
 /// A message, and a state of these bytes.
 fn stated(alloc: Global, bytes: &[u8]) -> Result<MemoryWorld, Fail> {
     let mut world = MemoryWorld::new(alloc);
-    world.write(&mut Log::new(), "text", b"abc")?;
+    world.write("text", b"abc")?;
     world.set_state(store_of(alloc, bytes)?);
     Ok(world)
 }

@@ -1,50 +1,40 @@
 //! What is kept of nodes beside a state, on a disk and in memory.
 use super::{PoorFiles, empty_folder, holds};
-use lms_world::{DiskWorld, Log, MemoryWorld, World, WorldFault};
+use lms_world::{DiskWorld, MemoryWorld, World, WorldFault};
 use std::alloc::Global;
 use std::fs;
 use std::test::Fail;
 
 /// Whether the nodes of a lock are these bytes, where at most so many are asked for.
-fn gives<W: World<Log = Log>>(
-    alloc: Global,
-    world: &W,
-    lock: &W::Lock,
-    most: usize,
-    text: &[u8],
-) -> bool {
-    match world.read_nodes(alloc, &mut Log::new(), lock, most) {
+fn gives<W: World>(alloc: Global, world: &mut W, lock: &W::Lock, most: usize, text: &[u8]) -> bool {
+    match world.read_nodes(alloc, lock, most) {
         Some(found) => found.as_slice() == text,
         None => false,
     }
 }
 
 /// Whether there are none, where at most so many bytes are asked for.
-fn gives_none<W: World<Log = Log>>(alloc: Global, world: &W, lock: &W::Lock, most: usize) -> bool {
-    world
-        .read_nodes(alloc, &mut Log::new(), lock, most)
-        .is_none()
+fn gives_none<W: World>(alloc: Global, world: &mut W, lock: &W::Lock, most: usize) -> bool {
+    world.read_nodes(alloc, lock, most).is_none()
 }
 
 /// Whether these bytes are written, and read where no more are asked for, and nothing where one
 /// less is.
-fn keeps<W: World<Log = Log>>(alloc: Global, world: &mut W, lock: &W::Lock, text: &[u8]) -> bool {
-    let written = world
-        .write_nodes(alloc, &mut Log::new(), lock, text)
-        .is_ok();
+fn keeps<W: World>(alloc: Global, world: &mut W, lock: &W::Lock, text: &[u8]) -> bool {
+    let written = world.write_nodes(alloc, lock, text).is_ok();
     let read = gives(alloc, world, lock, text.len(), text);
     written && read && (text.is_empty() || gives_none(alloc, world, lock, text.len() - 1))
 }
 
 /// Whether the nodes of the state of a name are kept, one write after another, and nothing is read
 /// before; the last are `left`.
-fn keeps_each<W: World<Log = Log>>(
+fn keeps_each<W: World>(
     alloc: Global,
     world: &mut W,
     name: &str,
     left: &[u8],
 ) -> Result<bool, Fail> {
-    let Some(lock) = world.lock(alloc, &mut Log::new(), name)? else {
+    let Some(lock) = world.lock(alloc, name)? else {
         return Ok(false);
     };
     let none = gives_none(alloc, world, &lock, usize::MAX);
@@ -52,24 +42,24 @@ fn keeps_each<W: World<Log = Log>>(
         && keeps(alloc, world, &lock, b"")
         && keeps(alloc, world, &lock, left);
     let last = gives(alloc, world, &lock, usize::MAX, left);
-    world.unlock(&mut Log::new(), lock);
+    world.unlock(lock);
     Ok(none && texts && last)
 }
 
 /// Whether a write of nodes beside the state of a name fails so, and these are kept then.
-fn fails<W: World<Log = Log>>(
+fn fails<W: World>(
     alloc: Global,
     world: &mut W,
     name: &str,
     fault: WorldFault,
     left: &[u8],
 ) -> Result<bool, Fail> {
-    let Some(lock) = world.lock(alloc, &mut Log::new(), name)? else {
+    let Some(lock) = world.lock(alloc, name)? else {
         return Ok(false);
     };
-    let failed = world.write_nodes(alloc, &mut Log::new(), &lock, b"new") == Err(fault);
+    let failed = world.write_nodes(alloc, &lock, b"new") == Err(fault);
     let stays = gives(alloc, world, &lock, left.len(), left);
-    world.unlock(&mut Log::new(), lock);
+    world.unlock(lock);
     Ok(failed && stays)
 }
 
@@ -114,19 +104,17 @@ fn a_write_of_nodes_fails_on_a_disk(rt: HostRuntime) -> Result<(), Fail> {
 }
 
 /// Whether nodes are written beside the state of a name, and none are read.
-fn reads_none_of_what_is_written<W: World<Log = Log>>(
+fn reads_none_of_what_is_written<W: World>(
     alloc: Global,
     world: &mut W,
     name: &str,
 ) -> Result<bool, Fail> {
-    let Some(lock) = world.lock(alloc, &mut Log::new(), name)? else {
+    let Some(lock) = world.lock(alloc, name)? else {
         return Ok(false);
     };
-    let written = world
-        .write_nodes(alloc, &mut Log::new(), &lock, b"nodes")
-        .is_ok();
+    let written = world.write_nodes(alloc, &lock, b"nodes").is_ok();
     let none = gives_none(alloc, world, &lock, usize::MAX);
-    world.unlock(&mut Log::new(), lock);
+    world.unlock(lock);
     Ok(written && none)
 }
 
@@ -157,13 +145,14 @@ fn gives_what_was_set(alloc: Global) -> Result<bool, Fail> {
     let mut world = MemoryWorld::new(alloc);
     let none = world.nodes().is_none();
     world.set_nodes(Vec::from_slice(alloc, b"set")?);
-    world.write(&mut Log::new(), "file", b"bytes")?;
-    let Some(lock) = world.lock(alloc, &mut Log::new(), "state")? else {
+    world.write("file", b"bytes")?;
+    let Some(lock) = world.lock(alloc, "state")? else {
         return Ok(false);
     };
-    let store = world.take_store(alloc, &mut Log::new(), &lock)?;
-    world.put_back(&mut Log::new(), &lock, store);
-    let given = gives(alloc, &world, &lock, 3, b"set") && gives_none(alloc, &world, &lock, 2);
+    let store = world.take_store(alloc, &lock)?;
+    world.put_back(&lock, store);
+    let given = gives(alloc, &mut world, &lock, 3, b"set")
+        && gives_none(alloc, &mut world, &lock, 2);
     Ok(none && given && has(&world, b"set"))
 }
 

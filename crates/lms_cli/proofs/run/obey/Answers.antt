@@ -1,51 +1,12 @@
-use Rattle.std.proofs.Common.{⊎_elim, inl, inr, refl}
+use Rattle.std.proofs.Common.{inl, inr, refl}
 use Rattle.clap.proofs.TakesLemmas.{passed_up}
-use Rattle.lms_commands.proofs.Failing.{stays_same}
 use Rattle.lms_cli.proofs.Ending.{failed_as, signed_as}
 use Rattle.lms_cli.proofs.run.obey.Goals as goal
-
-pub returns-in_err-key-in-Keygen-clause-failed : goal.returns-in_err-key-in-Keygen-clause-failed
-returns-in_err-key-in-Keygen-clause-failed g c =
-    let refused = rw (c.deref.ensures, c.deref-in-Keygen.ensures, c.deref-in-Keygen-2.ensures) at c.in_err-key-in-Keygen.ensures.refused in
-    rw c.in-Keygen.is (passed_up _ _ _ c.from_residual.ensures.1 (inl (refused, stays_same _ _)))
-
-pub returns-in_err-make_key-in-Keygen-clause-failed : goal.returns-in_err-make_key-in-Keygen-clause-failed
-returns-in_err-make_key-in-Keygen-clause-failed g c =
-    let key = rw (c.deref.ensures, c.deref-in-Keygen.ensures, c.deref-in-Keygen-2.ensures) at c.in_ok-key-in-Keygen.ensures.key in
-    let failed = rw c.deref-in-Keygen-3.ensures at c.in_err-make_key-in-Keygen.ensures.failed in
-    rw c.in-Keygen.is (passed_up _ _ _ c.from_residual-in_err-make_key-in-Keygen.ensures.1 (inr (c.in_ok-key-in-Keygen.key, key, failed)))
-
-pub returns-in_err-sign_jobs-in-Batch-clause-failed : goal.returns-in_err-sign_jobs-in-Batch-clause-failed
-returns-in_err-sign_jobs-in-Batch-clause-failed g c =
-    let failed = rw (c.deref-in-Batch.ensures, c.deref-in-Batch-2.ensures) at c.in_err-sign_jobs-in-Batch.ensures.failed in
-    rw c.in-Batch.is (passed_up _ _ _ c.from_residual-in_err-sign_jobs-in-Batch.ensures.1 failed)
-
-pub returns-in_ok-sign_file-in-Sign-clause-others : goal.returns-in_ok-sign_file-in-Sign-clause-others
-returns-in_ok-sign_file-in-Sign-clause-others g c =
-    let files = rw (c.deref-in-Sign-4.ensures) at c.in_ok-sign_file-in-Sign.ensures.files in
-    rw c.in-Sign.is files
-
-pub returns-in_err-make_key-in-Keygen-clause-nodes : goal.returns-in_err-make_key-in-Keygen-clause-nodes
-returns-in_err-make_key-in-Keygen-clause-nodes g c =
-    let key = rw (c.deref.ensures, c.deref-in-Keygen.ensures, c.deref-in-Keygen-2.ensures) at c.in_ok-key-in-Keygen.ensures.key in
-    let nodes = rw c.deref-in-Keygen-3.ensures at c.in_err-make_key-in-Keygen.ensures.nodes in
-    rw c.in-Keygen.is (⊎_elim inl (λ kept. inr (c.in_ok-key-in-Keygen.key, key, kept.0, kept.1)) nodes)
-
-pub returns-in_ok-make_key-in-Keygen-clause-nodes : goal.returns-in_ok-make_key-in-Keygen-clause-nodes
-returns-in_ok-make_key-in-Keygen-clause-nodes g c =
-    let key = rw (c.deref.ensures, c.deref-in-Keygen.ensures, c.deref-in-Keygen-2.ensures) at c.in_ok-key-in-Keygen.ensures.key in
-    let nodes = rw c.deref-in-Keygen-3.ensures at c.in_ok-make_key-in-Keygen.ensures.nodes in
-    rw c.in-Keygen.is (⊎_elim inl (λ kept. inr (c.in_ok-key-in-Keygen.key, key, kept.0, kept.1)) nodes)
 
 pub returns-in_err-key-in-Keygen-clause-log_failed : goal.returns-in_err-key-in-Keygen-clause-log_failed
 returns-in_err-key-in-Keygen-clause-log_failed g c =
     let refused = rw (c.deref.ensures, c.deref-in-Keygen.ensures, c.deref-in-Keygen-2.ensures) at c.in_err-key-in-Keygen.ensures.refused in
     rw c.in-Keygen.is (passed_up _ _ _ c.from_residual.ensures.1 (inl (refused, refl, refl)))
-
-pub returns-in_err-sign_file-in-Sign-clause-failed : goal.returns-in_err-sign_file-in-Sign-clause-failed
-returns-in_err-sign_file-in-Sign-clause-failed g c =
-    let failed = rw (c.deref-in-Sign.ensures, c.deref-in-Sign-2.ensures, c.deref-in-Sign-3.ensures) at c.in_err-sign_file-in-Sign.ensures.failed in
-    rw c.in-Sign.is (passed_up _ _ _ c.from_residual-in_err-sign_file-in-Sign.ensures.1 failed)
 
 pub returns-in_err-sign_file-in-Sign-clause-log_failed : goal.returns-in_err-sign_file-in-Sign-clause-log_failed
 returns-in_err-sign_file-in-Sign-clause-log_failed g c =
@@ -57,18 +18,14 @@ returns-in_ok-sign_file-in-Sign-clause-logged g c =
     let logged = signed_as c.deref-in-Sign-2.ensures c.deref-in-Sign-3.ensures c.deref-in-Sign.ensures c.deref-in-Sign-4.ensures c.in_ok-sign_file-in-Sign.ensures.logged in
     rw c.in-Sign.is (refl, logged)
 
-pub returns-in_err-sign_jobs-in-Batch-clause-silent : goal.returns-in_err-sign_jobs-in-Batch-clause-silent
-returns-in_err-sign_jobs-in-Batch-clause-silent g c =
-    passed_up _ _ _ c.from_residual-in_err-sign_jobs-in-Batch.ensures.1 c.in_err-sign_jobs-in-Batch.ensures.silent
-
 pub returns-in_err-sign_jobs-in-Batch-clause-log_failed : goal.returns-in_err-sign_jobs-in-Batch-clause-log_failed
 returns-in_err-sign_jobs-in-Batch-clause-log_failed g c =
-    let failed = rw c.deref-in-Batch.ensures at c.in_err-sign_jobs-in-Batch.ensures.log_failed in
+    let failed = rw (c.deref-in-Batch.ensures, c.deref-in-Batch-2.ensures) at c.in_err-sign_jobs-in-Batch.ensures.log_failed in
     rw c.in-Batch.is (passed_up _ _ _ c.from_residual-in_err-sign_jobs-in-Batch.ensures.1 failed)
 
 pub returns-in_ok-sign_jobs-in-Batch-clause-logged : goal.returns-in_ok-sign_jobs-in-Batch-clause-logged
 returns-in_ok-sign_jobs-in-Batch-clause-logged g c =
-    let logged = rw c.deref-in-Batch.ensures at c.in_ok-sign_jobs-in-Batch.ensures.logged in
+    let logged = rw (c.deref-in-Batch.ensures, c.deref-in-Batch-2.ensures) at c.in_ok-sign_jobs-in-Batch.ensures.logged in
     rw c.in-Batch.is (refl, logged)
 
 pub returns-in_ok-describe-in-Info-clause-logged : goal.returns-in_ok-describe-in-Info-clause-logged
@@ -80,3 +37,17 @@ pub returns-in_err-verdict-in-Verify-clause-log_failed : goal.returns-in_err-ver
 returns-in_err-verdict-in-Verify-clause-log_failed g c =
     let failed = rw (c.deref-in-Verify.ensures, c.deref-in-Verify-2.ensures, c.deref-in-Verify-3.ensures) at c.in_err-verdict-in-Verify.ensures.log_failed in
     rw c.in-Verify.is (passed_up _ _ _ c.from_residual-in_err-verdict-in-Verify.ensures.1 failed)
+
+pub returns-in_err-make_key-in-Keygen-clause-log_failed : goal.returns-in_err-make_key-in-Keygen-clause-log_failed
+returns-in_err-make_key-in-Keygen-clause-log_failed g c =
+    let key = rw (c.deref.ensures, c.deref-in-Keygen.ensures, c.deref-in-Keygen-2.ensures) at
+    c.in_ok-key-in-Keygen.ensures.key in
+    let failed = rw (c.deref-in-Keygen-3.ensures, c.deref-in-Keygen-4.ensures) at
+    c.in_err-make_key-in-Keygen.ensures.log_failed in
+    rw c.in-Keygen.is (passed_up _ _ _ c.from_residual-in_err-make_key-in-Keygen.ensures.1
+    (inr (c.in_ok-key-in-Keygen.key, key, failed)))
+
+pub returns-in_err-describe-in-Info-clause-log_failed : goal.returns-in_err-describe-in-Info-clause-log_failed
+returns-in_err-describe-in-Info-clause-log_failed g c =
+    let failed = rw c.deref-in-Info.ensures at c.in_err-describe-in-Info.ensures.log_failed in
+    rw c.in-Info.is (passed_up _ _ _ c.from_residual-in_err-describe-in-Info.ensures.1 failed)

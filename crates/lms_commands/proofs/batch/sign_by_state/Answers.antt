@@ -1,42 +1,12 @@
-use Rattle.std.proofs.Common.{List, ℕ, inr, length, ◌≡◌}
+use Rattle.std.proofs.Common.{inr, length, ◌≡◌}
 use Rattle.std.proofs.lemmas.Result.{IfErr-weaker, IfOk-weaker}
-use Rattle.lms_commands.specs.Batches.{FailsToSignInput, SignsAsked}
 use Rattle.lms_commands.specs.BatchLogs.{LogsBatch, LogsNoBatch}
 use Rattle.lms_commands.specs.Logs.{state_of}
 use Rattle.lms_commands.specs.SharedBooks.{IsRefusedBy, IsSignedByBook}
-use Rattle.lms_commands.proofs.Batches.{failed_so, log_batch, log_refused, signed_so}
+use Rattle.lms_commands.proofs.Batches.{log_batch, log_refused}
 use Rattle.lms_commands.proofs.Signings.{just_opened}
+use Rattle.lms_world.proofs.Following.{one_more}
 use Rattle.lms_commands.proofs.batch.sign_by_state.Goals as goal
-
-pub returns-clause-signed : goal.returns-clause-signed
-returns-clause-signed g c =
-    let old = g.W.World.known c.args.world.now in
-    let new = g.W.World.known c.put_back.new.self in
-    let opened = c.in_ok-book.ensures in
-    let book = c.in_ok-book.book in
-    let left = c.sign_by_book-answer.result.1 in
-    let before = g.I.Read.remaining c.args.input.now in
-    let after = g.I.Read.remaining c.sign_by_book-answer.new.input in
-    IfOk-weaker c.sign_by_book-answer.result.0 (λ signed. IsSignedByBook book before after signed left)
-    (λ signed. (state : List ℕ) → g.W.World.is_lock_of c.args.lock.now state → SignsAsked old new state before after signed)
-    (λ signed is state locked. signed_so old new state book left _ opened.counted (opened.opened state locked) (just_opened book opened.fresh)
-    c.close.ensures.store (opened.taken state locked) (c.put_back.ensures.kept state locked) (c.put_back.ensures.only state locked)
-    before after signed is) c.sign_by_book-answer.ensures.signed
-
-pub returns-clause-failed : goal.returns-clause-failed
-returns-clause-failed g c =
-    let old = g.W.World.known c.args.world.now in
-    let new = g.W.World.known c.put_back.new.self in
-    let opened = c.in_ok-book.ensures in
-    let book = c.in_ok-book.book in
-    let left = c.sign_by_book-answer.result.1 in
-    let before = g.I.Read.remaining c.args.input.now in
-    let after = g.I.Read.remaining c.sign_by_book-answer.new.input in
-    IfErr-weaker c.sign_by_book-answer.result.0 (λ fault. IsRefusedBy book before after fault left)
-    (λ fault. (state : List ℕ) → g.W.World.is_lock_of c.args.lock.now state → FailsToSignInput old new state before after fault)
-    (λ fault is state locked. failed_so old new state book left _ opened.counted (opened.opened state locked) (just_opened book opened.fresh)
-    c.close.ensures.store (opened.taken state locked) (c.put_back.ensures.kept state locked) (c.put_back.ensures.only state locked)
-    before after fault is) c.sign_by_book-answer.ensures.refused
 
 pub returns-clause-logged : goal.returns-clause-logged
 returns-clause-logged g c =
@@ -46,7 +16,7 @@ returns-clause-logged g c =
     let before = g.I.Read.remaining c.args.input.now in
     let after = g.I.Read.remaining c.sign_by_book-answer.new.input in
     IfOk-weaker c.sign_by_book-answer.result.0 (λ signed. IsSignedByBook book before after signed left)
-    (λ signed. (signs : LogsBatch before after signed.batch (g.W.World.events c.args.log.now) (g.W.World.events c.put_back.new.log)) × (signed.asked ≡ length signs.jobs))
+    (λ signed. (signs : LogsBatch before after signed.batch (g.W.World.events c.args.world.now) (g.W.World.events c.put_back.new.self)) × (signed.asked ≡ length signs.jobs))
     (log_batch book left _ _ _ _ opened.logged (just_opened book opened.fresh) c.close.ensures.store c.put_back.ensures.logged before after)
     c.sign_by_book-answer.ensures.signed
 
@@ -58,9 +28,12 @@ returns-clause-log_failed g c =
     let before = g.I.Read.remaining c.args.input.now in
     let after = g.I.Read.remaining c.sign_by_book-answer.new.input in
     IfErr-weaker c.sign_by_book-answer.result.0 (λ fault. IsRefusedBy book before after fault left)
-    (λ fault. LogsNoBatch before after fault (g.W.World.events c.args.log.now) (g.W.World.events c.put_back.new.log))
+    (λ fault. LogsNoBatch before after fault (g.W.World.events c.args.world.now) (g.W.World.events c.put_back.new.self))
     (λ fault is. inr (
       state_of book,
       log_refused book left _ _ _ _ opened.logged (just_opened book opened.fresh) c.close.ensures.store c.put_back.ensures.logged before after fault is,
     ))
     c.sign_by_book-answer.ensures.refused
+
+pub returns-clause-follows : goal.returns-clause-follows
+returns-clause-follows g c = one_more c.in_ok-book.ensures.follows c.put_back.ensures.logged c.put_back.ensures.acts

@@ -1,7 +1,8 @@
-use Rattle.std.proofs.Common.{Some, inr, sym}
+use Rattle.std.proofs.Common.{inl, inr, refl, sym}
 use Rattle.std.proofs.lemmas.Result.{IfErr-weaker, on_ok_weaker}
-use Rattle.lms_commands.specs.Batches.{streams}
-use Rattle.lms_commands.proofs.Batches.{answered_all, log_unprinted, unprinted}
+use Rattle.lms_commands.proofs.Batches.{log_unprinted}
+use Rattle.lms_commands.proofs.Failing.{handed_on}
+use Rattle.lms_world.proofs.Following.{one_more}
 use Rattle.lms_commands.proofs.batch.sign_locked.Goals as goal
 
 pub returns-clause-logged : goal.returns-clause-logged
@@ -11,7 +12,7 @@ returns-clause-logged g c =
       c.in_ok-signed.signed.asked,
       (
         c.in_ok-signed.signed.batch,
-        record { until_signed = g.W.World.events c.sign_by_state.new.log; signs = c.in_ok-signed.ensures.logged.0; prints = c.begin_printing.ensures.logged },
+        record { until_signed = g.W.World.events c.sign_by_state.new.world; signs = c.in_ok-signed.ensures.logged.0; prints = c.begin_printing.ensures.logged },
         sym all.0,
         c.in_ok-signed.ensures.logged.1,
         all.1,
@@ -24,24 +25,13 @@ returns-clause-log_failed g c =
     IfErr-weaker c.print_answers.result _ _
     (λ fault is. inr (log_unprinted (g.I.Read.remaining c.args.input.now) (g.I.Read.remaining c.sign_by_state.new.input) c.args.output.now c.print_answers.new.output
     c.in_ok-signed.signed _ _
-    (record { until_signed = g.W.World.events c.sign_by_state.new.log; signs = c.in_ok-signed.ensures.logged.0; prints = c.begin_printing.ensures.logged })
+    (record { until_signed = g.W.World.events c.sign_by_state.new.world; signs = c.in_ok-signed.ensures.logged.0; prints = c.begin_printing.ensures.logged })
     c.in_ok-signed.ensures.logged.1 fault is))
     c.print_answers.ensures.failed
 
-pub returns-clause-signed : goal.returns-clause-signed
-returns-clause-signed g c =
-    let before = streams (g.I.Read.remaining c.args.input.now) (Some c.args.output.now) in
-    let after = streams (g.I.Read.remaining c.sign_by_state.new.input) (Some c.print_answers.new.output) in
-    on_ok_weaker c.print_answers.result
-    (λ all state locked. answered_all (g.W.World.known c.args.world.now) (g.W.World.known c.sign_by_state.new.world) state before after c.in_ok-signed.signed
-    (c.in_ok-signed.ensures.signed state locked) all)
-    c.print_answers.ensures.all
+pub returns-clause-follows : goal.returns-clause-follows
+returns-clause-follows g c = one_more c.sign_by_state.ensures.follows c.begin_printing.ensures.logged c.begin_printing.ensures.acts
 
-pub returns-clause-failed : goal.returns-clause-failed
-returns-clause-failed g c =
-    let before = streams (g.I.Read.remaining c.args.input.now) (Some c.args.output.now) in
-    let after = streams (g.I.Read.remaining c.sign_by_state.new.input) (Some c.print_answers.new.output) in
-    IfErr-weaker c.print_answers.result _ _
-    (λ fault is state locked. inr (unprinted (g.W.World.known c.args.world.now) (g.W.World.known c.sign_by_state.new.world) state before after c.in_ok-signed.signed
-    (c.in_ok-signed.ensures.signed state locked) fault is))
-    c.print_answers.ensures.failed
+pub returns-in_err-signed-clause-log_failed : goal.returns-in_err-signed-clause-log_failed
+returns-in_err-signed-clause-log_failed g c =
+    handed_on _ _ _ c.from_residual.ensures.1 (inl (c.in_err-signed.ensures.log_failed, refl))

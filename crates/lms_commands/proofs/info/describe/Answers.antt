@@ -1,31 +1,13 @@
-use Rattle.std.proofs.Common.{Some, inr, subst}
+use Rattle.std.proofs.Common.{inr, subst}
 use Rattle.std.proofs.lemmas.Result.{IfErr-weaker, on_ok_weaker}
 use Rattle.lms_commands.specs.Logs.{WorldCalls}
 use Rattle.lms_commands.specs.ReadingLogs.{LogsUndescribed, ReadsToPrint}
-use Rattle.lms_commands.specs.Signing.{Describes, FailsToDescribe}
-use Rattle.lms_commands.proofs.Failing.{failed_with, made_with, stays_same}
+use Rattle.lms_world.proofs.Following.{one_call, one_more, both_follow}
 use Rattle.lms_commands.proofs.info.describe.Goals as goal
-
-pub returns-in_err-lock-clause-stays : goal.returns-in_err-lock-clause-stays
-returns-in_err-lock-clause-stays g c = stays_same _ _
-
-pub returns-clause-stays : goal.returns-clause-stays
-returns-clause-stays g c = c.describe_locked-described.ensures.stays c.args.state.now c.in_ok-lock.ensures.locked
-
-pub returns-clause-described : goal.returns-clause-described
-returns-clause-described g c =
-    made_with c.describe_locked-described.result (g.W.World.is_lock_of c.in_ok-lock.lock)
-    (λ state. Describes (g.W.World.known c.args.world.now) state (Some c.args.output.now) (Some c.describe_locked-described.new.output))
-    c.args.state.now c.in_ok-lock.ensures.locked c.describe_locked-described.ensures.described
-
-pub returns-clause-failed : goal.returns-clause-failed
-returns-clause-failed g c =
-    failed_with c.describe_locked-described.result (g.W.World.is_lock_of c.in_ok-lock.lock) (λ state. FailsToDescribe (g.W.World.known c.args.world.now) state)
-    c.args.state.now c.in_ok-lock.ensures.locked c.describe_locked-described.ensures.failed
 
 pub returns-clause-logged : goal.returns-clause-logged
 returns-clause-logged g c =
-    let last = g.W.World.events c.describe_locked-described.new.log in
+    let last = g.W.World.events c.describe_locked-described.new.world in
     on_ok_weaker c.describe_locked-described.result
     (λ is. (
       is.0,
@@ -38,7 +20,7 @@ returns-clause-logged g c =
 
 pub returns-clause-log_failed : goal.returns-clause-log_failed
 returns-clause-log_failed g c =
-    let last = g.W.World.events c.describe_locked-described.new.log in
+    let last = g.W.World.events c.describe_locked-described.new.world in
     IfErr-weaker c.describe_locked-described.result _ _
     (λ fault is. inr (
       last,
@@ -46,3 +28,11 @@ returns-clause-log_failed g c =
       c.unlock.ensures.logged,
     ))
     c.describe_locked-described.ensures.log_failed
+
+pub returns-in_err-lock-clause-follows : goal.returns-in_err-lock-clause-follows
+returns-in_err-lock-clause-follows g c = one_call c.in_err-lock.ensures.logged c.in_err-lock.ensures.acts
+
+pub returns-clause-follows : goal.returns-clause-follows
+returns-clause-follows g c =
+    one_more (both_follow (one_call c.in_ok-lock.ensures.logged c.in_ok-lock.ensures.acts) c.describe_locked-described.ensures.follows)
+    c.unlock.ensures.logged c.unlock.ensures.acts

@@ -1,5 +1,6 @@
 use Rattle.std.proofs.Common.{◌∙◌, ◌∷◌, List, ℕ, ap, inr, refl}
 use Rattle.lms_world.specs.Events.{NodesWritten, is_done}
+use Rattle.lms_world.proofs.Following.{one_call}
 use Rattle.lms_commands.proofs.keeping.keep_trees.Goals as goal
 
 pub returns-in-Ok-clause-logged : goal.returns-in-Ok-clause-logged
@@ -10,5 +11,8 @@ returns-in-Ok-clause-logged g c =
       c.args.trees.now,
       done,
       refl,
-      c.write_nodes.ensures.logged ∙ ap (λ (t : List ℕ). NodesWritten t done ∷ g.W.World.events c.args.log.now) text,
+      c.write_nodes.ensures.logged ∙ ap (λ (t : List ℕ). NodesWritten t done ∷ g.W.World.events c.args.world.now) text,
     )
+
+pub returns-in-Ok-clause-follows : goal.returns-in-Ok-clause-follows
+returns-in-Ok-clause-follows g c = one_call c.write_nodes.ensures.logged c.write_nodes.ensures.acts

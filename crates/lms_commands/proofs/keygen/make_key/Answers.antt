@@ -1,27 +1,13 @@
-use Rattle.std.proofs.Common.{Some, inr, subst}
+use Rattle.std.proofs.Common.{inr, subst}
 use Rattle.std.proofs.lemmas.Result.{IfErr-weaker, on_ok_weaker}
 use Rattle.lms_commands.specs.KeygenLogs.{LogsUnmade, PublishesKey}
 use Rattle.lms_commands.specs.Logs.{WorldCalls}
-use Rattle.lms_commands.specs.Keygen.{FailsToMakeKey, MakesKey}
-use Rattle.lms_commands.proofs.Failing.{failed_with, made_with}
+use Rattle.lms_world.proofs.Following.{one_call, one_more, both_follow}
 use Rattle.lms_commands.proofs.keygen.make_key.Goals as goal
-
-pub returns-clause-made : goal.returns-clause-made
-returns-clause-made g c =
-    made_with c.make_locked-made.result (g.W.World.is_lock_of c.in_ok-lock.lock)
-    (λ state. MakesKey (g.W.World.known c.args.world.now) (g.W.World.known c.make_locked-made.new.world) c.args.key state c.args.public.now
-    (Some c.args.output.now) (Some c.make_locked-made.new.output))
-    c.args.state.now c.in_ok-lock.ensures.locked c.make_locked-made.ensures.made
-
-pub returns-clause-failed : goal.returns-clause-failed
-returns-clause-failed g c =
-    failed_with c.make_locked-made.result (g.W.World.is_lock_of c.in_ok-lock.lock)
-    (λ state. FailsToMakeKey (g.W.World.known c.args.world.now) (g.W.World.known c.make_locked-made.new.world) c.args.key state)
-    c.args.state.now c.in_ok-lock.ensures.locked c.make_locked-made.ensures.failed
 
 pub returns-clause-logged : goal.returns-clause-logged
 returns-clause-logged g c =
-    let last = g.W.World.events c.make_locked-made.new.log in
+    let last = g.W.World.events c.make_locked-made.new.world in
     on_ok_weaker c.make_locked-made.result
     (λ is. (
       last,
@@ -33,7 +19,7 @@ returns-clause-logged g c =
 
 pub returns-clause-log_failed : goal.returns-clause-log_failed
 returns-clause-log_failed g c =
-    let last = g.W.World.events c.make_locked-made.new.log in
+    let last = g.W.World.events c.make_locked-made.new.world in
     IfErr-weaker c.make_locked-made.result _ _
     (λ fault is. inr (
       last,
@@ -41,3 +27,10 @@ returns-clause-log_failed g c =
       c.unlock.ensures.logged,
     ))
     c.make_locked-made.ensures.log_failed
+
+pub returns-clause-follows : goal.returns-clause-follows
+returns-clause-follows g c =
+    one_more (both_follow (one_call c.in_ok-lock.ensures.logged c.in_ok-lock.ensures.acts) c.make_locked-made.ensures.follows) c.unlock.ensures.logged c.unlock.ensures.acts
+
+pub returns-in_err-lock-clause-follows : goal.returns-in_err-lock-clause-follows
+returns-in_err-lock-clause-follows g c = one_call c.in_err-lock.ensures.logged c.in_err-lock.ensures.acts

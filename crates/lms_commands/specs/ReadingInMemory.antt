@@ -1,0 +1,78 @@
+-- What `info` and `verify` find in a world in memory, by their calls, and that they change nothing.
+use Rattle.std.specs.Prelude.{ℕ, ◌≡◌, ◌⊎◌, List, ◌++◌, false, Some, Ok, Err}
+use Rattle.lms_lines.specs.AnswerLines.{AppendsFront}
+use Rattle.lms_world.specs.Names.{Bytes}
+use Rattle.lms_world.specs.Held.{Follows, Held, answer_in}
+use Rattle.lms_world.specs.declared.fault.WorldFault.TheVariants.{Device}
+use Rattle.lms_commands.specs.InMemory.{FailsToLock, FailsToOpen, FindsState}
+use Rattle.lms_commands.specs.Logs.{WorldCalls}
+use Rattle.lms_commands.specs.ReadingLogs.{info_of, LogsInfo, LogsInfoFailed, LogsVerify, LogsVerifyFailed}
+use Rattle.lms_commands.specs.Verdicts.{IsRightFor, line_of}
+use Rattle.lms_commands.specs.declared.fault.Fault.{Fault}
+use Rattle.lms_commands.specs.declared.fault.Fault.TheVariants.{OutOfMemory, ReadInput, WriteOutput}
+use Rattle.lms_commands.specs.declared.verdict.Verdict.{Verdict}
+
+-- of a world in memory, `info` at status 0 prints what the state says
+abbrev pub DescribesInMemory : Type 0
+DescribesInMemory = (state : Bytes) (before printed : List ℕ) (old new : Held)
+    (earlier now : WorldCalls)
+    → LogsInfo state before printed earlier now
+    → Follows (Some old) earlier (Some new) now
+    → (old.in_use ≡ false)
+    × ((finds : FindsState old new) × (printed ≡ before ++ info_of finds.state))
+
+-- why a state is not described, in the order in which that is found
+abbrev pub FailsToDescribe : List ℕ → List ℕ → Fault → Held → Held → Type 0
+FailsToDescribe before printed fault old new =
+    FailsToLock fault old new
+    ⊎ ((old.in_use ≡ false) × (FailsToOpen fault old new
+    ⊎ ((fault ≡ WriteOutput) × ((finds : FindsState old new)
+    × AppendsFront (Some before) (Some printed) (info_of finds.state)))))
+
+-- of a world in memory, this is why `info` fails
+abbrev pub FailsToDescribeInMemory : Type 0
+FailsToDescribeInMemory = (state : Bytes) (before printed : List ℕ) (fault : Fault)
+    (old new : Held) (earlier now : WorldCalls)
+    → LogsInfoFailed state before printed fault earlier now
+    → Follows (Some old) earlier (Some new) now
+    → FailsToDescribe before printed fault old new
+
+-- the verdict is right for what the three files hold
+pub record Judges (public message signature : Bytes) (verdict : Verdict)
+    (held : Held) : Type 0 where
+  pub key : List ℕ
+  pub text : List ℕ
+  pub signed : List ℕ
+  pub key_is : answer_in held.files public ≡ Ok key
+  pub text_is : answer_in held.files message ≡ Ok text
+  pub signed_is : answer_in held.files signature ≡ Ok signed
+  pub right : IsRightFor verdict key text signed
+
+-- of a world in memory, `verify` at status 0 or 1 judges its files, and changes nothing
+abbrev pub JudgesInMemory : Type 0
+JudgesInMemory = (public message signature : Bytes) (verdict : Verdict)
+    (before printed : List ℕ) (old new : Held) (earlier now : WorldCalls)
+    → LogsVerify public message signature verdict before printed earlier now
+    → Follows (Some old) earlier (Some new) now
+    → Judges public message signature verdict old × (new ≡ old)
+
+-- a read of the name fails
+abbrev pub IsUnreadable : Bytes → Held → Type 0
+IsUnreadable name held = answer_in held.files name ≡ Err Device
+
+-- why no verdict is printed
+abbrev pub FailsToJudge : Bytes → Bytes → Bytes → List ℕ → List ℕ → Fault → Held → Type 0
+FailsToJudge public message signature before printed fault held =
+    (fault ≡ OutOfMemory)
+    ⊎ (((fault ≡ ReadInput)
+    × (IsUnreadable public held ⊎ (IsUnreadable message held ⊎ IsUnreadable signature held)))
+    ⊎ ((fault ≡ WriteOutput) × ((verdict : Verdict) × Judges public message signature verdict held
+    × AppendsFront (Some before) (Some printed) (line_of verdict))))
+
+-- of a world in memory, this is why `verify` fails, and changes nothing
+abbrev pub FailsToJudgeInMemory : Type 0
+FailsToJudgeInMemory = (public message signature : Bytes) (before printed : List ℕ) (fault : Fault)
+    (old new : Held) (earlier now : WorldCalls)
+    → LogsVerifyFailed public message signature before printed fault earlier now
+    → Follows (Some old) earlier (Some new) now
+    → FailsToJudge public message signature before printed fault old × (new ≡ old)

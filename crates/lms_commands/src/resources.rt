@@ -1,0 +1,11 @@
+//! What a command needs beside its world.
+use std::alloc::Global;
+
+/// Where threads are started, where memory is taken, and who is told how many leaves of trees are
+/// computed, as trees may take hours where they are tall.
+#[derive(Drop)]
+pub struct Resources<'a, T, P> {
+    pub rt: &'a T,
+    pub alloc: Global,
+    pub progress: &'a P,
+}

@@ -1,0 +1,108 @@
+//! What a world in memory holds after calls, against a model that replays them.
+use lms_book::StateStore;
+use lms_world::{MemoryLock, MemoryWorld, World, WorldFault};
+use std::alloc::Global;
+use std::test::Fail;
+
+/// A round of calls: a file is written, the state replaced, and nodes are kept.
+struct Round {
+    name: &'static str,
+    file: &'static [u8],
+    state: &'static [u8],
+    nodes: &'static [u8],
+}
+
+/// Rounds in which names come again, and bytes are none.
+const ROUNDS: [Round; 4] = [
+    Round {
+        name: "first",
+        file: b"one",
+        state: b"a state",
+        nodes: b"nodes",
+    },
+    Round {
+        name: "second",
+        file: b"two",
+        state: b"",
+        nodes: b"",
+    },
+    Round {
+        name: "first",
+        file: b"",
+        state: b"another state",
+        nodes: b"other nodes",
+    },
+    Round {
+        name: "second",
+        file: b"three",
+        state: b"the last state",
+        nodes: b"the last nodes",
+    },
+];
+
+/// What the file of a name holds after so many rounds.
+fn file_after(rounds: &[Round], name: &str) -> Option<&'static [u8]> {
+    rounds
+        .iter()
+        .rev()
+        .find(|round| round.name == name)
+        .map(|round| round.file)
+}
+
+/// Makes the calls that change nothing, and hence let those after them be done.
+fn look(alloc: Global, world: &mut MemoryWorld, lock: &MemoryLock, round: &Round) {
+    let _ = world.read(alloc, round.name);
+    let _ = world.open(alloc, round.name);
+    let _ = world.exists(lock);
+    let _ = world.read_nodes(alloc, lock, usize::MAX);
+}
+
+/// Makes the calls of a round. The file of the name `broken` can't be written meanwhile.
+fn play(alloc: Global, world: &mut MemoryWorld, round: &Round) -> Result<bool, Fail> {
+    world.write(round.name, round.file)?;
+    let refused = world.write("broken", round.file).is_err();
+    let Some(lock) = world.lock(alloc, "state")? else {
+        return Ok(false);
+    };
+    look(alloc, world, &lock, round);
+    let mut store = world.take_store(alloc, &lock)?;
+    let replaced = store.replace(round.state).is_ok();
+    world.put_back(&lock, store);
+    let kept = world.write_nodes(alloc, &lock, round.nodes).is_ok();
+    world.unlock(lock);
+    Ok(refused && replaced && kept)
+}
+
+/// Whether the file of a name can be read, and holds these bytes, or can't where there are none.
+fn has_file(alloc: Global, world: &mut MemoryWorld, name: &str, bytes: Option<&[u8]>) -> bool {
+    match (world.read(alloc, name), bytes) {
+        (Ok(found), Some(bytes)) => found.as_slice() == bytes,
+        (Err(_), None) => true,
+        _ => false,
+    }
+}
+
+/// Whether the state and the nodes are those of a round.
+fn has_state(world: &MemoryWorld, round: &Round) -> bool {
+    let state = world.state().and_then(|store| store.text());
+    state == Some(round.state) && world.nodes() == Some(round.nodes)
+}
+
+/// Whether a world holds what these rounds, of which this is the last, left.
+fn is_after(alloc: Global, world: &mut MemoryWorld, rounds: &[Round], last: &Round) -> bool {
+    has_file(alloc, world, "first", file_after(rounds, "first"))
+        && has_file(alloc, world, "second", file_after(rounds, "second"))
+        && has_file(alloc, world, "broken", None)
+        && has_state(world, last)
+}
+
+#[test]
+fn a_world_ends_as_its_calls_say(rt: HostRuntime) -> Result<(), Fail> {
+    let mut world = MemoryWorld::new(rt.alloc());
+    world.fail("broken", WorldFault::Device)?;
+    for (at, round) in ROUNDS.iter().enumerate() {
+        assert!(rt; play(rt.alloc(), &mut world, round)?);
+        assert!(rt; is_after(rt.alloc(), &mut world, &ROUNDS[..=at], round));
+    }
+    Ok(())
+}
