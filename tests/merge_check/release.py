@@ -77,7 +77,7 @@ def copy_sources(folder):
     """A folder with all that `release` reads, and nothing else."""
     for part in ("src", "specs", "proofs"):
         os.makedirs(f"{folder}/crates/lms_c/{part}", exist_ok=True)
-    for name in ("docs", "include", "examples/c"):
+    for name in ("docs", "include", "examples/c", "portable"):
         shutil.copytree(TOP / name, f"{folder}/{name}")
     plain = [it.relative_to(TOP) for it in (TOP / "examples").glob("*.*")]
     for name in ("release", "VERSION", "README.md", "crates.txt", *plain, *OUTPUTS):
@@ -180,7 +180,7 @@ def launches(package):
 
 def compiles(package, library):
     """examples/c/verify.c, with header and library of a package, and with the flags that its
-    pkg-config file says."""
+    pkg-config file says; and with the portable file in place of the library."""
     package = os.path.abspath(package)
     examples = f"{package}/share/doc/lms-tool/examples"
     flags = [f"-I{package}/include", f"{package}/{library}/liblms_c.a"]
@@ -188,7 +188,10 @@ def compiles(package, library):
         named = {**os.environ, "PKG_CONFIG_PATH": f"{package}/{library}/pkgconfig"}
         flags = said_by("pkg-config", "--cflags", "--libs", "lms", env=named).split()
     said_by("cc", "-O2", f"{examples}/verify.c", "-o", "verify", *flags)
-    prints("valid", said_by("./verify", *(f"{examples}/{name}" for name in ("release.pub", "firmware.bin", "firmware.sig"))))
+    files = [f"{examples}/{name}" for name in ("release.pub", "firmware.bin", "firmware.sig")]
+    prints("valid", said_by("./verify", *files))
+    said_by("cc", "-O2", f"-I{package}/include", f"{examples}/verify.c", f"{package}/share/lms-tool/lms_verify.c", "-o", "verify")
+    prints("valid", said_by("./verify", *files))
 
 
 def manual_shows(package, command):

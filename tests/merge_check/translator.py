@@ -1,0 +1,65 @@
+"""The translator of portable/: each instruction that it knows, alone and among others, against node's
+own WebAssembly, on numbers at the edges; and modules that it has to refuse, each with what it says."""
+
+from tests.harness import Skipped, Wrong, checks, holds
+from tests.merge_check import wasm_functions
+from tests.merge_check.refused_modules import REFUSED, refused_instructions
+from tests.merge_check.small_functions import all_functions, cases_of, module_of, seen_instructions
+from tests.merge_check.wasm_builder import KNOWN
+from tests.merge_check.wasm_functions import TOP, build, compare, has_node, links, wasm_module, wasm_to_c
+
+TEMPLATE = (TOP / "portable/lms_verify.c.in").read_text(encoding="utf-8")
+OTHER_END = 0x20000
+UNDEFINED = ["-fsanitize=undefined", "-fno-sanitize-recover=all"]
+
+
+def translated(functions):
+    """The module of these functions, and the C file of it."""
+    module = module_of(functions, wasm_functions.STACK_END)
+    return module, wasm_to_c.c_file(module, module_of(functions, OTHER_END), TEMPLATE)
+
+
+def knows_all(functions):
+    """Each instruction that is translated is in one of the functions."""
+    missing = set(KNOWN) - seen_instructions(functions)
+    holds(not missing, f"no function has {' '.join(sorted(missing))}")
+
+
+def is_as_in_node(functions):
+    """All functions answer and leave in C what they do in node."""
+    if not has_node():
+        raise Skipped("there is no node")
+    build(*translated(functions), *(UNDEFINED if links(*UNDEFINED) else []))
+    cases = cases_of(functions)
+    traps = compare(cases)
+    print(f"{len(functions)} functions, {len(cases)} calls, {traps} of them traps", flush=True)
+
+
+@checks
+def instructions(counter):
+    functions = all_functions()
+    counter.check("each instruction is tried", knows_all, functions)
+    counter.check("all are as in node", is_as_in_node, functions)
+
+
+def is_refused(modules, says):
+    """The translator refuses these modules, the same with two sizes of stack, and says so."""
+    try:
+        wasm_to_c.c_file(*modules, TEMPLATE)
+    except wasm_module.Refused as why:
+        holds(says in str(why), f"it says: {why}")
+    else:
+        raise Wrong("it is translated")
+
+
+def instructions_are_refused():
+    """No other instruction is translated."""
+    for name, modules in refused_instructions():
+        is_refused(modules, f"the instruction {name}, which no module of ours has")
+
+
+@checks
+def refusals(counter):
+    for name, modules, says in REFUSED:
+        counter.check(name, is_refused, modules, says)
+    counter.check("all other instructions", instructions_are_refused)
