@@ -5,6 +5,7 @@ import os
 import pathlib
 import shutil
 import signal
+import subprocess
 import sys
 import tempfile
 
@@ -28,6 +29,14 @@ def holds(is_so, what):
     """Fails the check where this is not so."""
     if not is_so:
         raise Wrong(what)
+
+
+def said_by(*words, **how):
+    """What a command prints, which must end well."""
+    how = {"stdin": subprocess.DEVNULL, "stdout": subprocess.PIPE, "stderr": subprocess.PIPE, "text": True, "errors": "replace", **how}
+    ran = subprocess.run(words, check=False, **how)
+    holds(ran.returncode == 0, f"{words[0]} ended with {ran.returncode}\n{ran.stdout[-2000:]}{(ran.stderr or '')[-2000:]}")
+    return ran.stdout
 
 
 def add_test(name, call, *arguments):

@@ -4,10 +4,9 @@ cycles."""
 
 import re
 
-from tests.harness import holds, test
+from tests.harness import holds, said_by, test
 from tests.merge_check.portable_targets import BOARDS
 from tests.merge_check.portable_vectors import all_vectors, header, some
-from tests.merge_check.wasm_functions import said_by
 from tests.program import put
 
 NAMES = ["example", "5/4", "example of two levels"]

@@ -8,8 +8,9 @@ import re
 import shutil
 import subprocess
 
+from tests import harness
 from tests.harness import TOP, Wrong, checks, holds
-from tests.merge_check.crates import libraries_of, take_left
+from tests.merge_check.crates import KIT, libraries_of, take_left
 from tests.program import PROGRAM, keygen, put, read, sign, verify
 
 EXAMPLES = TOP / "examples"
@@ -27,11 +28,8 @@ MOST_STACK = 4096
 
 
 def said_by(*words, **how):
-    """What a command prints, which must end well."""
-    both = {"stdin": subprocess.DEVNULL, "stdout": subprocess.PIPE, "stderr": subprocess.STDOUT, "text": True, "errors": "replace"}
-    ran = subprocess.run(words, check=False, **both, **how)
-    holds(ran.returncode == 0, f"{words[0]} ended with {ran.returncode}\n{ran.stdout}")
-    return ran.stdout
+    """What a command prints to its two streams, which must end well."""
+    return harness.said_by(*words, stderr=subprocess.STDOUT, **how)
 
 
 def gives(verdict, *words):
@@ -274,8 +272,7 @@ def judges_aarch64(counter):
 
 def links_wasm():
     """Links the library for browsers, into a module that asks for nothing."""
-    kit = pathlib.Path(shutil.which("rt")).resolve().parent.parent
-    said_by(kit / "bin/rattle-link", "--target", "wasm64-unknown-unknown", "--toolchain", kit / "toolchain", "-o", "lms.wasm", "wasm.a")
+    said_by(KIT / "bin/rattle-link", "--target", "wasm64-unknown-unknown", "--toolchain", KIT / "toolchain", "-o", "lms.wasm", "wasm.a")
 
 
 def judges_node():

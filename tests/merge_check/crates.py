@@ -59,9 +59,9 @@ def are_left(names):
 
 def take_left(names):
     """Has `rt lib` take the libraries of these crates, and of all below them, where `rt ci` has left
-    them: that gives them no stamp, by which `rt lib` knows what is built."""
-    if not names or not are_left(names):
-        return
+    them: that gives them no stamp, by which `rt lib` knows what is built. Whether they are left."""
+    if not are_left(names):
+        return False
     loader = importlib.machinery.SourceFileLoader("rtlib", str(KIT / "bin/rtlib.py"))
     sys.modules["rtlib"] = rtlib = importlib.util.module_from_spec(importlib.util.spec_from_loader("rtlib", loader))
     loader.exec_module(rtlib)
@@ -69,6 +69,7 @@ def take_left(names):
         stamp = library(crate.name).parent / "stamp"
         if crate.name in names and not stamp.exists():
             stamp.write_text(crate.stamp(), encoding="utf-8")
+    return True
 
 
 @functools.lru_cache(maxsize=None)

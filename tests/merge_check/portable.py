@@ -3,15 +3,15 @@ there is a compiler and an emulator for here, and that its functions do what tho
 `-- 20000` tries so many changes of signatures on this computer, in place of 200."""
 
 import os
-import pathlib
 import re
 import shutil
 
-from tests.harness import ARGUMENTS, TOP, Skipped, checks, holds
+from tests.harness import ARGUMENTS, TOP, Skipped, checks, holds, said_by
 from tests.merge_check import verifier_functions
+from tests.merge_check.crates import KIT
 from tests.merge_check.portable_targets import AT_ZERO, BOARDS, FILE, FOLDER, HERE, HOSTED, INCLUDES, MODES, STRICT, Target
 from tests.merge_check.portable_vectors import all_changes, all_vectors, header, some
-from tests.merge_check.wasm_functions import build, compare, has_node, links, said_by, wasm_module
+from tests.merge_check.wasm_functions import build, compare, has_node, links, wasm_module
 from tests.program import put, read
 
 TARGET = "wasm64-unknown-unknown"
@@ -207,8 +207,7 @@ def build_module():
     shutil.copy2(LIBRARY, "kept.a")
     try:
         said_by("rt", "lib", "--target", TARGET, cwd=LIBRARY.parent.parent)
-        kit = pathlib.Path(shutil.which("rt")).resolve().parent.parent
-        said_by(kit / "bin/rattle-link", "--target", TARGET, "--toolchain", kit / "toolchain", "-o", "lms.wasm", LIBRARY)
+        said_by(KIT / "bin/rattle-link", "--target", TARGET, "--toolchain", KIT / "toolchain", "-o", "lms.wasm", LIBRARY)
     finally:
         shutil.move("kept.a", LIBRARY)
 

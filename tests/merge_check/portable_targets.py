@@ -3,8 +3,8 @@
 import shutil
 import subprocess
 
-from tests.harness import TOP, Skipped, holds
-from tests.merge_check.wasm_functions import FOLDER, INCLUDES, STRICT, said_by
+from tests.harness import TOP, Skipped, holds, said_by
+from tests.merge_check.wasm_functions import FOLDER, INCLUDES, STRICT
 
 FILE = TOP / "portable/lms_verify.c"
 # How the file is compiled, by what has to be defined for it.

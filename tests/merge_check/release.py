@@ -7,11 +7,10 @@ import pathlib
 import re
 import shutil
 import stat
-import subprocess
 import tarfile
 import time
 
-from tests.harness import TOP, Skipped, checks, holds
+from tests.harness import TOP, Skipped, checks, holds, said_by
 from tests.program import job_lines, keygen, put, sign, verify
 
 VERSION = (TOP / "VERSION").read_text(encoding="utf-8").strip()
@@ -53,14 +52,6 @@ def skip_where_something_is_missing():
             raise Skipped(f"{output} is not built")
         if (TOP / output).stat().st_mtime_ns < newest:
             raise Skipped(f"{output} is older than a source")
-
-
-def said_by(*words, **how):
-    """What a command prints, which must end well."""
-    how = {"input": "", "stdout": subprocess.PIPE, "stderr": subprocess.PIPE, "text": True, "errors": "replace", **how}
-    ran = subprocess.run(words, check=False, **how)
-    holds(ran.returncode == 0, f"{words[0]} ended with {ran.returncode}\n{ran.stdout}{ran.stderr}")
-    return ran.stdout
 
 
 def alone(*words, **how):

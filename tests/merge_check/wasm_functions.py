@@ -6,7 +6,7 @@ import shutil
 import subprocess
 import sys
 
-from tests.harness import TOP, Wrong, holds
+from tests.harness import TOP, Wrong, holds, said_by
 from tests.merge_check.wasm_builder import all_exported
 from tests.program import put
 
@@ -36,14 +36,6 @@ class Case:
         words += [f"{sizes[valtype]}:{value}" for valtype, value in self.arguments]
         words += [word for at, contents in self.places if contents for word in (at, contents.hex())]
         return " ".join(map(str, words))
-
-
-def said_by(*words, **how):
-    """What a command prints, which must end well."""
-    how = {"stdin": subprocess.DEVNULL, **how}
-    ran = subprocess.run(words, stdout=subprocess.PIPE, stderr=subprocess.PIPE, text=True, errors="replace", check=False, **how)
-    holds(ran.returncode == 0, f"{words[0]} ended with {ran.returncode}\n{ran.stdout[-2000:]}{ran.stderr[-2000:]}")
-    return ran.stdout
 
 
 def node():

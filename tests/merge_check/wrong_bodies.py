@@ -279,7 +279,8 @@ def make_libraries(crates):
     """Has `rt lib` make the libraries below these crates, where they are neither left nor made
     yet."""
     needed = {low for it in crates for low in libraries_of(it.name)}
-    take_left(needed)
+    if not needed or take_left(needed):
+        return
     for name in sorted(needed, key=lambda it: len(libraries_of(it))):
         ran = run("rt", "lib", cwd=TOP / "crates" / name)
         if ran.returncode:
