@@ -51,7 +51,7 @@ module _ (fault : Fault) (old new : Held) where
   keygen_files key public (inr (inl (at, free, there, same))) = λ name other. at_name name _ _ (files_of same)
   keygen_files key public (inr (inr (inl (at, free, none, same)))) = λ name other. at_name name _ _ (files_of same)
   keygen_files key public (inr (inr (inr (inl (at, may))))) = λ name other. at_name name _ _ may.files
-  keygen_files key public (inr (inr (inr (inr (made, inl (refused, same)))))) = λ name other. at_name name _ _ same
+  keygen_files key public (inr (inr (inr (inr (made, inl (refused, why, same)))))) = λ name other. at_name name _ _ same
   keygen_files key public (inr (inr (inr (inr (made, inr (at, published)))))) = published.others
 
   none_signed : (n : ℕ) → SignsNone n fault old new → Unwritten old new

@@ -161,7 +161,7 @@ silent_at : (words : List Text) (end : Status) (input rest : Option (List ℕ)) 
     (errors_before errors_after : Option (List ℕ)) (old new : WorldCalls)
     → LogsRun words end input rest before printed errors_before errors_after old new
     → 2 ≤ status_number end → status_number end < 6 → printed ≡ before
-silent_at words end input rest before printed eb ea old new (inl (inl (_, inl (_, is)))) high below =
+silent_at words end input rest before printed eb ea old new (inl (inl (_, inl (_, is, _)))) high below =
     absurd (too_low end Done is (omega arith) high)
 silent_at words end input rest before printed eb ea old new (inl (inl (_, inr (_, _, same)))) high below = same
 silent_at words end input rest before printed eb ea old new (inl (inr (command, _, is))) high below =

@@ -34,7 +34,7 @@ module _ (fault : Fault) (other : fault ≢ WriteOutput) (old new : Held) where
   keygen_files key public (inr (inl (at, free, there, same))) = files_of same
   keygen_files key public (inr (inr (inl (at, free, none, same)))) = files_of same
   keygen_files key public (inr (inr (inr (inl (at, may))))) = may.files
-  keygen_files key public (inr (inr (inr (inr (made, inl (refused, same)))))) = same
+  keygen_files key public (inr (inr (inr (inr (made, inl (refused, why, same)))))) = same
   keygen_files key public (inr (inr (inr (inr (made, inr (at, published)))))) = absurd (other at)
 
   failed : (command : Command) (input rest : Option (List ℕ)) (before printed : List ℕ) (earlier now : WorldCalls)

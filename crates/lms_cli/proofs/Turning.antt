@@ -1,7 +1,7 @@
 -- Each run of the program is a turn at its state, and no index leaves two.
 use Rattle.std.proofs.Common.{◌⊎◌, ◌≡◌, ℕ, List, [], ◌∷◌, Option, ap, refl, inl, inr, subst, sym}
 use Rattle.std.specs.Prelude.{AllPairs}
-use Rattle.lms_commands.specs.Histories.{Held, IsBeginning, IsCarriedAlong, IsEarlier, IsTurn, TakenTurn, Signature, StoresNothing, Turn, all_left, written_in}
+use Rattle.lms_commands.specs.Histories.{StateTexts, IsBeginning, IsCarriedAlong, IsEarlier, IsTurn, TakenTurn, Signature, StoresNothing, Turn, all_left, written_in}
 use Rattle.lms_commands.specs.Logs.{WorldCalls}
 use Rattle.lms_commands.specs.declared.fault.Fault.{Fault}
 use Rattle.lms_commands.specs.declared.status.Status.{Status}
@@ -74,7 +74,7 @@ turns_of : (runs : List ProgramRun) → (turns : List TakenTurn) × TakeTurns ru
 turns_of [] = ([], tt)
 turns_of (run ∷ runs) = let one = turn_of run in let all = turns_of runs in (one.0 ∷ all.0, (one.1, all.1))
 
-history_of : (runs : List ProgramRun) (turns : List TakenTurn) (held : Held) → TakeTurns runs turns → IsCarriedAlong held turns → IsHistory held turns
+history_of : (runs : List ProgramRun) (turns : List TakenTurn) (held : StateTexts) → TakeTurns runs turns → IsCarriedAlong held turns → IsHistory held turns
 history_of [] [] held take carried = tt
 history_of [] (turn ∷ turns) held take carried = absurd take
 history_of (run ∷ runs) [] held take carried = absurd take
@@ -85,6 +85,6 @@ history_of (run ∷ runs) (turn ∷ turns) held (one, all) (left, carried, later
 )
 
 pub no_index_leaves : (runs : List ProgramRun)
-    → (turns : List TakenTurn) × TakeTurns runs turns × ((held : Held) → IsCarriedAlong held turns → AllPairs IsEarlier (all_left turns))
+    → (turns : List TakenTurn) × TakeTurns runs turns × ((held : StateTexts) → IsCarriedAlong held turns → AllPairs IsEarlier (all_left turns))
 no_index_leaves runs =
     let all = turns_of runs in (all.0, all.1, λ held carried. no_index_twice held all.0 (history_of runs all.0 held all.1 carried))

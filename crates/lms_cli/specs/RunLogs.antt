@@ -1,5 +1,5 @@
 -- The calls that a run of the program makes on its world, one after another, the newest first.
-use Rattle.std.specs.Prelude.{◌≡◌, ◌⊎◌, ℕ, List, Option, string_bytes}
+use Rattle.std.specs.Prelude.{◌≡◌, ◌⊎◌, ◌++◌, ℕ, List, Option, string_bytes}
 use Rattle.clap.specs.Words.{Text}
 use Rattle.lms_hss.specs.declared.key.HssKey.{HssKey as KeyOfCode}
 use Rattle.lms_cli.specs.Commands.{AreTakenAs, AsksForHelp, IsMistaken}
@@ -58,13 +58,13 @@ LogsFailed (Verify public message signature) fault input rest before printed old
     LogsVerifyFailed (string_bytes public) (string_bytes message)
     (string_bytes signature) before printed fault old new
 
--- a command that the arguments ask for is done; or they ask for help or are mistaken, and nothing
--- is called
+-- a command that the arguments ask for is done; or they ask for help, which is printed, or are
+-- mistaken, and nothing is called
 abbrev pub LogsAnswered : List Text → Status → Option (List ℕ) → Option (List ℕ) → List ℕ → List ℕ
     → WorldCalls → WorldCalls → Type 0
 LogsAnswered words end input rest before printed old new =
     ((new ≡ old)
-    × ((AsksForHelp words × (end ≡ Done))
+    × ((AsksForHelp words × (end ≡ Done) × ((text : List ℕ) × (printed ≡ before ++ text)))
     ⊎ (IsMistaken words × (end ≡ Usage) × (printed ≡ before))))
     ⊎ ((command : Command) × AreTakenAs words command
     × LogsObeyed command end input rest before printed old new)

@@ -1,7 +1,7 @@
 -- Runs of the program at one state, one after another, each perhaps cut off by a crash.
 use Rattle.std.specs.Prelude.{◌≡◌, ◌⊎◌, ℕ, List, [], ◌∷◌, AllPairs, Option}
 use Rattle.clap.specs.Words.{Text}
-use Rattle.lms_commands.specs.Histories.{AreDelivered, ArePrinted, HandsKey, HandsNothing, HandsState, HandsVerdict, Held, IsBeginning, IsCarriedAlong, IsEarlier, IsTurn, TakenTurn, Signature, all_left}
+use Rattle.lms_commands.specs.Histories.{AreDelivered, ArePrinted, HandsKey, HandsNothing, HandsState, HandsVerdict, StateTexts, IsBeginning, IsCarriedAlong, IsEarlier, IsTurn, TakenTurn, Signature, all_left}
 use Rattle.lms_commands.specs.Logs.{WorldCalls}
 use Rattle.lms_commands.specs.declared.status.Status.{Status}
 use Rattle.lms_cli.specs.Commands.{AreTakenAs, AsksForHelp}
@@ -66,4 +66,4 @@ TakeTurns (run ∷ runs) [] = ⊥
 abbrev pub NoIndexLeavesTwice : Type 0
 NoIndexLeavesTwice = (runs : List ProgramRun)
     → (turns : List TakenTurn) × TakeTurns runs turns
-    × ((held : Held) → IsCarriedAlong held turns → AllPairs IsEarlier (all_left turns))
+    × ((held : StateTexts) → IsCarriedAlong held turns → AllPairs IsEarlier (all_left turns))

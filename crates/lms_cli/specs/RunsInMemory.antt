@@ -8,7 +8,7 @@ use Rattle.lms_world.specs.Held.{Follows, Held, answer_in}
 use Rattle.lms_cli.specs.Commands.{AreTakenAs}
 use Rattle.lms_cli.specs.RunLogs.{LogsRun}
 use Rattle.lms_cli.specs.declared.command.types.Command.{Command}
-use Rattle.lms_cli.specs.declared.command.types.Command.TheVariants.{Batch, Info, Keygen, Sign, Verify}
+use Rattle.lms_cli.specs.declared.command.types.Command.TheVariants.{Info, Keygen, Sign, Verify}
 
 -- of a world in memory, at statuses 2 to 5 no file is changed
 abbrev pub FilesStay : Type 0

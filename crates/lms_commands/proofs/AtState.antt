@@ -25,7 +25,7 @@ pub not_locked : (fault : Fault) (state : Bytes) (before now : WorldCalls) (old 
     → FailsToLock fault old new
 not_locked fault state before now old new refused calls follows =
     let is = told old new (record { calls = Locked state (lock_answer fault) ∷ []; are = calls }) follows in
-    let same = same_held old new is.files is.state is.may_fail is.in_use is.nodes in
+    let same = same_held old new is.files is.state is.may_fail is.in_use is.nodes is.nodes_fault in
     lock_refused fault state [] old new refused is.tell.1 same
 
 -- calls that change nothing

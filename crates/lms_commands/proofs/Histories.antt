@@ -11,7 +11,7 @@ use Rattle.lms_hss.specs.Keys.{hss_key_of}
 use Rattle.lms_hss.specs.declared.key.HssKey.{HssKey as KeyOfCode}
 use Rattle.lms_book.proofs.Overlap.{pairs_cons}
 use Rattle.lms_world.specs.Events.{Event}
-use Rattle.lms_commands.specs.Histories.{AreInOrder, Does, FindsHeld, Held, IsBeginning, IsEarlier, IsCarried, IsOnly, IsStored, IsTurn, StoresNothing, Makes, Moves, TakenTurn, Signature, Signs, Turn, Uses, UsesIndices, all_left, hands_out, image_by, is_of_store, left_in, store_calls}
+use Rattle.lms_commands.specs.Histories.{AreInOrder, IsDoneBy, FindsText, StateTexts, IsBeginning, IsEarlier, IsCarried, IsOnly, IsStored, IsTurn, StoresNothing, Makes, Moves, TakenTurn, Signature, Signs, Turn, Uses, CountsIndices, all_left, hands_out, image_by, is_of_store, left_in, store_calls}
 use Rattle.lms_commands.specs.Logs.{KeyState, WorldCalls, image_using}
 
 -- ---- what was handed out comes after all that was done with the state
@@ -79,7 +79,7 @@ same_counts one held state text held_is has image counts =
     record { key = same.0; used = omega (arith, counts.used, same.1) }
 
 -- the image that a turn stores counts what it uses, and all that was used before
-counts_used : (one : Signature) (count : ℕ) (state : KeyState) (text : List ℕ) (calls : WorldCalls) → UsesIndices count state text calls → one.key ≡ state.key
+counts_used : (one : Signature) (count : ℕ) (state : KeyState) (text : List ℕ) (calls : WorldCalls) → CountsIndices count state text calls → one.key ≡ state.key
     → one.index < state.index + count → Counts one (Some (image_using count state))
 counts_used one count state text calls uses of_key below = record {
   text = image_using count state;
@@ -94,14 +94,14 @@ counts_used one count state text calls uses of_key below = record {
 }
 
 -- all that may be stored counts it
-abbrev AllCount : Signature → Held → Type 0
+abbrev AllCount : Signature → StateTexts → Type 0
 AllCount one held = (text : Option (List ℕ)) → Contains held text → Counts one text
 
 counts_some : (one : Signature) → Counts one None → ⊥
 counts_some one counts = cc counts.held_is
 
 -- what was counted stays so where an image is stored
-stays_stored : (one : Signature) (turn : Turn) (first : WorldCalls) (held : Held) (image : List ℕ) → Does turn first → FindsHeld turn held → image_by turn ≡ Some image
+stays_stored : (one : Signature) (turn : Turn) (first : WorldCalls) (held : StateTexts) (image : List ℕ) → IsDoneBy turn first → FindsText turn held → image_by turn ≡ Some image
     → AllCount one held → Counts one (Some image)
 stays_stored one StoresNothing first held image does found is counts = absurd (cc is)
 stays_stored one (Makes key) first held image does found is counts = absurd (counts_some one (counts None found))
@@ -110,7 +110,7 @@ stays_stored one (Uses count state text) first held image does found is counts =
     (subst (λ (t : List ℕ). IsImage t state.key state.index state.openings state.burnt) does.text_is does.read.image) (counts (Some text) found) in
     subst (λ (h : Option (List ℕ)). Counts one h) is (counts_used one count state text first does same.key (omega (arith, same.used)))
 
-stays_counted : (one : Signature) (run : TakenTurn) (held left : Held) → IsTurn run.turn run.signatures run.whole → IsCarried run held left → AllCount one held → AllCount one left
+stays_counted : (one : Signature) (run : TakenTurn) (held left : StateTexts) → IsTurn run.turn run.signatures run.whole → IsCarried run held left → AllCount one held → AllCount one left
 stays_counted one run held left turn (inl none) counts = subst (AllCount one) (sym none.1) counts
 stays_counted one run held left turn (inr moves) counts = λ text there.
     ⊎_elim (counts text)
@@ -134,7 +134,7 @@ in_order key start end [] is = λ i j d lt long. absurd (omega arith)
 in_order key start end (next ∷ later) (made, of_key, from, below, rest) =
     pairs_cons IsEarlier next later (from_start key (next.index + 1) end later next (λ same. omega arith) rest) (in_order key (next.index + 1) end later rest)
 
-each_counted : (count : ℕ) (state : KeyState) (text : List ℕ) (calls : WorldCalls) (left : Held) → UsesIndices count state text calls
+each_counted : (count : ℕ) (state : KeyState) (text : List ℕ) (calls : WorldCalls) (left : StateTexts) → CountsIndices count state text calls
     → IsOnly (image_using count state) left → (start : ℕ) (signatures : List Signature) → AreInOrder state.key start (state.index + count) signatures
     → AllByRecursion (λ one. AllCount one left) signatures
 each_counted count state text calls left uses only start [] is = tt
@@ -145,22 +145,22 @@ each_counted count state text calls left uses only start (one ∷ later) (made, 
 
 -- what one run leaves: in order, each counted by what is stored then, and after what was counted by
 -- what was stored before
-record IsLeftInOrder (held left : Held) (signatures : List Signature) : Type 0 where
+record IsLeftInOrder (held left : StateTexts) (signatures : List Signature) : Type 0 where
   pairs : AllPairs IsEarlier signatures
   counted : AllByRecursion (λ one. AllCount one left) signatures
   behind : (one : Signature) → AllCount one held → AllByRecursion (IsEarlier one) signatures
 
-none_left : (held left : Held) → IsLeftInOrder held left []
+none_left : (held left : StateTexts) → IsLeftInOrder held left []
 none_left held left = record { pairs = λ i j d lt long. absurd (omega arith); counted = tt; behind = λ one counts. tt }
 
 -- after all that was done with the state, an image that was stored for certain is what is stored
-is_certain : (run : TakenTurn) (held left : Held) (turn : IsTurn run.turn run.signatures run.whole) → IsBeginning run.begun run.whole → IsCarried run held left
+is_certain : (run : TakenTurn) (held left : StateTexts) (turn : IsTurn run.turn run.signatures run.whole) → IsBeginning run.begun run.whole → IsCarried run held left
     → list_any hands_out run.begun ≡ true → (image : List ℕ) → IsStored image turn.first → Moves run held left × IsOnly image left
 is_certain run held left turn (rest, begins) kept some image (before, earlier, last) =
     let all = all_done rest turn.later turn.first run.begun (sym turn.calls ∙ begins) turn.nothing_leaves turn.nothing_stored some in
     ⊎_elim (λ none. absurd (cc (sym none.0 ∙ (all ∙ last)))) (λ moves. (moves, moves.certain image (before, earlier, all ∙ last))) kept
 
-leaves_in_order : (run : TakenTurn) (held left : Held) (turn : IsTurn run.turn run.signatures run.whole) → IsBeginning run.begun run.whole → IsCarried run held left
+leaves_in_order : (run : TakenTurn) (held left : StateTexts) (turn : IsTurn run.turn run.signatures run.whole) → IsBeginning run.begun run.whole → IsCarried run held left
     → list_any hands_out run.begun ≡ true → IsLeftInOrder held left run.signatures
 leaves_in_order run held left turn begins kept some = by_turn run.turn refl
   where
@@ -171,11 +171,11 @@ leaves_in_order run held left turn begins kept some = by_turn run.turn refl
     by_turn StoresNothing same = nothing (subst (λ (t : Turn). Signs t run.signatures turn.first) same turn.signs)
     by_turn (Makes key) same = nothing (subst (λ (t : Turn). Signs t run.signatures turn.first) same turn.signs)
     by_turn (Uses count state text) same =
-        let does = subst (λ (t : Turn). Does t turn.first) same turn.does in
+        let does = subst (λ (t : Turn). IsDoneBy t turn.first) same turn.does in
         let signs = subst (λ (t : Turn). Signs t run.signatures turn.first) same turn.signs in
         ⊎_elim nothing
         (λ stored. let certain = is_certain run held left turn begins kept some (image_using count state) stored in
-        let found : FindsHeld (Uses count state text) held = subst (λ (t : Turn). FindsHeld t held) same certain.0.found in
+        let found : FindsText (Uses count state text) held = subst (λ (t : Turn). FindsText t held) same certain.0.found in
         record {
           pairs = in_order state.key state.index (state.index + count) run.signatures signs.0;
           counted = each_counted count state text turn.first left does certain.1 state.index run.signatures signs.0;
@@ -186,7 +186,7 @@ leaves_in_order run held left turn begins kept some = by_turn run.turn refl
         })
         signs.1
 
-one_run : (run : TakenTurn) (held left : Held) → IsTurn run.turn run.signatures run.whole → IsBeginning run.begun run.whole → IsCarried run held left
+one_run : (run : TakenTurn) (held left : StateTexts) → IsTurn run.turn run.signatures run.whole → IsBeginning run.begun run.whole → IsCarried run held left
     → IsLeftInOrder held left (left_in run)
 one_run run held left turn begins kept = by_test (list_any hands_out run.begun) refl
   where
@@ -197,10 +197,10 @@ one_run run held left turn begins kept = by_test (list_any hands_out run.begun) 
 -- ---- all runs
 
 -- runs one after another, each a turn, carry along what is stored
-abbrev pub IsHistory : Held → List TakenTurn → Type 0
+abbrev pub IsHistory : StateTexts → List TakenTurn → Type 0
 IsHistory held [] = Unit {0}
 IsHistory held (run ∷ runs) =
-    IsTurn run.turn run.signatures run.whole × IsBeginning run.begun run.whole × ((left : Held) × IsCarried run held left × IsHistory left runs)
+    IsTurn run.turn run.signatures run.whole × IsBeginning run.begun run.whole × ((left : StateTexts) × IsCarried run held left × IsHistory left runs)
 
 both_all : {X : Type 0} (P : X → Type 0) (xs ys : List X) → AllByRecursion P xs → AllByRecursion P ys → AllByRecursion P (xs ++ ys)
 both_all P [] ys first second = second
@@ -221,13 +221,13 @@ both_pairs R Q (x ∷ xs) ys first (here, all) across second =
         behind R x (y ∷ ys) each = (each 0 y (omega arith), behind R x ys (λ j d lt. each (suc j) d (omega arith)))
 
 -- what is counted is earlier than all that leaves later
-later_all : (one : Signature) (held : Held) (runs : List TakenTurn) → IsHistory held runs → AllCount one held → AllByRecursion (IsEarlier one) (all_left runs)
+later_all : (one : Signature) (held : StateTexts) (runs : List TakenTurn) → IsHistory held runs → AllCount one held → AllByRecursion (IsEarlier one) (all_left runs)
 later_all one held [] history counts = tt
 later_all one held (run ∷ runs) (turn, begins, (left, kept, history)) counts =
     both_all (IsEarlier one) (left_in run) (all_left runs) ((one_run run held left turn begins kept).behind one counts)
     (later_all one left runs history (stays_counted one run held left turn kept counts))
 
-pub no_index_twice : (held : Held) (runs : List TakenTurn) → IsHistory held runs → AllPairs IsEarlier (all_left runs)
+pub no_index_twice : (held : StateTexts) (runs : List TakenTurn) → IsHistory held runs → AllPairs IsEarlier (all_left runs)
 no_index_twice held [] history = λ i j d lt long. absurd (omega arith)
 no_index_twice held (run ∷ runs) (turn, begins, (left, kept, history)) =
     let one = one_run run held left turn begins kept in

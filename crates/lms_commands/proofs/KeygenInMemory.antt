@@ -1,25 +1,25 @@
 -- What `keygen` leaves in a world in memory, by its calls.
-use Rattle.std.proofs.Common.{◌≡◌, ◌∙◌, ◌∷◌, [], ◌++◌, ℕ, List, Bool, Option, Some, None, Ok, true, false, ap, subst, sym, inl, inr}
+use Rattle.std.proofs.Common.{◌≡◌, ◌∙◌, ◌∷◌, [], ◌++◌, ℕ, List, Option, Some, None, Ok, true, false, ap, subst, sym, inl, inr}
 use Rattle.lms_spec.specs.Profile.{hss_public_key}
 use Rattle.lms_hss.specs.Keys.{hss_key_of}
 use Rattle.lms_hss.specs.declared.key.HssKey.{HssKey as KeyOfCode}
 use Rattle.lms_image.specs.Image.{image_of}
 use Rattle.lms_book.specs.Stops.{StoreView, FailsToWrite, after_write}
 use Rattle.lms_world.specs.Names.{Bytes}
-use Rattle.lms_world.specs.Events.{Acquired, Asked, Event, Locked, PutBack, Taken, Taking, Unlocked}
+use Rattle.lms_world.specs.Events.{Acquired, Asked, Event, Locked, PutBack, Taken, Taking, Unlocked, Writing}
 use Rattle.lms_world.specs.Held.{Answers, Follows, Held}
 use Rattle.lms_world.specs.Outcomes.{files_after}
 use Rattle.lms_commands.specs.InMemory.{KeepsNodes}
 use Rattle.lms_commands.specs.KeygenInMemory.{FailsToMakeKey, FailsToMakeKeyInMemory, MakesKey, MakesKeyInMemory, MayMakeKey, PublishesIn}
 use Rattle.lms_commands.specs.KeygenLogs.{LogsUnmade, PublishesKey, WritesKey}
-use Rattle.lms_commands.specs.Logs.{PutsBack, WorldCalls}
+use Rattle.lms_commands.specs.Logs.{PutsBack, WorldCalls, write_cause}
 use Rattle.lms_commands.specs.declared.fault.Fault.{Fault}
 use Rattle.lms_commands.proofs.AtState.{left_by, not_locked}
-use Rattle.lms_commands.proofs.Telling.{Adds, KeepsOnly, Told, and_kept, and_then, keeps_only, same_held, told, unlocked, until_printing, written_file}
+use Rattle.lms_commands.proofs.Telling.{Adds, IsRefused, KeepsOnly, Told, and_kept, and_then, keeps_only, same_held, told, unlocked, until_printing, written_file}
 
 -- a key's state is stored, and its public key written to a file, or its write fails
-module _ {key : KeyOfCode} {state public : Bytes} {written : Bool} {earlier last : WorldCalls}
-    (writes : WritesKey key public written (Locked state Acquired ∷ earlier) last) where
+module _ {key : KeyOfCode} {state public : Bytes} {answer : Writing} {earlier last : WorldCalls}
+    (writes : WritesKey key public answer (Locked state Acquired ∷ earlier) last) where
   abbrev first : List Event
   first =
       PutBack (after_write (image_of key 0 0 0) writes.stores.0.view) ∷ Taken (Some writes.stores.0)
@@ -84,24 +84,25 @@ module _ (key : KeyOfCode) (state public : Bytes) {earlier last now : WorldCalls
   unmade before printed fault (inl (same, inl (at, asked))) =
       let found : Adds earlier last = record { calls = Asked true ∷ Locked state Acquired ∷ []; are = asked } in
       let is = told old new (and_then found calls) follows in
-      let stays = same_held old new is.files is.state is.may_fail is.in_use is.nodes in
+      let stays = same_held old new is.files is.state is.may_fail is.in_use is.nodes is.nodes_fault in
       inr (inl (at, is.tell.0.0.1, sym is.tell.0.1, stays))
   unmade before printed fault (inl (same, inr (inl (at, asked)))) =
       let found : Adds earlier last = record { calls = Asked false ∷ Locked state Acquired ∷ []; are = asked } in
       let is = told old new (and_then found calls) follows in
-      let stays = same_held old new is.files is.state is.may_fail is.in_use is.nodes in
+      let stays = same_held old new is.files is.state is.may_fail is.in_use is.nodes is.nodes_fault in
       inr (inr (inl (at, is.tell.0.0.1, sym is.tell.0.1, stays)))
   unmade before printed fault (inl (same, inr (inr (inl (inl (at, untaken)))))) =
       let first = Taken None ∷ Asked false ∷ Locked state Acquired ∷ [] in
       let found : Adds earlier last = record { calls = first; are = untaken } in
       let is = told old new (and_then found calls) follows in
-      let stays = same_held old new is.files is.state is.may_fail is.in_use is.nodes in
+      let stays = same_held old new is.files is.state is.may_fail is.in_use is.nodes is.nodes_fault in
       inr (inr (inl (at, is.tell.0.0.0.1, sym is.tell.0.0.1, stays)))
   unmade before printed fault (inl (same, inr (inr (inl (inr (at, (taken, left, fails, back))))))) =
       inr (inr (inr (inl (at, missed taken left fails back))))
   unmade before printed fault (inl (same, inr (inr (inr (refused, writes))))) =
       let is = unlocked (told old new (and_then (all_calls writes) calls) follows) in
-      inr (inr (inr (inr (makes writes old new is, inl (refused, is.files ∙ no_other writes old)))))
+      let why = subst (λ (files : Answers). IsRefused public (write_cause fault) files) (no_other writes old) is.tell.1 in
+      inr (inr (inr (inr (makes writes old new is, inl (refused, why, is.files ∙ no_other writes old)))))
   unmade before printed fault (inr (at, publishes, line)) =
       let made = published before publishes in inr (inr (inr (inr (made.0, inr (at, made.1)))))
 

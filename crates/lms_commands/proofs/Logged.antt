@@ -1,5 +1,5 @@
 -- What a command logged, by what its steps did.
-use Rattle.std.proofs.Common.{◌≡◌, ◌∙◌, inl, inr, Bool, true, false, sym, ℕ, ◌+◌, ◌-◌, ◌≤◌, List, ◌∷◌, Option, Some, refl, ap, ap₂, subst, arith}
+use Rattle.std.proofs.Common.{◌≡◌, ◌∙◌, inl, inr, Ok, Err, sym, ℕ, ◌+◌, ◌-◌, ◌≤◌, List, ◌∷◌, Option, Some, refl, ap, ap₂, subst, arith}
 use Rattle.lms_image.specs.Image.{HasImage}
 use Rattle.lms_book.specs.declared.fault.OpenFault.{OpenFault}
 use Rattle.lms_book.specs.declared.fault.OpenFault.TheVariants as opening
@@ -9,7 +9,7 @@ use Rattle.lms_book.specs.States.{BookState}
 use Rattle.lms_book.specs.Stops.{StoreView, FailsToWrite, after_write}
 use Rattle.lms_kept.specs.Signed.{IsSignedByText}
 use Rattle.lms_kept.specs.Ways.{Way}
-use Rattle.lms_world.specs.Events.{Event, PutBack, Taken, Taking, Written}
+use Rattle.lms_world.specs.Events.{Event, PutBack, Taken, Taking, Writing, Written}
 use Rattle.lms_world.specs.Names.{Bytes}
 use Rattle.lms_spec.specs.Profile.{hss_public_key}
 use Rattle.lms_hss.specs.Keys.{hss_key_of}
@@ -18,7 +18,7 @@ use Rattle.lms_commands.specs.KeygenLogs.{LogsUnmade, WritesKey, capacity_line}
 use Rattle.lms_commands.specs.declared.fault.Fault.{Fault}
 use Rattle.lms_commands.specs.declared.fault.Fault.TheVariants.{Exhausted, WriteStateBurnt}
 use Rattle.lms_commands.specs.Faults.{of_opening, of_signing}
-use Rattle.lms_commands.specs.Logs.{FailsToPublish, LeavesState, WorldCalls, LogsKeeping, LogsUnopened, LogsUnsigned, OpensState, ReadsState, StoresUse, TriesUse, state_of}
+use Rattle.lms_commands.specs.Logs.{FailsToPublish, LeavesState, WorldCalls, LogsKeeping, LogsUnopened, LogsUnsigned, OpensState, ReadsState, StoresUse, TriesUse, state_of, write_cause}
 use Rattle.lms_commands.specs.SignLogs.{LogsSigned}
 use Rattle.lms_commands.specs.Signing.{GivesOne, SignsNothing}
 use Rattle.lms_commands.specs.declared.sign.NextFault.{NextFault}
@@ -112,10 +112,10 @@ module _ (before after_it : BookState) (view : StoreView) (old opened back : Wor
 
 -- a key's state was stored, and its public key or capacity not published
 pub unmade : (key : KeyOfCode) (public : Bytes) (before printed : List ℕ) (old kept new : WorldCalls)
-    → ((written : Bool) → WritesKey key public written old (Written public (hss_public_key (hss_key_of key)) written ∷ kept)) → (fault : Fault)
+    → ((answer : Writing) → WritesKey key public answer old (Written public (hss_public_key (hss_key_of key)) answer ∷ kept)) → (fault : Fault)
     → FailsToPublish public (hss_public_key (hss_key_of key)) (capacity_line key) before printed fault kept new → LogsUnmade key public before printed fault old new
 unmade key public before printed old kept new writes fault (inl (refused, calls, same)) =
-    let written = subst (λ (log : WorldCalls). WritesKey key public false old log) (sym calls) (writes false) in
+    let written = subst (λ (log : WorldCalls). WritesKey key public (Err (write_cause fault)) old log) (sym calls) (writes (Err (write_cause fault))) in
     inl (same, inr (inr (inr (refused, written))))
 unmade key public before printed old kept new writes fault (inr (at, calls, line)) =
-    inr (at, record { until_written = _; writes = writes true; prints = calls }, line)
+    inr (at, record { until_written = _; writes = writes (Ok tt); prints = calls }, line)

@@ -1,9 +1,9 @@
 -- What `sign` leaves in a world in memory, by its calls.
-use Rattle.std.proofs.Common.{◌≡◌, ◌∙◌, ◌∷◌, [], ◌++◌, ℕ, List, Bool, Option, Some, Ok, Err, ap, refl, subst, sym, inl, inr, ⊎_elim}
+use Rattle.std.proofs.Common.{◌≡◌, ◌∙◌, ◌∷◌, [], ◌++◌, ℕ, List, Option, Some, Ok, Err, ap, refl, subst, sym, inl, inr, ⊎_elim}
 use Rattle.lms_spec.specs.HashLength.{hash_length}
 use Rattle.lms_book.specs.Stops.{after_write}
 use Rattle.lms_world.specs.Names.{Bytes}
-use Rattle.lms_world.specs.Events.{Acquired, Event, Locked, NodesRead, PutBack, Read, Taken}
+use Rattle.lms_world.specs.Events.{Acquired, Event, Locked, NodesRead, PutBack, Read, Taken, Writing}
 use Rattle.lms_world.specs.Held.{Answers, Held}
 use Rattle.lms_world.specs.Outcomes.{files_after}
 use Rattle.lms_commands.specs.InMemory.{KeepsNodes}
@@ -15,8 +15,8 @@ use Rattle.lms_commands.proofs.AtState.{AreStill, lock_refused, unopened, unsign
 use Rattle.lms_commands.proofs.Telling.{Adds, KeepsOnly, Told, and_kept, and_then, keeps_only, nothing_done, read_refused, same_held, told, unlocked, until_printing, was_state, written_file}
 
 -- a signature is written to its file, or its write fails
-module _ {message state out : Bytes} {c text : List ℕ} {written : Bool} {earlier last : WorldCalls}
-    (writes : WritesSignature c text out written (Locked state Acquired ∷ Read message (Ok text) ∷ earlier) last) where
+module _ {message state out : Bytes} {c text : List ℕ} {answer : Writing} {earlier last : WorldCalls}
+    (writes : WritesSignature c text out answer (Locked state Acquired ∷ Read message (Ok text) ∷ earlier) last) where
   abbrev first : List Event
   first =
       PutBack (after_write (image_using 1 writes.signs.state) writes.signs.stores.1)
@@ -80,7 +80,7 @@ fails_to_sign_in_memory random message state out before printed fault old new ea
 fails_to_sign_in_memory random message state out before printed fault old new earlier now
     (inr (inl (refused, calls, same, hex))) follows =
     let is = told old new (record { calls = Read message (Err (read_cause fault)) ∷ []; are = calls }) follows in
-    let stays = same_held old new is.files is.state is.may_fail is.in_use is.nodes in
+    let stays = same_held old new is.files is.state is.may_fail is.in_use is.nodes is.nodes_fault in
     let why = read_refused fault message old.files refused is.tell.1 in (
       inr (hex, ⊎_elim (λ memory. inl (memory, stays)) (λ device. inr (inl (device.0, device.1, stays))) why),
       λ other. is.files,
@@ -89,7 +89,7 @@ fails_to_sign_in_memory random message state out before printed fault old new ea
     (inr (inr (inl (text, refused, calls, same, hex)))) follows =
     let first = Locked state (lock_answer fault) ∷ Read message (Ok text) ∷ [] in
     let is = told old new (record { calls = first; are = calls }) follows in
-    let stays = same_held old new is.files is.state is.may_fail is.in_use is.nodes in
+    let stays = same_held old new is.files is.state is.may_fail is.in_use is.nodes is.nodes_fault in
     let never = lock_refused fault state (Read message (Ok text) ∷ []) old new refused is.tell.1 stays in
     (inr (hex, inr (inr (text, is.tell.0.1, inl never))), λ other. is.files)
 fails_to_sign_in_memory random message state out before printed fault old new earlier now
@@ -107,7 +107,7 @@ fails_to_sign_in_memory random message state out before printed fault old new ea
     (inr (hex, inr (inr (text, is.0.0.0.1, inr (is.0.0.1, inr (inl is.1.1))))), λ other. is.1.0))
     never
 fails_to_sign_in_memory random message state out before printed fault old new earlier now
-    (inr (inr (inr (c, text, last, randomizer, inr (at, inl (writes, same)), calls)))) follows =
+    (inr (inr (inr (c, text, last, randomizer, inr (at, inl (cause, writes, same)), calls)))) follows =
     let is = unlocked (told old new (and_then (all_calls writes) calls) follows) in
     let made = signs writes old new randomizer is in
     let end = inr (inr (at, (made, inl (is.files ∙ no_other writes old)))) in (

@@ -1,6 +1,6 @@
 -- What `sign` and `batch` do with their state, and which signatures leave them, by the calls that
 -- they make.
-use Rattle.std.proofs.Common.{◌≡◌, ◌∙◌, ℕ, ◌+◌, ◌≤◌, Bool, true, false, List, [], ◌∷◌, ◌++◌, length, map, Option, Some, None, Ok, ap, refl, subst, sym, inl, inr, arith}
+use Rattle.std.proofs.Common.{◌≡◌, ◌∙◌, ℕ, ◌+◌, ◌≤◌, false, List, [], ◌∷◌, ◌++◌, length, map, Option, Some, None, Ok, Err, ap, refl, subst, sym, inl, inr, arith}
 use Rattle.std.specs.Prelude.{Vec}
 use Rattle.std.specs.Global.{Global}
 use Rattle.std.specs.List.{list_any}
@@ -13,13 +13,12 @@ use Rattle.lms_batch.specs.declared.collector.Batch.{Batch}
 use Rattle.lms_batch.specs.declared.collector.Batch.TheVariants as batches
 use Rattle.lms_lines.specs.AnswerLines.{answer_line, answer_text, answers, AppendsFront}
 use Rattle.lms_world.specs.Names.{Bytes}
-use Rattle.lms_world.specs.Events.{Acquired, Event, Locked, NodesRead, Printing, Read, Unlocked}
+use Rattle.lms_world.specs.Events.{Acquired, Event, Locked, NodesRead, Printing, Read, Unlocked, Writing}
 use Rattle.lms_commands.specs.BatchLogs.{AnswersJobs, LogsAnswers, LogsJobs, LogsJobsFailed, LogsJobsUnsigned, LogsNoBatch, LogsUnanswered, LogsUnprinted, UsesAll}
 use Rattle.lms_commands.specs.Histories.{AreDelivered, AreInOrder, ArePrinted, AreWritten, IsSignature, IsTurn, Prints, StoresNothing, Signature, Turn, hands_out, is_of_store, signature_lines, store_calls, written_in}
 use Rattle.lms_commands.specs.Logs.{KeyState, WorldCalls}
 use Rattle.lms_commands.specs.SignLogs.{DeliversSignature, index_line, LogsNotSigned, LogsSign, LogsSignFailed, LogsUndelivered, WritesSignature}
 use Rattle.lms_commands.specs.declared.fault.Fault.{Fault}
-use Rattle.lms_commands.specs.declared.fault.Fault.TheVariants.{WriteOutput}
 use Rattle.lms_commands.proofs.Turns.{Quietly, idle_as, keeping, left_so, no_text, one_more, unopened, unsigned, used, whole_text}
 
 -- ---- `sign`
@@ -29,10 +28,10 @@ abbrev pub Delivers : List ℕ → List ℕ → WorldCalls → Type 0
 Delivers before printed whole = (turn : Turn) × (signatures : List Signature) × IsTurn turn signatures whole × AreDelivered signatures whole before printed
 
 module _ (old : WorldCalls) (quiet : list_any hands_out old ≡ false) (none : store_calls old ≡ []) (no_file : written_in old ≡ []) where
-  abbrev signature_of : {random message : List ℕ} {out : Bytes} {written : Bool} {new : WorldCalls} → WritesSignature random message out written old new → Signature
+  abbrev signature_of : {random message : List ℕ} {out : Bytes} {answer : Writing} {new : WorldCalls} → WritesSignature random message out answer old new → Signature
   signature_of writes = record { key = writes.signs.state.key; index = writes.index; bytes = writes.signature }
 
-  writes_one : (random message : List ℕ) (out : Bytes) (written : Bool) (new : WorldCalls) (writes : WritesSignature random message out written old new)
+  writes_one : (random message : List ℕ) (out : Bytes) (answer : Writing) (new : WorldCalls) (writes : WritesSignature random message out answer old new)
       → (turn : Turn) × IsTurn turn (signature_of writes ∷ []) new × AreWritten (signature_of writes ∷ []) new
   writes_one random message out written new writes =
       let signs = writes.signs in
@@ -50,7 +49,7 @@ module _ (old : WorldCalls) (quiet : list_any hands_out old ≡ false) (none : s
   delivered : (random message : List ℕ) (out : Bytes) (before printed : List ℕ) (new : WorldCalls) (delivers : DeliversSignature random message out before old new)
       → Prints before printed (index_line delivers.writes) → Delivers before printed new
   delivered random message out before printed new delivers line =
-      let written = writes_one random message out true delivers.until_written delivers.writes in (
+      let written = writes_one random message out (Ok tt) delivers.until_written delivers.writes in (
         written.0,
         signature_of delivers.writes ∷ [],
         one_more new _ refl delivers.prints written.1,
@@ -65,8 +64,8 @@ module _ (old : WorldCalls) (quiet : list_any hands_out old ≡ false) (none : s
       → LogsUndelivered random message out before printed fault old new → Delivers before printed new
   undelivered random message out before printed fault new (inl (nodes, never, same)) =
       let is = not_signed new nodes fault never in (is.0, [], is.1.takes, (is.1.unwritten ∙ no_file, inl same))
-  undelivered random message out before printed fault new (inr (at, inl (is, same))) =
-      let written = writes_one random message out false new is in (written.0, signature_of is ∷ [], written.1, (written.2, inl same))
+  undelivered random message out before printed fault new (inr (at, inl (cause, is, same))) =
+      let written = writes_one random message out (Err cause) new is in (written.0, signature_of is ∷ [], written.1, (written.2, inl same))
   undelivered random message out before printed fault new (inr (at, inr (delivers, line))) = delivered random message out before printed new delivers line
 
 -- the lock is handed back

@@ -25,7 +25,7 @@ MayFailAfter (Taken (Some store) ∷ earlier) old new = new ≡ true
 MayFailAfter (PutBack store ∷ earlier) old new = Unit {0}
 MayFailAfter (other ∷ earlier) old new = MayFailAfter earlier old new
 
--- a read is refused by this fault
+-- a read or a write is refused by this fault
 abbrev pub IsRefused : Bytes → WorldFault → Answers → Type 0
 IsRefused name fault files = (answer_in files name ≡ Err fault) ⊎ (fault ≡ world.OutOfMemory)
 
@@ -36,6 +36,7 @@ Tells (Read name (Err fault)) earlier old = IsRefused name fault (files_after ea
 Tells (Opened name (Ok (Some bytes))) earlier old = answer_in (files_after earlier old.files) name ≡ Ok bytes
 Tells (Opened name (Ok None)) earlier old = ⊥
 Tells (Opened name (Err fault)) earlier old = IsRefused name fault (files_after earlier old.files)
+Tells (Written name bytes (Err fault)) earlier old = IsRefused name fault (files_after earlier old.files)
 Tells (Locked name Acquired) earlier old = old.in_use ≡ false
 Tells (Locked name InUse) earlier old = old.in_use ≡ true
 Tells (Asked there) earlier old = there ≡ is_there (state_after earlier old.state)
@@ -55,6 +56,7 @@ pub record Told (calls : List Event) (old new : Held) : Type 0 where
   pub state : new.state ≡ state_after calls old.state
   pub nodes : new.nodes ≡ nodes_after calls old.nodes
   pub in_use : new.in_use ≡ old.in_use
+  pub nodes_fault : new.nodes_fault ≡ old.nodes_fault
   pub may_fail : MayFailAfter calls old.may_fail new.may_fail
 
 module _ (earlier : List Event) (old between new : Held) (is : Told earlier old between) where
@@ -79,8 +81,8 @@ module _ (earlier : List Event) (old between new : Held) (is : Told earlier old 
       (ap (λ (files : Answers). answer_in files name) (sym is.files) ∙ acts.1, still acts.0)
   told_one (Opened name (Ok None)) never = absurd never
   told_one (Opened name (Err fault)) acts = (refused name fault acts.1, still acts.0)
-  told_one (Written name bytes true) acts = (tt, fails_as new.may_fail (ap (λ (h : Held). h.may_fail) acts))
-  told_one (Written name bytes false) acts = (tt, still acts)
+  told_one (Written name bytes (Ok done)) acts = (tt, fails_as new.may_fail (ap (λ (h : Held). h.may_fail) acts))
+  told_one (Written name bytes (Err fault)) acts = (refused name fault acts.1, still acts.0)
   told_one (Locked name Acquired) acts = (sym is.in_use ∙ acts.1, still acts.0)
   told_one (Locked name InUse) acts = (sym is.in_use ∙ acts.1, still acts.0)
   told_one (Locked name NoMemory) acts = (tt, still acts)
@@ -94,8 +96,8 @@ module _ (earlier : List Event) (old between new : Held) (is : Told earlier old 
   told_one (PutBack store) acts = (tt, tt)
   told_one (NodesRead (Some text)) acts = (sym is.nodes ∙ acts.1, still acts.0)
   told_one (NodesRead None) acts = (tt, still acts)
-  told_one (NodesWritten text true) acts = (tt, fails_as new.may_fail (ap (λ (h : Held). h.may_fail) acts))
-  told_one (NodesWritten text false) acts = (tt, still acts)
+  told_one (NodesWritten text (Ok done)) acts = (tt, fails_as new.may_fail (ap (λ (h : Held). h.may_fail) acts))
+  told_one (NodesWritten text (Err fault)) acts = (tt, still acts.0)
   told_one (Printing before) acts = (tt, still acts)
   told_one (Printed bytes) acts = (tt, still acts)
 
@@ -108,6 +110,7 @@ told_by old new [] same =
       state = holds.1;
       nodes = holds.2;
       in_use = holds.3;
+      nodes_fault = holds.4;
       may_fail = ap (λ (h : Held). h.may_fail) same;
     }
 told_by old new (event ∷ earlier) is =
@@ -120,6 +123,7 @@ told_by old new (event ∷ earlier) is =
       state = holds.1;
       nodes = holds.2;
       in_use = holds.3;
+      nodes_fault = holds.4;
       may_fail = here.1;
     }
 
@@ -154,6 +158,7 @@ unlocked is = record {
   state = is.state;
   nodes = is.nodes;
   in_use = is.in_use;
+  nodes_fault = is.nodes_fault;
   may_fail = is.may_fail;
 }
 
@@ -166,27 +171,31 @@ until_printing is = record {
   state = is.state;
   nodes = is.nodes;
   in_use = is.in_use;
+  nodes_fault = is.nodes_fault;
   may_fail = is.may_fail;
 }
 
-abbrev held : Answers → Texts → Bool → Bool → Option (List ℕ) → Held
-held files state may_fail in_use nodes =
-    record { files = files; state = state; may_fail = may_fail; in_use = in_use; nodes = nodes }
+abbrev held : Answers → Texts → Bool → Bool → Option (List ℕ) → Option WorldFault → Held
+held files state may_fail in_use nodes nodes_fault =
+    record {
+      files = files;
+      state = state;
+      may_fail = may_fail;
+      in_use = in_use;
+      nodes = nodes;
+      nodes_fault = nodes_fault;
+    }
 
 pub same_held : (old new : Held) → new.files ≡ old.files → new.state ≡ old.state → new.may_fail ≡ old.may_fail
-    → new.in_use ≡ old.in_use → new.nodes ≡ old.nodes → new ≡ old
-same_held old new files state may_fail in_use nodes =
-    ap (λ (f : Answers). held f new.state new.may_fail new.in_use new.nodes) files
-    ∙ (ap (λ (s : Texts). held old.files s new.may_fail new.in_use new.nodes) state
-    ∙ (ap (λ (b : Bool). held old.files old.state b new.in_use new.nodes) may_fail
-    ∙ (ap (λ (b : Bool). held old.files old.state old.may_fail b new.nodes) in_use
-    ∙ ap (λ (n : Option (List ℕ)). held old.files old.state old.may_fail old.in_use n) nodes)))
+    → new.in_use ≡ old.in_use → new.nodes ≡ old.nodes → new.nodes_fault ≡ old.nodes_fault → new ≡ old
+same_held old new files state may_fail in_use nodes nodes_fault = λ i.
+    held (files i) (state i) (may_fail i) (in_use i) (nodes i) (nodes_fault i)
 
 pub nothing_done : {before now : List Event} (old new : Held) → now ≡ before
     → Follows (Some old) before (Some new) now → new ≡ old
 nothing_done old new none follows =
     let is = told old new (record { calls = []; are = none }) follows in
-    same_held old new is.files is.state is.may_fail is.in_use is.nodes
+    same_held old new is.files is.state is.may_fail is.in_use is.nodes is.nodes_fault
 
 -- ---- calls that change nodes alone
 
@@ -211,16 +220,16 @@ keeps_only trees (inl same) = record {
   nodes = λ earlier nodes. inl refl;
   tell = λ earlier old tell. tell;
 }
-keeps_only trees (inr (way, true, trees_are, is)) = record {
-  calls = NodesWritten _ true ∷ [];
+keeps_only trees (inr (way, Ok done, trees_are, is)) = record {
+  calls = NodesWritten _ (Ok done) ∷ [];
   are = is;
   files = λ earlier files. refl;
   state = λ earlier state. refl;
   nodes = λ earlier nodes. inr (way, trees_are, refl);
   tell = λ earlier old tell. tell.0;
 }
-keeps_only trees (inr (way, false, trees_are, is)) = record {
-  calls = NodesWritten _ false ∷ [];
+keeps_only trees (inr (way, Err fault, trees_are, is)) = record {
+  calls = NodesWritten _ (Err fault) ∷ [];
   are = is;
   files = λ earlier files. refl;
   state = λ earlier state. refl;

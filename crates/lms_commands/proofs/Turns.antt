@@ -1,5 +1,5 @@
 -- What each command does with its state, by the calls that it makes.
-use Rattle.std.proofs.Common.{append-nil, ⊎_elim, ◌++◌, ◌≡◌, ◌∙◌, ℕ, ◌+◌, ◌≤◌, Bool, true, false, List, [], ◌∷◌, Option, Some, None, Ok, ap, refl, subst, sym, inl, inr}
+use Rattle.std.proofs.Common.{append-nil, ⊎_elim, ◌++◌, ◌≡◌, ◌∙◌, ℕ, ◌+◌, ◌≤◌, Bool, false, List, [], ◌∷◌, Option, Some, None, Ok, Err, ap, refl, subst, sym, inl, inr}
 use Rattle.std.specs.Prelude.{◌⊎◌, cond}
 use Rattle.std.specs.List.{list_any}
 use Rattle.lms_spec.specs.Profile.{hss_public_key}
@@ -9,10 +9,10 @@ use Rattle.lms_image.specs.Image.{image_of}
 use Rattle.lms_book.specs.Stops.{StoreView, after_failure, after_write, having_given}
 use Rattle.lms_kept.specs.Ways.{Way}
 use Rattle.lms_world.specs.Names.{Bytes}
-use Rattle.lms_world.specs.Events.{Acquired, Event, Asked, Locked, Opened, Printing, PutBack, Read, Taken, Taking, Unlocked}
-use Rattle.lms_commands.specs.Histories.{AreInOrder, Does, IsOneUse, IsTurn, IsUnwritten, HandsKey, HandsNothing, HandsState, HandsVerdict, Prints, StoresNothing, Makes, Signature, Signs, Turn, Uses, hands_out, is_of_store, store_calls, written_in}
+use Rattle.lms_world.specs.Events.{Acquired, Event, Asked, Locked, Opened, Printing, PutBack, Read, Taken, Taking, Unlocked, Writing}
+use Rattle.lms_commands.specs.Histories.{AreInOrder, IsDoneBy, IsOneUse, IsTurn, IsUnwritten, HandsKey, HandsNothing, HandsState, HandsVerdict, Prints, StoresNothing, Makes, Signature, Signs, Turn, Uses, hands_out, is_of_store, store_calls, written_in}
 use Rattle.lms_commands.specs.KeygenLogs.{capacity_line, LogsKeygen, LogsKeygenFailed, LogsUnmade, LogsUnstored, PublishesKey, StoresKey, WritesKey}
-use Rattle.lms_commands.specs.Logs.{KeyState, LeavesState, WorldCalls, LogsKeeping, LogsUnopened, LogsUnsigned, StoresUse, TriesUse}
+use Rattle.lms_commands.specs.Logs.{KeyState, LeavesState, WorldCalls, LogsKeeping, LogsUnopened, LogsUnsigned, StoresUse, TriesUse, write_cause}
 use Rattle.lms_commands.specs.ReadingLogs.{info_of, LogsInfo, LogsInfoFailed, LogsVerify, LogsVerifyFailed, ReadsToPrint}
 use Rattle.lms_commands.specs.Verdicts.{line_of}
 use Rattle.lms_commands.specs.declared.fault.Fault.{Fault}
@@ -21,7 +21,7 @@ use Rattle.lms_commands.specs.declared.verdict.Verdict.{Verdict}
 -- ---- turns, call by call
 
 -- nothing left yet
-begun : (turn : Turn) (signatures : List Signature) (calls : WorldCalls) → Does turn calls → list_any hands_out calls ≡ false → Signs turn signatures calls
+begun : (turn : Turn) (signatures : List Signature) (calls : WorldCalls) → IsDoneBy turn calls → list_any hands_out calls ≡ false → Signs turn signatures calls
     → IsTurn turn signatures calls
 begun turn signatures calls does quiet signs =
     record { first = calls; later = []; calls = refl; does = does; nothing_leaves = quiet; signs = signs; nothing_stored = refl }
@@ -225,7 +225,7 @@ module _ (old : WorldCalls) (quiet : list_any hands_out old ≡ false) (none : s
     ap written_in calls ∙ no_file,
   )
 
-  writes_key : (public : Bytes) (written : Bool) (new : WorldCalls) → WritesKey key public written old new
+  writes_key : (public : Bytes) (answer : Writing) (new : WorldCalls) → WritesKey key public answer old new
       → IsTurn (Makes key) [] new × (written_in new ≡ hss_public_key (hss_key_of key) ∷ [])
   writes_key public written new is =
       let made = made_key is.until_stored is.stores in
@@ -237,7 +237,7 @@ module _ (old : WorldCalls) (quiet : list_any hands_out old ≡ false) (none : s
   publishes_key : (public : Bytes) (before : List ℕ) (new : WorldCalls) → PublishesKey key public before old new
       → IsTurn (Makes key) [] new × (written_in new ≡ hss_public_key (hss_key_of key) ∷ [])
   publishes_key public before new is =
-      let written = writes_key public true is.until_written is.writes in (one_more new _ refl is.prints written.0, ap written_in is.prints ∙ written.1)
+      let written = writes_key public (Ok tt) is.until_written is.writes in (one_more new _ refl is.prints written.0, ap written_in is.prints ∙ written.1)
 
   unstored : (new : WorldCalls) (fault : Fault) → LogsUnstored key fault (Asked false ∷ old) new → (turn : Turn) × IsTurn turn [] new × (written_in new ≡ [])
   unstored new fault (inl (at, calls)) = (StoresNothing, idle_as new _ calls none quiet, ap written_in calls ∙ no_file)
@@ -259,7 +259,7 @@ module _ (old : WorldCalls) (quiet : list_any hands_out old ≡ false) (none : s
   unmade public before printed new fault (inl (same, inr (inr (inl never)))) =
       let is = unstored new fault never in (is.0, is.1, inl (is.2, same))
   unmade public before printed new fault (inl (same, inr (inr (inr (refused, is))))) =
-      let written = writes_key public false new is in
+      let written = writes_key public (Err (write_cause fault)) new is in
       (Makes key, written.0, inr (key, written.1, no_text before printed _ same))
   unmade public before printed new fault (inr (at, is, line)) =
       let written = publishes_key public before new is in (Makes key, written.0, inr (key, written.1, line))

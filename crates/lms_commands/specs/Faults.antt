@@ -17,8 +17,6 @@ use Rattle.lms_lines.specs.declared.fault.JobsFault.{JobsFault}
 use Rattle.lms_lines.specs.declared.fault.JobsFault.TheVariants as jobs
 use Rattle.lms_lines.specs.declared.fault.LinesFault.{LinesFault}
 use Rattle.lms_lines.specs.declared.fault.LinesFault.TheVariants as lines
-use Rattle.lms_world.specs.declared.fault.WorldFault.{WorldFault}
-use Rattle.lms_world.specs.declared.fault.WorldFault.TheVariants as world
 use Rattle.lms_commands.specs.declared.fault.Fault.{Fault}
 use Rattle.lms_commands.specs.declared.fault.Fault.TheVariants.{BadLevels, TooManyLevels, TooTall, BadSeed, BadId, BadRandom, BadWorkers, BadJob, TooManyJobs, StateExists, StateInUse, ReadState, BadState, WriteState, WriteStateBurnt, Exhausted, OutOfMemory, OutOfMemoryBurnt, Partial, ReadInput, WriteOutput}
 use Rattle.lms_texts.specs.Faults.{levels_fault_text}
@@ -99,11 +97,6 @@ of_key key.TooTall = TooTall
 abbrev pub of_text : LevelsTextFault → Fault
 of_text unread.Bad = BadLevels
 of_text unread.OutOfMemory = OutOfMemory
-
--- the fault that a refused read is
-abbrev pub of_read : WorldFault → Fault
-of_read world.Device = ReadInput
-of_read world.OutOfMemory = OutOfMemory
 
 -- the fault that a refused opening is
 abbrev pub of_opening : OpenFault → Fault

@@ -66,14 +66,14 @@ store_calls calls = filter is_of_store calls
 -- a call with which something leaves: bytes are written to a file, or an output begins to be
 -- printed to
 abbrev pub hands_out : Event → Bool
-hands_out (Written name bytes done) = true
+hands_out (Written name bytes answer) = true
 hands_out (Printing before) = true
 hands_out other = false
 
 -- the bytes that are written to files
 abbrev pub written_in : WorldCalls → List (List ℕ)
 written_in [] = []
-written_in (Written name bytes done ∷ calls) = bytes ∷ written_in calls
+written_in (Written name bytes answer ∷ calls) = bytes ∷ written_in calls
 written_in (other ∷ calls) = written_in calls
 
 -- what keeps the state is taken out and put back, once
@@ -96,7 +96,7 @@ FindsNone calls =
 
 -- bytes are read, the image of a state, and the image that counts so many indices more is stored,
 -- for certain or not
-pub record UsesIndices (count : ℕ) (state : KeyState) (text : List ℕ)
+pub record CountsIndices (count : ℕ) (state : KeyState) (text : List ℕ)
     (calls : WorldCalls) : Type 0 where
   pub taken : Taking
   pub given : StoreView
@@ -109,16 +109,16 @@ pub record UsesIndices (count : ℕ) (state : KeyState) (text : List ℕ)
   pub one_use : IsOneUse taken left calls
 
 -- the calls on the state that a turn makes, and no other
-abbrev pub Does : Turn → WorldCalls → Type 0
-Does StoresNothing calls =
+abbrev pub IsDoneBy : Turn → WorldCalls → Type 0
+IsDoneBy StoresNothing calls =
     (store_calls calls ≡ [])
     ⊎ ((taken : Taking) × (left : StoreView) × IsUnwritten taken.view left
     × IsOneUse taken left calls)
-Does (Makes key) calls =
+IsDoneBy (Makes key) calls =
     FindsNone calls
     × ((taken : Taking) × (left : StoreView) × Stores (image_of key 0 0 0) taken.view left
     × IsOneUse taken left calls)
-Does (Uses count state text) calls = UsesIndices count state text calls
+IsDoneBy (Uses count state text) calls = CountsIndices count state text calls
 
 -- the last that was done with the state is that this image was stored, for certain
 abbrev pub IsStored : List ℕ → WorldCalls → Type 0
@@ -140,7 +140,7 @@ pub record IsTurn (turn : Turn) (signatures : List Signature) (whole : WorldCall
   pub first : WorldCalls
   pub later : WorldCalls
   pub calls : whole ≡ later ++ first
-  pub does : Does turn first
+  pub does : IsDoneBy turn first
   pub nothing_leaves : list_any hands_out first ≡ false
   pub signs : Signs turn signatures first
   pub nothing_stored : store_calls later ≡ []
@@ -210,36 +210,36 @@ abbrev pub left_in : TakenTurn → List Signature
 left_in run = if list_any hands_out run.begun then run.signatures else []
 
 -- the byte strings of which one may be stored as the state, and none where there may be no state
-abbrev pub Held : Type 0
-Held = List (Option (List ℕ))
+abbrev pub StateTexts : Type 0
+StateTexts = List (Option (List ℕ))
 
 -- a turn finds something that may be stored: none, or the bytes that it reads
-abbrev pub FindsHeld : Turn → Held → Type 0
-FindsHeld StoresNothing held = Unit {0}
-FindsHeld (Makes key) held = Contains held None
-FindsHeld (Uses count state text) held = Contains held (Some text)
+abbrev pub FindsText : Turn → StateTexts → Type 0
+FindsText StoresNothing held = Unit {0}
+FindsText (Makes key) held = Contains held None
+FindsText (Uses count state text) held = Contains held (Some text)
 
 -- this is what may be stored, and nothing else
-abbrev pub IsOnly : List ℕ → Held → Type 0
+abbrev pub IsOnly : List ℕ → StateTexts → Type 0
 IsOnly image held = (found : Option (List ℕ)) → Contains held found → found ≡ Some image
 
 -- what a store owes, once a run came to it: it gave what it may have held; it may hold that still,
 -- or the image that was stored; and that image alone where it was stored for certain
-pub record Moves (run : TakenTurn) (held left : Held) : Type 0 where
-  pub found : FindsHeld run.turn held
+pub record Moves (run : TakenTurn) (held left : StateTexts) : Type 0 where
+  pub found : FindsText run.turn held
   pub one_of : (text : Option (List ℕ)) → Contains left text → Contains held text
       ⊎ ((image : List ℕ) × (image_by run.turn ≡ Some image) × (text ≡ Some image))
   pub certain : (image : List ℕ) → IsStored image run.begun → IsOnly image left
 
 -- what may be stored before and after a run; where it did not come to its state, that is the same
-abbrev pub IsCarried : TakenTurn → Held → Held → Type 0
+abbrev pub IsCarried : TakenTurn → StateTexts → StateTexts → Type 0
 IsCarried run held left = ((store_calls run.begun ≡ []) × (left ≡ held)) ⊎ Moves run held left
 
 -- runs one after another carry along what is stored, from this on
-abbrev pub IsCarriedAlong : Held → List TakenTurn → Type 0
+abbrev pub IsCarriedAlong : StateTexts → List TakenTurn → Type 0
 IsCarriedAlong held [] = Unit {0}
 IsCarriedAlong held (run ∷ runs) =
-    (left : Held) × IsCarried run held left × IsCarriedAlong left runs
+    (left : StateTexts) × IsCarried run held left × IsCarriedAlong left runs
 
 -- all signatures that left, in order
 abbrev pub all_left : List TakenTurn → List Signature

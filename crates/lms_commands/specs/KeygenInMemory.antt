@@ -7,10 +7,10 @@ use Rattle.lms_image.specs.Image.{image_of}
 use Rattle.lms_book.specs.Stops.{IsLeftBy, only}
 use Rattle.lms_kept.specs.Ways.{Way}
 use Rattle.lms_world.specs.Names.{Bytes}
-use Rattle.lms_world.specs.Held.{Follows, Held, is_there}
+use Rattle.lms_world.specs.Held.{Follows, Held, MayRefuse, is_there}
 use Rattle.lms_commands.specs.InMemory.{FailsToLock, KeepsNodes, KeepsRight, WritesFile}
 use Rattle.lms_commands.specs.KeygenLogs.{AreGenuineTrees, LogsKeygen, LogsKeygenFailed}
-use Rattle.lms_commands.specs.Logs.{IsWriteRefused, WorldCalls}
+use Rattle.lms_commands.specs.Logs.{IsWriteRefused, WorldCalls, write_cause}
 use Rattle.lms_commands.specs.declared.fault.Fault.{Fault}
 use Rattle.lms_commands.specs.declared.fault.Fault.TheVariants.{OutOfMemory, StateExists, WriteOutput, WriteState}
 
@@ -53,7 +53,7 @@ FailsToMakeKey key public fault old new =
     ⊎ (((fault ≡ OutOfMemory) × (old.in_use ≡ false) × (is_there old.state ≡ false) × (new ≡ old))
     ⊎ (((fault ≡ WriteState) × MayMakeKey key old new)
     ⊎ (MakesKey key old new
-    × ((IsWriteRefused fault × (new.files ≡ old.files))
+    × ((IsWriteRefused fault × MayRefuse old public (write_cause fault) × (new.files ≡ old.files))
     ⊎ ((fault ≡ WriteOutput) × PublishesIn key public old new))))))
 
 -- of a world in memory, this is why `keygen` fails once its options spell a key

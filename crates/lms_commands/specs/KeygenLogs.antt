@@ -1,5 +1,5 @@
 -- The calls that `keygen` makes on its world.
-use Rattle.std.specs.Prelude.{◌≡◌, ◌⊎◌, List, [], ◌∷◌, ◌++◌, Bool, true, false, ℕ, Option, Some, None, IfSome, codes}
+use Rattle.std.specs.Prelude.{◌≡◌, ◌⊎◌, List, [], ◌∷◌, ◌++◌, true, false, ℕ, Option, Some, None, Ok, Err, IfSome, codes}
 use Rattle.lms_spec.specs.Hss.{capacity_of}
 use Rattle.lms_spec.specs.Profile.{hss_public_key}
 use Rattle.lms_hss.specs.Keys.{hss_key_of}
@@ -10,8 +10,8 @@ use Rattle.lms_lines.specs.AnswerLines.{AppendsFront}
 use Rattle.lms_texts.specs.Descriptions.{number_line}
 use Rattle.lms_book.specs.Stops.{StoreView, FailsToWrite, after_write}
 use Rattle.lms_world.specs.Names.{Bytes}
-use Rattle.lms_world.specs.Events.{Acquired, Written, Locked, Unlocked, Asked, Taken, Taking, Printing, after}
-use Rattle.lms_commands.specs.Logs.{IsLockRefused, IsWriteRefused, WorldCalls, LogsKeeping, PutsBack, lock_answer}
+use Rattle.lms_world.specs.Events.{Acquired, Written, Locked, Unlocked, Asked, Taken, Taking, Printing, Writing, after}
+use Rattle.lms_commands.specs.Logs.{IsLockRefused, IsWriteRefused, WorldCalls, LogsKeeping, PutsBack, lock_answer, write_cause}
 use Rattle.lms_commands.specs.declared.fault.Fault.{Fault}
 use Rattle.lms_commands.specs.declared.fault.Fault.TheVariants.{StateExists, WriteState, OutOfMemory, WriteOutput}
 
@@ -35,7 +35,7 @@ AreGenuineTrees key trees =
 
 -- it is stored where there was none, trees of the key may be kept, and then the public key is
 -- written to its file, once
-pub record WritesKey (key : KeyOfCode) (public : Bytes) (written : Bool)
+pub record WritesKey (key : KeyOfCode) (public : Bytes) (answer : Writing)
     (old new : WorldCalls) : Type 0 where
   pub trees : Option Way
   pub genuine : AreGenuineTrees key trees
@@ -44,13 +44,13 @@ pub record WritesKey (key : KeyOfCode) (public : Bytes) (written : Bool)
   pub stores : StoresKey key (after (Asked false ∷ []) old) until_stored
   pub keeps : LogsKeeping trees until_stored until_kept
   pub writes : new
-      ≡ after (Written public (hss_public_key (hss_key_of key)) written ∷ []) until_kept
+      ≡ after (Written public (hss_public_key (hss_key_of key)) answer ∷ []) until_kept
 
 -- then the capacity begins to be printed, where this was printed before
 pub record PublishesKey (key : KeyOfCode) (public : Bytes) (before : List ℕ)
     (old new : WorldCalls) : Type 0 where
   pub until_written : WorldCalls
-  pub writes : WritesKey key public true old until_written
+  pub writes : WritesKey key public (Ok tt) old until_written
   pub prints : new ≡ after (Printing before ∷ []) until_written
 
 -- the line of a key's capacity
@@ -66,7 +66,7 @@ LogsUnmade key public before printed fault old new =
     × (((fault ≡ StateExists) × (new ≡ after (Asked true ∷ []) old))
     ⊎ (((fault ≡ OutOfMemory) × (new ≡ after (Asked false ∷ []) old))
     ⊎ (LogsUnstored key fault (after (Asked false ∷ []) old) new
-    ⊎ (IsWriteRefused fault × WritesKey key public false old new)))))
+    ⊎ (IsWriteRefused fault × WritesKey key public (Err (write_cause fault)) old new)))))
     ⊎ ((fault ≡ WriteOutput) × PublishesKey key public before old new
     × AppendsFront (Some before) (Some printed) (capacity_line key))
 

@@ -1,5 +1,5 @@
 -- The calls that a command makes on its world, one after another, the newest first.
-use Rattle.std.specs.Prelude.{◌≡◌, ◌⊎◌, ◌+◌, ◌-◌, ◌<◌, ◌≤◌, ℕ, List, [], ◌∷◌, ◌++◌, Bool, true, false, Option, Some, None, Result, Ok, Err}
+use Rattle.std.specs.Prelude.{◌≡◌, ◌⊎◌, ◌+◌, ◌-◌, ◌<◌, ◌≤◌, ℕ, List, [], ◌∷◌, ◌++◌, true, Option, Some, None, Result, Ok, Err}
 use Rattle.lms_spec.specs.Hss.{capacity_of}
 use Rattle.lms_hss.specs.Keys.{hss_key_of}
 use Rattle.lms_hss.specs.declared.key.HssKey.{HssKey as KeyOfCode}
@@ -10,7 +10,7 @@ use Rattle.lms_book.specs.States.{BookState}
 use Rattle.lms_book.specs.Stops.{StoreView, FailsToWrite, MayLeave, after_failure, after_write, having_given}
 use Rattle.lms_kept.specs.Ways.{Way, nodes_text}
 use Rattle.lms_lines.specs.AnswerLines.{AppendsFront}
-use Rattle.lms_world.specs.Events.{Event, Locking, Acquired, InUse, NoMemory, Taken, Taking, PutBack, NodesWritten, Printing, Written, after}
+use Rattle.lms_world.specs.Events.{Event, Locking, Acquired, InUse, NoMemory, Taken, Taking, PutBack, NodesWritten, Printing, Writing, Written, after}
 use Rattle.lms_world.specs.Names.{Bytes}
 use Rattle.lms_world.specs.declared.fault.WorldFault.{WorldFault}
 use Rattle.lms_world.specs.declared.fault.WorldFault.TheVariants.{Device}
@@ -116,10 +116,10 @@ LogsUnsigned n fault state old new =
 abbrev pub LogsKeeping : Option Way → WorldCalls → WorldCalls → Type 0
 LogsKeeping trees old new =
     (new ≡ old)
-    ⊎ ((way : Way) × (done : Bool) × (trees ≡ Some way)
-    × (new ≡ after (NodesWritten (nodes_text way) done ∷ []) old))
+    ⊎ ((way : Way) × (answer : Writing) × (trees ≡ Some way)
+    × (new ≡ after (NodesWritten (nodes_text way) answer ∷ []) old))
 
--- what was not locked, or not read, at this fault
+-- what was not locked, not read, or not written, at this fault
 abbrev pub lock_answer : Fault → Locking
 lock_answer StateInUse = InUse
 lock_answer fault = NoMemory
@@ -128,7 +128,11 @@ abbrev pub read_cause : Fault → WorldFault
 read_cause ReadInput = Device
 read_cause fault = world.OutOfMemory
 
--- what a lock, or a call that reads, came to in the world
+abbrev pub write_cause : Fault → WorldFault
+write_cause WriteOutput = Device
+write_cause fault = world.OutOfMemory
+
+-- what a lock, a call that reads, or one that writes, came to in the world
 abbrev pub locked_so : {T : Type 0} → Result T Fault → Locking
 locked_so (Ok lock) = Acquired
 locked_so (Err fault) = lock_answer fault
@@ -136,6 +140,10 @@ locked_so (Err fault) = lock_answer fault
 abbrev pub caused : {T : Type 0} → Result T Fault → Result T WorldFault
 caused (Ok given) = Ok given
 caused (Err fault) = Err (read_cause fault)
+
+abbrev pub written_so : {T : Type 0} → Result T Fault → Writing
+written_so (Ok done) = Ok tt
+written_so (Err fault) = Err (write_cause fault)
 
 -- the fault comes where a lock is not acquired
 abbrev pub IsLockRefused : Fault → Type 0
@@ -152,7 +160,7 @@ IsWriteRefused fault = (fault ≡ WriteOutput) ⊎ (fault ≡ OutOfMemory)
 -- these bytes are written to a file, and the line after them is printed
 abbrev pub Publishes : Bytes → List ℕ → List ℕ → List ℕ → List ℕ → WorldCalls → WorldCalls → Type 0
 Publishes name bytes line before printed old new =
-    (new ≡ after (Written name bytes true ∷ Printing before ∷ []) old)
+    (new ≡ after (Written name bytes (Ok tt) ∷ Printing before ∷ []) old)
     × (printed ≡ before ++ line)
 
 -- at this fault these bytes are not written to a file and nothing is printed; or they are, and of
@@ -160,6 +168,7 @@ Publishes name bytes line before printed old new =
 abbrev pub FailsToPublish : Bytes → List ℕ → List ℕ → List ℕ → List ℕ → Fault → WorldCalls
     → WorldCalls → Type 0
 FailsToPublish name bytes line before printed fault old new =
-    (IsWriteRefused fault × (new ≡ after (Written name bytes false ∷ []) old) × (printed ≡ before))
-    ⊎ ((fault ≡ WriteOutput) × (new ≡ after (Written name bytes true ∷ Printing before ∷ []) old)
+    (IsWriteRefused fault × (new ≡ after (Written name bytes (Err (write_cause fault)) ∷ []) old)
+    × (printed ≡ before))
+    ⊎ ((fault ≡ WriteOutput) × (new ≡ after (Written name bytes (Ok tt) ∷ Printing before ∷ []) old)
     × AppendsFront (Some before) (Some printed) line)

@@ -1,11 +1,12 @@
 -- The calls that `sign` makes on its world.
-use Rattle.std.specs.Prelude.{◌≡◌, ◌⊎◌, List, [], ◌∷◌, ◌++◌, Bool, true, false, ℕ, Option, Some, Ok, Err, codes, length}
+use Rattle.std.specs.Prelude.{◌≡◌, ◌⊎◌, List, [], ◌∷◌, ◌++◌, ℕ, Option, Some, Ok, Err, codes, length}
 use Rattle.hex.specs.Hex.{decode_of}
 use Rattle.lms_kept.specs.Signed.{IsSignedByText}
 use Rattle.lms_kept.specs.Ways.{Way}
 use Rattle.lms_lines.specs.AnswerLines.{AppendsFront}
 use Rattle.lms_world.specs.Names.{Bytes}
-use Rattle.lms_world.specs.Events.{Acquired, Read, Written, Locked, Unlocked, NodesRead, Printing, after}
+use Rattle.lms_world.specs.declared.fault.WorldFault.{WorldFault}
+use Rattle.lms_world.specs.Events.{Acquired, Read, Written, Locked, Unlocked, NodesRead, Printing, Writing, after}
 use Rattle.lms_texts.specs.Descriptions.{number_line}
 use Rattle.lms_commands.specs.Logs.{IsLockRefused, IsReadRefused, KeyState, WorldCalls, LogsKeeping, LogsUnopened, LogsUnsigned, StoresUse, lock_answer, read_cause}
 use Rattle.lms_commands.specs.Keygen.{IsHexOf}
@@ -33,7 +34,7 @@ LogsNotSigned fault old new =
 
 -- kept nodes are asked for, the message is signed, and then the signature is written to its file,
 -- once
-pub record WritesSignature (random message : List ℕ) (out : Bytes) (written : Bool)
+pub record WritesSignature (random message : List ℕ) (out : Bytes) (answer : Writing)
     (old new : WorldCalls) : Type 0 where
   pub nodes : Option (List ℕ)
   pub index : ℕ
@@ -41,18 +42,18 @@ pub record WritesSignature (random message : List ℕ) (out : Bytes) (written : 
   pub until_signed : WorldCalls
   pub signs : LogsSigned nodes random message index signature
       (after (NodesRead nodes ∷ []) old) until_signed
-  pub writes : new ≡ after (Written out signature written ∷ []) until_signed
+  pub writes : new ≡ after (Written out signature answer ∷ []) until_signed
 
 -- then that index begins to be printed, where this was printed before
 pub record DeliversSignature (random message : List ℕ) (out : Bytes) (before : List ℕ)
     (old new : WorldCalls) : Type 0 where
   pub until_written : WorldCalls
-  pub writes : WritesSignature random message out true old until_written
+  pub writes : WritesSignature random message out (Ok tt) old until_written
   pub prints : new ≡ after (Printing before ∷ []) until_written
 
 -- the line of the index that signed
-abbrev pub index_line : {random message : List ℕ} {out : Bytes} {written : Bool}
-    {old new : WorldCalls} → WritesSignature random message out written old new → List ℕ
+abbrev pub index_line : {random message : List ℕ} {out : Bytes} {answer : Writing}
+    {old new : WorldCalls} → WritesSignature random message out answer old new → List ℕ
 index_line writes = number_line (codes "index") writes.index
 
 -- why no signature is delivered under a lock: where it is not written nothing is printed, and else
@@ -63,7 +64,8 @@ LogsUndelivered random message out before printed fault old new =
     ((nodes : Option (List ℕ)) × LogsNotSigned fault (after (NodesRead nodes ∷ []) old) new
     × (printed ≡ before))
     ⊎ ((fault ≡ WriteOutput)
-    × ((WritesSignature random message out false old new × (printed ≡ before))
+    × (((cause : WorldFault) × WritesSignature random message out (Err cause) old new
+    × (printed ≡ before))
     ⊎ ((delivers : DeliversSignature random message out before old new)
     × AppendsFront (Some before) (Some printed) (index_line delivers.writes))))
 

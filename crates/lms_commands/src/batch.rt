@@ -41,7 +41,7 @@ use std::thread::Threads;
 /// batch are used; after `WriteStateBurnt` the state may still be the older one, which gives them
 /// again. The state stays locked while the input is read.
 ///
-/// `progress` gets how many leaves of the trees that the batch needs are computed.
+/// `resources.progress` gets how many leaves of the trees that the batch needs are computed.
 pub fn sign_jobs<W: World, I: Read, O: Write>(
     resources: &Resources<impl Threads + Wait + Sync, impl Progress>,
     world: &mut W,

@@ -2,7 +2,8 @@
 ghost use Rattle.std.specs.Prelude.{◌≡◌, OnErr, OnOk, Some};
 ghost use Rattle.std.specs.Io.KnownBytes.{Appends};
 ghost use Rattle.lms_lines.specs.AnswerLines.{AppendsFront};
-ghost use Rattle.lms_commands.specs.Faults.{command_fault_text, fault_line, of_batch, of_book, of_jobs, of_key, of_lines, of_opening, of_read, of_text, status_of};
+ghost use Rattle.lms_commands.specs.Faults.{command_fault_text, fault_line, of_batch, of_book, of_jobs, of_key, of_lines, of_opening, of_text, status_of};
+ghost use Rattle.lms_commands.specs.Logs.{IsReadRefused, read_cause};
 ghost use Rattle.lms_commands.specs.declared.fault.Fault.TheVariants.{OutOfMemory as FaultOfMemory, WriteOutput};
 
 use crate::status::Status;
@@ -163,7 +164,7 @@ impl From<OutOfMemory> for Fault {
 }
 
 impl From<WorldFault> for Fault {
-    ghost from_gives = { λ world_fault fault. fault ≡ of_read world_fault };
+    ghost from_gives = { λ world_fault fault. IsReadRefused fault × (read_cause fault ≡ world_fault) };
 
     fn from(fault: WorldFault) -> Self {
         match fault {

@@ -1,8 +1,8 @@
 //! What every command does with files and states.
 ghost use Rattle.std.specs.Prelude.{[], ◌∷◌, ◌≡◌, ℕ, List, None, IfErr, IfOk, IfSome, OnOk};
-ghost use Rattle.lms_world.specs.Events.{Read, Opened, Written, Locked, is_done, opening_of, read_of};
+ghost use Rattle.lms_world.specs.Events.{Read, Opened, Written, Locked, opening_of, read_of};
 ghost use Rattle.lms_world.specs.Held.{Does, Follows};
-ghost use Rattle.lms_commands.specs.Logs.{IsLockRefused, IsReadRefused, IsWriteRefused, LogsUnopened, OpensState, caused, locked_so};
+ghost use Rattle.lms_commands.specs.Logs.{IsLockRefused, IsReadRefused, IsWriteRefused, LogsUnopened, OpensState, caused, locked_so, written_so};
 
 use crate::fault::Fault;
 use lms_book::Book;
@@ -25,8 +25,7 @@ pub(crate) fn read_file<W: World>(
 {
     match world.read(alloc, name) {
         Ok(bytes) => Ok(bytes),
-        Err(WorldFault::Device) => Err(Fault::ReadInput),
-        Err(WorldFault::OutOfMemory) => Err(Fault::OutOfMemory),
+        Err(fault) => Err(Fault::from(fault)),
     }
 }
 
@@ -44,8 +43,7 @@ pub(crate) fn open_file<W: World>(
 {
     match world.open(alloc, name) {
         Ok(contents) => Ok(contents),
-        Err(WorldFault::Device) => Err(Fault::ReadInput),
-        Err(WorldFault::OutOfMemory) => Err(Fault::OutOfMemory),
+        Err(fault) => Err(Fault::from(fault)),
     }
 }
 
@@ -57,8 +55,7 @@ pub(crate) fn hand_over<C: Contents, T: Taker>(contents: C, taker: &mut T) -> Re
 {
     match contents.hand_over(taker) {
         Ok(()) => Ok(()),
-        Err(WorldFault::Device) => Err(Fault::ReadInput),
-        Err(WorldFault::OutOfMemory) => Err(Fault::OutOfMemory),
+        Err(fault) => Err(Fault::from(fault)),
     }
 }
 
@@ -66,9 +63,9 @@ pub(crate) fn hand_over<C: Contents, T: Taker>(contents: C, taker: &mut T) -> Re
 /// `OutOfMemory` where memory for that was refused.
 pub(crate) fn write_file<W: World>(world: &mut W, name: &str, bytes: &[u8]) -> Result<(), Fault>
     ensures logged { W.events world.new
-        ≡ Written name.now bytes.now (is_done result) ∷ W.events world.old }
+        ≡ Written name.now bytes.now (written_so result) ∷ W.events world.old }
     ensures refused { IfErr result IsWriteRefused }
-    ensures acts { Does (Written name.now bytes.now (is_done result))
+    ensures acts { Does (Written name.now bytes.now (written_so result))
         (W.memory world.old) (W.memory world.new) }
 {
     match world.write(name, bytes) {

@@ -62,7 +62,7 @@ fn key_of(levels: Levels, seed: [u8; HASH_LEN], id: [u8; 16]) -> HssKey
 /// The top tree's nodes are kept beside the state, once that is stored, for the first signature.
 /// Where that can't be done, that is no fault.
 ///
-/// `progress` gets how many leaves of the top tree are computed.
+/// `resources.progress` gets how many leaves of the top tree are computed.
 pub fn make_key<W: World, O: Write>(
     resources: &Resources<impl Threads + Sync, impl Progress>,
     world: &mut W,

@@ -16,9 +16,9 @@ use crate::files::{lock_state, open_state, read_file, write_file};
 use crate::keeping::{keep_trees, kept_text};
 use crate::resources::Resources;
 use lms_batch::Job;
-use lms_book::{Book, BookFault, Lease, StateStore};
+use lms_book::{Book, BookFault, StateStore};
 use lms_hss::Progress;
-use lms_kept::{KeptSignature, KeptTrees, sign_by_text};
+use lms_kept::{KeptSignature, sign_by_text};
 use lms_params::{HASH_LEN, OutOfMemory};
 use lms_texts::{print_index, read_bytes};
 use lms_world::{Printer, World};
@@ -44,14 +44,6 @@ impl From<NextFault> for Fault {
             NextFault::OutOfMemory => Fault::OutOfMemoryBurnt { count: 1 },
         }
     }
-}
-
-/// A signature, its index, and the trees that signed, where what was read does not serve as it is.
-#[derive(Drop)]
-struct Signed {
-    index: u64,
-    signature: Vec<u8>,
-    trees: Option<KeptTrees>,
 }
 
 /// What `sign` is asked for: a randomizer of 64 hexadecimal digits, and the names of the key's state
@@ -142,15 +134,16 @@ fn randomizer_from(text: &str) -> Result<[u8; HASH_LEN], Fault>
 fn deliver<W: World, O: Write>(
     world: &mut W,
     out: &str,
-    signed: &Signed,
+    signed: &KeptSignature,
     output: &mut Printer<O>,
 ) -> Result<(), Fault>
     ensures published { OnOk result (Publishes
         out.now signed.now.signature.items (number_line (codes "index") signed.now.index)
         output.old output.new (W.events world.old) (W.events world.new)) }
-    ensures failed { IfErr result (λ fault. (fault ≡ Fault.WriteOutput) × FailsToPublish
+    ensures failed { IfErr result (λ fault. (fault ≡ Fault.WriteOutput)
+        × ((cause : Fault) × FailsToPublish
         out.now signed.now.signature.items (number_line (codes "index") signed.now.index)
-        output.old output.new fault (W.events world.old) (W.events world.new)) }
+        output.old output.new cause (W.events world.old) (W.events world.new))) }
     ensures follows { Follows (W.memory world.old) (W.events world.old)
         (W.memory world.new) (W.events world.new) }
 {
@@ -170,7 +163,7 @@ fn sign_by_state<W: World>(
     lock: &W::Lock,
     job: &Job,
     kept: Option<&[u8]>,
-) -> Result<Signed, Fault>
+) -> Result<KeptSignature, Fault>
     ensures logged { IfOk result (λ signed.
         LogsSigned (option_map (λ text. text.now) kept.entry) job.now.c job.now.message.items
         signed.index signed.signature.items (W.events world.old) (W.events world.new)) }
@@ -192,7 +185,7 @@ fn sign_by_state<W: World>(
 }
 
 /// Keeps the trees that signed, where what was read did not serve the index as it was.
-fn keep_signers<W: World>(alloc: Global, world: &mut W, lock: &W::Lock, signed: &Signed)
+fn keep_signers<W: World>(alloc: Global, world: &mut W, lock: &W::Lock, signed: &KeptSignature)
     ensures logged { LogsKeeping signed.now.trees (W.events world.old) (W.events world.new) }
     ensures follows { Follows (W.memory world.old) (W.events world.old)
         (W.memory world.new) (W.events world.new) }
@@ -203,7 +196,8 @@ fn keep_signers<W: World>(alloc: Global, world: &mut W, lock: &W::Lock, signed: 
 }
 
 /// Signs a job with the next index of a book (RFC 8554, 6.2). The use of the index is stored before
-/// the signature is made. `Book` where no index was reserved; `OutOfMemory` where memory is refused
+/// the signature is made, by nodes that were kept where they sign what is accepted, and else by trees
+/// that are computed. `Book` where no index was reserved; `OutOfMemory` where memory is refused
 /// after that, and the index stays used. A crash at any moment leaves what it could leave before,
 /// or the image that counts the index.
 fn sign_next<S: StateStore>(
@@ -211,7 +205,7 @@ fn sign_next<S: StateStore>(
     book: &mut Book<S>,
     job: &Job,
     kept: Option<&[u8]>,
-) -> Result<Signed, NextFault>
+) -> Result<KeptSignature, NextFault>
     ensures index { IfOk result (λ signed. signed.index ≡ counter book.old) }
     ensures reserved { IfOk result (λ _. GivesOne book.old book.new) }
     ensures failed { IfErr result (λ fault. SignsNothing book.old fault book.new) }
@@ -220,47 +214,10 @@ fn sign_next<S: StateStore>(
         job.now.c job.now.message.items signed.signature.items signed.trees) }
 {
     let lease = book.reserve(1).map_err(|fault| NextFault::Book(fault))?;
-    let signed = sign_lease(resources, lease, job, kept);
-    match signed {
-        Ok(signed) => Ok(signed),
-        Err(_) => Err(NextFault::OutOfMemory),
-    }
-}
-
-/// Signs a job with the index of a lease of one, by nodes that were kept where they sign what is
-/// accepted, and else by trees that are computed. `OutOfMemory` where memory is refused; the index
-/// is spent in any case.
-fn sign_lease(
-    resources: &Resources<impl Threads + Sync, impl Progress>,
-    lease: Lease,
-    job: &Job,
-    kept: Option<&[u8]>,
-) -> Result<Signed, OutOfMemory>
-    requires { lease.len ≡ 1 }
-    ensures index { IfOk result (λ signed. signed.index ≡ lease.start) }
-    ensures signature { IfOk result (λ signed.
-        IsSignedByText (option_map (λ text. text.now) kept.entry) lease.key signed.index
-        job.now.c job.now.message.items signed.signature.items signed.trees) }
-{
-    // for the proof: the length's clause bounds the index.
-    let _len = lease.len();
-    let (key, index) = (lease.key(), lease.start());
     let message = job.message.as_slice();
-    let signed = sign_by_text(
-        resources.rt,
-        resources.alloc,
-        key,
-        index,
-        &job.c,
-        message,
-        kept,
-        resources.progress,
-    );
-    lease.end();
-    let KeptSignature { signature, trees } = signed?;
-    Ok(Signed {
-        index,
-        signature,
-        trees,
-    })
+    let (rt, alloc) = (resources.rt, resources.alloc);
+    match sign_by_text(rt, alloc, lease, &job.c, message, kept, resources.progress) {
+        Ok(signed) => Ok(signed),
+        Err(OutOfMemory) => Err(NextFault::OutOfMemory),
+    }
 }

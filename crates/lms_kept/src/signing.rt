@@ -1,32 +1,59 @@
 //! A message signed by kept nodes, or by trees that are computed.
-ghost use Rattle.std.specs.Prelude.{ℕ, ◌<◌, List, IfNone, IfOk, IfSome, Option, Some, option_map};
+ghost use Rattle.std.specs.Prelude.{ℕ, ◌≡◌, ◌<◌, List, IfNone, IfOk, IfSome, Option, Some, option_map};
 ghost use Rattle.lms_spec.specs.Hss.{capacity_of};
 ghost use Rattle.lms_hss.specs.Keys.{hss_key_of};
 ghost use Rattle.lms_kept.specs.Signed.{AreTreesOf, IsNotRight, IsSignedByText};
 
 use crate::kept_trees::KeptTrees;
+use lms_book::Lease;
 use lms_hss::{HssKey, Progress};
 use lms_params::{HASH_LEN, OutOfMemory};
 use std::alloc::Global;
 use std::thread::Threads;
 
-/// An HSS signature. `trees` are those that made it, where the bytes that were given do not serve
-/// its index: they are to be kept instead.
+/// An HSS signature, and its index. `trees` are those that made it, where the bytes that were given
+/// do not serve its index: they are to be kept instead.
 #[derive(Drop)]
 pub struct KeptSignature {
+    pub index: u64,
     pub signature: Vec<u8>,
     pub trees: Option<KeptTrees>,
 }
 
-/// Signs a message by an index of a key, under the randomizer `c` (RFC 8554, 6.2). It signs by the
-/// nodes in `text`, if these are bytes of the key and the signature is accepted under the root in
-/// them. Else, or without `text`, it signs by trees that are computed. The leaves that are computed
-/// are reported to `progress`, and reported anew where the nodes in `text` turn out to be wrong.
+/// Signs a message by the index of a lease of one, under the randomizer `c` (RFC 8554, 6.2), and
+/// spends the lease. It signs by the nodes in `text`, if these are bytes of the key and the signature
+/// is accepted under the root in them. Else, or without `text`, it signs by trees that are computed.
+/// The leaves that are computed are reported to `progress`, and reported anew where the nodes in
+/// `text` turn out to be wrong.
 ///
 /// Whatever `text` has, the one-time signature of the message is RFC 8554's, and no one-time key of
-/// an upper level signs what came from there. Each index must sign one message only, which is not
-/// checked here. `OutOfMemory` where memory is refused, also for the nodes of `text`.
+/// an upper level signs what came from there. `OutOfMemory` where memory is refused, also for the
+/// nodes of `text`: the index stays used.
 pub fn sign_by_text(
+    rt: &(impl Threads + Sync),
+    alloc: Global,
+    lease: Lease,
+    c: &[u8; HASH_LEN],
+    msg: &[u8],
+    text: Option<&[u8]>,
+    progress: &impl Progress,
+) -> Result<KeptSignature, OutOfMemory>
+    requires { lease.len ≡ 1 }
+    ensures index { IfOk result (λ s. s.index ≡ lease.start) }
+    ensures signature { IfOk result (λ s.
+        IsSignedByText (option_map (λ text. text.now) text.entry) lease.key s.index
+        c.now msg.now s.signature.items s.trees) }
+{
+    // for the proof: the length's clause bounds the index.
+    let _len = lease.len();
+    let (key, index) = (lease.key(), lease.start());
+    let signed = sign_at(rt, alloc, key, index, c, msg, text, progress);
+    lease.end();
+    signed
+}
+
+/// Signs a message by an index of a key.
+fn sign_at(
     rt: &(impl Threads + Sync),
     alloc: Global,
     key: HssKey,
@@ -37,7 +64,8 @@ pub fn sign_by_text(
     progress: &impl Progress,
 ) -> Result<KeptSignature, OutOfMemory>
     requires { index < capacity_of (hss_key_of key) }
-    ensures { IfOk result (λ s.
+    ensures index { IfOk result (λ s. s.index ≡ index) }
+    ensures signature { IfOk result (λ s.
         IsSignedByText
         (option_map (λ text. text.now) text.entry) key index c.now msg.now s.signature.items
         s.trees) }
@@ -62,7 +90,8 @@ fn sign_anew(
     progress: &impl Progress,
 ) -> Result<KeptSignature, OutOfMemory>
     requires { index < capacity_of (hss_key_of key) }
-    ensures { IfOk result (λ s.
+    ensures index { IfOk result (λ s. s.index ≡ index) }
+    ensures signature { IfOk result (λ s.
         (text : Option (List ℕ)) → IsNotRight text key
         → IsSignedByText text key index c.now msg.now s.signature.items s.trees) }
 {
@@ -72,6 +101,7 @@ fn sign_anew(
         unreachable!()
     };
     Ok(KeptSignature {
+        index,
         signature,
         trees: Some(trees),
     })
@@ -90,6 +120,7 @@ fn sign_by_nodes(
     progress: &impl Progress,
 ) -> Result<Option<KeptSignature>, OutOfMemory>
     requires { index < capacity_of (hss_key_of key.now) }
+    ensures index { IfOk result (λ signed. IfSome signed (λ s. s.index ≡ index)) }
     ensures signed { IfOk result (λ signed.
         IfSome signed (λ s.
         IsSignedByText (Some text.now) key.now index c.now msg.now s.signature.items s.trees)) }
@@ -102,6 +133,7 @@ fn sign_by_nodes(
         return Ok(None);
     };
     Ok(Some(KeptSignature {
+        index,
         signature,
         trees: if held { None } else { Some(trees) },
     }))

@@ -4,7 +4,7 @@ ghost use Rattle.std.specs.Prelude.{◌≡◌, IfOk, IfSome};
 mod texts;
 mod wrong;
 
-use lms_fixtures::Sums;
+use lms_fixtures::{Sums, lease_of};
 use lms_hss::{Forest, HssKey, KeyFault, Levels, verify};
 use lms_kept::{KeptSignature, KeptTrees, sign_by_text};
 use lms_params::{LmsType, OtsType, OutOfMemory};
@@ -193,17 +193,16 @@ fn check_by_text(
     text: Option<&[u8]>,
     keeps: bool,
 ) -> Result<KeptSignature, Fail> {
-    assert!(rt; g < key.capacity());
     let signed = sign_by_text(
         rt,
         rt.alloc(),
-        key,
-        g,
+        lease_of(rt.alloc(), key, g, 1)?,
         &RANDOMIZER,
         b"abc",
         text,
         &Sums::new(),
     )?;
+    assert!(rt; signed.index == g);
     assert!(rt; signed.signature == expected(rt, key, g)?, "{g}");
     assert!(rt; signed.trees.is_some() == keeps, "{g}");
     Ok(signed)
@@ -302,8 +301,7 @@ fn signs_after_refused_memory(rt: HostRuntime) -> Result<(), Fail> {
     let by_text = match sign_by_text(
         &rt,
         rt.alloc(),
-        key,
-        32,
+        lease_of(rt.alloc(), key, 32, 1)?,
         &RANDOMIZER,
         b"abc",
         Some(&text),
@@ -313,8 +311,7 @@ fn signs_after_refused_memory(rt: HostRuntime) -> Result<(), Fail> {
         Err(OutOfMemory) => sign_by_text(
             &rt,
             rt.alloc(),
-            key,
-            32,
+            lease_of(rt.alloc(), key, 32, 1)?,
             &RANDOMIZER,
             b"abc",
             Some(&text),

@@ -1,6 +1,8 @@
 //! How far a run that computes trees is, printed to standard error.
 #![tactic(auto)]
 
+ghost use Rattle.std.specs.Prelude.{◌≡◌};
+
 use lms_tree::Progress;
 use std::io;
 use std::io::{Print, Write};
@@ -113,12 +115,16 @@ pub struct Wiping<'m, 'r, C, P, W> {
 }
 
 impl<'m, 'r, C, P, W> Wiping<'m, 'r, C, P, W> {
-    pub fn new(meter: &'m Meter<'r, C, P>, writer: W) -> Self {
+    pub fn new(meter: &'m Meter<'r, C, P>, writer: W) -> Self
+        ensures { result.writer ≡ writer }
+    {
         Wiping { meter, writer }
     }
 }
 
 impl<'m, 'r, C: Clock, P: Print, W: Write> Write for Wiping<'m, 'r, C, P, W> {
+    ghost contents = { λ wiping. W.contents wiping.writer };
+
     fn write(&mut self, buf: &[u8]) -> io::Result<usize> {
         self.meter.wipe();
         self.writer.write(buf)

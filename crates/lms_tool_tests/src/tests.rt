@@ -6,6 +6,8 @@ mod kept;
 mod lines;
 mod memory;
 mod meter;
+mod recorded;
+mod replays;
 mod states;
 
 use lms_cli::run::run;

@@ -5,16 +5,16 @@ use Rattle.std.specs.List.{find}
 use Rattle.std.specs.Str.{bytes_eq}
 use Rattle.std.proofs.lemmas.Slice.Eq.{bytes_eq-Decides}
 use Rattle.lms_world.specs.Names.{Bytes}
-use Rattle.std.specs.Prelude.{◌⊎◌, IfErr, IfOk, Ok, Err}
+use Rattle.std.specs.Prelude.{◌⊎◌, IfErr, IfOk, Ok, Err, if◌then◌else◌, is_ok}
 use Rattle.std.specs.Global.{Vec}
-use Rattle.lms_world.specs.Files.{Entry, answer_at, answer_of, bytes_or_fault, entry_answer, held_in}
-use Rattle.lms_world.specs.Events.{Read, read_of}
+use Rattle.lms_world.specs.Files.{Entry, answer_at, answer_of, entry_answer, held_in}
+use Rattle.lms_world.specs.Events.{Read, Written, NodesWritten, Writing, read_of}
 use Rattle.lms_world.specs.declared.fault.WorldFault.TheVariants.{OutOfMemory}
 use Rattle.lms_world.specs.declared.memory.MemoryWorld.{MemoryWorld}
-use Rattle.lms_world.specs.Held.{Acts, Answers, answer_in}
+use Rattle.lms_world.specs.Held.{Acts, Answers, MayRefuseNodes, answer_in, with_file, with_nodes_kept}
 use Rattle.lms_world.specs.declared.fault.WorldFault.{WorldFault}
 
-answer_of_first : (is : Bool) (entry : Entry) (rest : Option Entry) → entry_answer (cond is (Some entry) rest) ≡ cond is (bytes_or_fault entry.1) (entry_answer rest)
+answer_of_first : (is : Bool) (entry : Entry) (rest : Option Entry) → entry_answer (cond is (Some entry) rest) ≡ cond is (read_of entry.1) (entry_answer rest)
 answer_of_first true entry rest = refl
 answer_of_first false entry rest = refl
 
@@ -24,7 +24,7 @@ pub answer_found : (entries : List Entry) (name : Bytes)
 answer_found [] name = refl
 answer_found (entry ∷ older) name =
     answer_of_first (bytes_eq (string_bytes entry.0) name) entry (find (λ other. bytes_eq (string_bytes other.0) name) older)
-    ∙ ap (λ (answer : Result (List ℕ) WorldFault). cond (bytes_eq (string_bytes entry.0) name) (bytes_or_fault entry.1) answer) (answer_found older name)
+    ∙ ap (λ (answer : Result (List ℕ) WorldFault). cond (bytes_eq (string_bytes entry.0) name) (read_of entry.1) answer) (answer_found older name)
 
 -- the newest entry counts
 pub answer_first : (name : Bytes) (answer : Result (List ℕ) WorldFault) (files : Answers) → answer_in ((name, answer) ∷ files) name ≡ answer
@@ -45,3 +45,15 @@ pub reads_as : (world : MemoryWorld) (name : Bytes) (result : Result (Vec ℕ) W
     → IfErr result (λ fault. (answer_of world name ≡ Err fault) ⊎ (fault ≡ OutOfMemory)) → Acts (Read name (read_of result)) (held_in world) (held_in world)
 reads_as world name (Ok bytes) gives refused = (refl, sym (answer_found world.entries.items name) ∙ gives)
 reads_as world name (Err fault) gives refused = (refl, ⊎_elim (λ is. inl (sym (answer_found world.entries.items name) ∙ is)) inr refused)
+
+-- a write to a world in memory
+pub writes_as : (old new : MemoryWorld) (name bytes : Bytes) (answer : Writing) → held_in new ≡ (if is_ok answer then with_file name bytes (held_in old) else held_in old)
+    → IfErr answer (λ fault. (answer_of old name ≡ Err fault) ⊎ (fault ≡ OutOfMemory)) → Acts (Written name bytes answer) (held_in old) (held_in new)
+writes_as old new name bytes (Ok done) held refused = held
+writes_as old new name bytes (Err fault) held refused = (held, ⊎_elim (λ is. inl (sym (answer_found old.entries.items name) ∙ is)) inr refused)
+
+-- a write of nodes
+pub keeps_as : (old new : MemoryWorld) (text : List ℕ) (answer : Writing) → held_in new ≡ (if is_ok answer then with_nodes_kept text (held_in old) else held_in old)
+    → IfErr answer (MayRefuseNodes (held_in old)) → Acts (NodesWritten text answer) (held_in old) (held_in new)
+keeps_as old new text (Ok done) held refused = held
+keeps_as old new text (Err fault) held refused = (held, refused)

@@ -8,7 +8,7 @@ abbrev pub event_of : LoggedCall → Event
 event_of (logged.Given name bytes) = Read name.now (Ok bytes.now)
 event_of (logged.Refused name fault) = Read name.now (Err fault)
 event_of (logged.NotOpened name fault) = Opened name.now (Err fault)
-event_of (logged.Written name bytes done) = Written name.now bytes.now done
+event_of (logged.Written name bytes answer) = Written name.now bytes.now answer
 event_of (logged.Acquired name) = Locked name.now Acquired
 event_of (logged.InUse name) = Locked name.now InUse
 event_of (logged.NoLock name) = Locked name.now NoMemory
@@ -17,5 +17,5 @@ event_of (logged.Asked there) = Asked there
 event_of logged.NotTaken = Taken None
 event_of (logged.NodesGiven text) = NodesRead (Some text.now)
 event_of logged.NodesRefused = NodesRead None
-event_of (logged.NodesWritten text done) = NodesWritten text.now done
+event_of (logged.NodesWritten text answer) = NodesWritten text.now answer
 event_of (logged.Printed bytes) = Printed bytes.now

@@ -1,5 +1,5 @@
 -- The calls that were made on a world, one after another.
-use Rattle.std.specs.Prelude.{ℕ, List, [], ◌∷◌, ◌++◌, Bool, true, false, Option, Some, None, Result, Ok, Err}
+use Rattle.std.specs.Prelude.{ℕ, List, [], ◌∷◌, ◌++◌, Bool, Option, Some, None, Result, Ok, Err}
 use Rattle.std.specs.Global.{Vec}
 use Rattle.lms_book.specs.Stops.{StoreView}
 use Rattle.lms_world.specs.Names.{Bytes}
@@ -10,6 +10,10 @@ pub data Locking : Type 0 where
   Acquired : Locking
   InUse : Locking
   NoMemory : Locking
+
+-- what a write comes to
+abbrev pub Writing : Type 0
+Writing = Result (Unit {0}) WorldFault
 
 -- what contracts see of a store that is taken out, and whether its next read may fail
 pub record Taking : Type 0 where
@@ -22,7 +26,7 @@ pub data Event : Type 0 where
   Read : (name : Bytes) (answer : Result (List ℕ) WorldFault) → Event
   Opened : (name : Bytes) (answer : Result (Option (List ℕ)) WorldFault) → Event
   -- bytes were written to a file
-  Written : (name : Bytes) (bytes : List ℕ) (done : Bool) → Event
+  Written : (name : Bytes) (bytes : List ℕ) (answer : Writing) → Event
   -- a state was locked, and its lock handed back
   Locked : (name : Bytes) (answer : Locking) → Event
   Unlocked : Event
@@ -33,7 +37,7 @@ pub data Event : Type 0 where
   PutBack : (store : StoreView) → Event
   -- what is kept of nodes beside the state was read or written
   NodesRead : (text : Option (List ℕ)) → Event
-  NodesWritten : (text : List ℕ) (done : Bool) → Event
+  NodesWritten : (text : List ℕ) (answer : Writing) → Event
   -- from here on an output is printed to, to which these bytes were printed before
   Printing : (before : List ℕ) → Event
   -- of a printer's own log alone: its stream took these bytes
@@ -43,11 +47,6 @@ pub data Event : Type 0 where
 abbrev pub after : List Event → List Event → List Event
 after [] log = log
 after (event ∷ later) log = after later (event ∷ log)
-
--- whether a call was done
-abbrev pub is_done : {T E : Type 0} → Result T E → Bool
-is_done (Ok given) = true
-is_done (Err fault) = false
 
 -- what a read comes to
 abbrev pub read_of : {E : Type 0} → Result (Vec ℕ) E → Result (List ℕ) E

@@ -1,25 +1,22 @@
 -- Files and a state in memory.
-use Rattle.std.specs.Prelude.{ℕ, ◌≡◌, ◌⊎◌, List, map, Bool, true, Option, Some, None, Result, Ok, Err, String, find, option_map, string_bytes}
+use Rattle.std.specs.Prelude.{ℕ, List, map, Bool, true, Option, Some, None, Result, Err, String, find, option_map, string_bytes}
 use Rattle.std.specs.Global.{Global, Vec}
 use Rattle.std.specs.Str.{bytes_eq}
 use Rattle.lms_book.specs.Memory.{MemoryState, cannot_read, held}
 use Rattle.lms_world.specs.Names.{Bytes}
+use Rattle.lms_world.specs.Events.{read_of}
 use Rattle.lms_world.specs.Held.{Answers, Held}
 use Rattle.lms_world.specs.declared.fault.WorldFault.{WorldFault}
-use Rattle.lms_world.specs.declared.fault.WorldFault.TheVariants.{Device, OutOfMemory}
+use Rattle.lms_world.specs.declared.fault.WorldFault.TheVariants.{Device}
 use Rattle.lms_world.specs.declared.memory.MemoryWorld.{MemoryWorld}
 
 -- a name, and what a read of it answers
 abbrev pub Entry : Type 0
 Entry = String Global × Result (Vec ℕ) WorldFault
 
-abbrev pub bytes_or_fault : Result (Vec ℕ) WorldFault → Result (List ℕ) WorldFault
-bytes_or_fault (Ok bytes) = Ok bytes.items
-bytes_or_fault (Err fault) = Err fault
-
 abbrev pub entry_answer : Option Entry → Result (List ℕ) WorldFault
 entry_answer None = Err Device
-entry_answer (Some entry) = bytes_or_fault entry.1
+entry_answer (Some entry) = read_of entry.1
 
 -- the entry of the name that counts: the first
 abbrev pub entry_of : MemoryWorld → List ℕ → Option Entry
@@ -51,6 +48,10 @@ is_used_elsewhere world = world.in_use
 abbrev pub nodes_in : MemoryWorld → Option (List ℕ)
 nodes_in world = option_map (λ nodes. nodes.items) world.nodes
 
+-- by which fault a write of nodes fails, where it does
+abbrev pub nodes_fault_in : MemoryWorld → Option WorldFault
+nodes_fault_in world = world.nodes_fault
+
 -- the world with this store for its state
 abbrev pub with_store : MemoryState → MemoryWorld → MemoryWorld
 with_store store world = record world { state = Some store }
@@ -69,7 +70,7 @@ with_failing_nodes fault world = record world { nodes_fault = Some fault }
 
 -- an entry, as contracts see it
 abbrev pub answer_at : Entry → Bytes × Result (List ℕ) WorldFault
-answer_at entry = (string_bytes entry.0, bytes_or_fault entry.1)
+answer_at entry = (string_bytes entry.0, read_of entry.1)
 
 -- what reads of files answer
 abbrev pub files_in : MemoryWorld → Answers
@@ -84,4 +85,5 @@ held_in world =
       may_fail = state_fails (store_in world);
       in_use = is_used_elsewhere world;
       nodes = nodes_in world;
+      nodes_fault = nodes_fault_in world;
     }

@@ -1,9 +1,9 @@
 -- What a world in memory holds, and what each call makes of it. Of a disk nothing is known.
 use Rattle.std.specs.Prelude.{ℕ, ◌≡◌, ◌⊎◌, List, [], ◌∷◌, ◌++◌, Bool, true, false, if◌then◌else◌, Option, Some, None, Result, Ok, Err}
 use Rattle.std.specs.Str.{bytes_eq}
-use Rattle.lms_book.specs.Stops.{Texts, only}
+use Rattle.lms_book.specs.Stops.{Texts}
 use Rattle.lms_world.specs.Names.{Bytes}
-use Rattle.lms_world.specs.Events.{Event, Locking, Acquired, InUse, NoMemory, Read, Opened, Written, Locked, Unlocked, Asked, Taken, PutBack, NodesRead, NodesWritten, Printing, Printed}
+use Rattle.lms_world.specs.Events.{Event, Acquired, InUse, NoMemory, Read, Opened, Written, Locked, Unlocked, Asked, Taken, PutBack, NodesRead, NodesWritten, Printing, Printed}
 use Rattle.lms_world.specs.declared.fault.WorldFault.{WorldFault}
 use Rattle.lms_world.specs.declared.fault.WorldFault.TheVariants.{Device, OutOfMemory}
 
@@ -20,8 +20,9 @@ pub record Held : Type 0 where
   pub may_fail : Bool
   -- whether another program has the lock
   pub in_use : Bool
-  -- what is kept of nodes
+  -- what is kept of nodes, and by which fault a write of them fails
   pub nodes : Option (List ℕ)
+  pub nodes_fault : Option WorldFault
 
 -- what is known of a world's files and states: of a disk nothing
 abbrev pub Memory : Type 0
@@ -32,9 +33,13 @@ abbrev pub answer_in : Answers → Bytes → Result (List ℕ) WorldFault
 answer_in [] name = Err Device
 answer_in (entry ∷ older) name = if bytes_eq entry.0 name then entry.1 else answer_in older name
 
--- a read of the name may be refused by this fault: by its answer, or since memory ran out
+-- a read or a write of the name may be refused by this fault: by its answer, or since memory ran out
 abbrev pub MayRefuse : Held → Bytes → WorldFault → Type 0
 MayRefuse held name fault = (answer_in held.files name ≡ Err fault) ⊎ (fault ≡ OutOfMemory)
+
+-- the same of a write of nodes
+abbrev pub MayRefuseNodes : Held → WorldFault → Type 0
+MayRefuseNodes held fault = (held.nodes_fault ≡ Some fault) ⊎ (fault ≡ OutOfMemory)
 
 -- there is a state
 abbrev pub is_there : Texts → Bool
@@ -58,8 +63,8 @@ Acts (Opened name (Ok (Some bytes))) old new =
     (new ≡ old) × (answer_in old.files name ≡ Ok bytes)
 Acts (Opened name (Ok None)) old new = ⊥
 Acts (Opened name (Err fault)) old new = (new ≡ old) × MayRefuse old name fault
-Acts (Written name bytes true) old new = new ≡ with_file name bytes old
-Acts (Written name bytes false) old new = new ≡ old
+Acts (Written name bytes (Ok done)) old new = new ≡ with_file name bytes old
+Acts (Written name bytes (Err fault)) old new = (new ≡ old) × MayRefuse old name fault
 Acts (Locked name Acquired) old new = (new ≡ old) × (old.in_use ≡ false)
 Acts (Locked name InUse) old new = (new ≡ old) × (old.in_use ≡ true)
 Acts (Locked name NoMemory) old new = new ≡ old
@@ -72,8 +77,8 @@ Acts (Taken None) old new = new ≡ old
 Acts (PutBack store) old new = (may_fail : Bool) × (new ≡ with_state store.now may_fail old)
 Acts (NodesRead (Some text)) old new = (new ≡ old) × (old.nodes ≡ Some text)
 Acts (NodesRead None) old new = new ≡ old
-Acts (NodesWritten text true) old new = new ≡ with_nodes_kept text old
-Acts (NodesWritten text false) old new = new ≡ old
+Acts (NodesWritten text (Ok done)) old new = new ≡ with_nodes_kept text old
+Acts (NodesWritten text (Err fault)) old new = (new ≡ old) × MayRefuseNodes old fault
 Acts (Printing before) old new = new ≡ old
 Acts (Printed bytes) old new = new ≡ old
 

@@ -1,5 +1,5 @@
 -- What a world in memory holds after calls, by the calls alone.
-use Rattle.std.specs.Prelude.{ℕ, ◌≡◌, List, [], ◌∷◌, ◌++◌, true, Option, Some, Ok}
+use Rattle.std.specs.Prelude.{ℕ, ◌≡◌, List, [], ◌∷◌, ◌++◌, Option, Some, Ok}
 use Rattle.lms_book.specs.Stops.{Texts}
 use Rattle.lms_world.specs.Events.{Event, NodesWritten, PutBack, Taken, Written}
 use Rattle.lms_world.specs.Held.{Answers, Follows, Held}
@@ -7,7 +7,7 @@ use Rattle.lms_world.specs.Held.{Answers, Follows, Held}
 -- the files, the newest call first: what was written, over what there was
 abbrev pub files_after : List Event → Answers → Answers
 files_after [] files = files
-files_after (Written name bytes true ∷ earlier) files = (name, Ok bytes) ∷ files_after earlier files
+files_after (Written name bytes (Ok done) ∷ earlier) files = (name, Ok bytes) ∷ files_after earlier files
 files_after (other ∷ earlier) files = files_after earlier files
 
 -- the state: none while its store is out, and then what that leaves
@@ -20,13 +20,14 @@ state_after (other ∷ earlier) state = state_after earlier state
 -- what is kept of nodes
 abbrev pub nodes_after : List Event → Option (List ℕ) → Option (List ℕ)
 nodes_after [] nodes = nodes
-nodes_after (NodesWritten text true ∷ earlier) nodes = Some text
+nodes_after (NodesWritten text (Ok done) ∷ earlier) nodes = Some text
 nodes_after (other ∷ earlier) nodes = nodes_after earlier nodes
 
 abbrev pub HoldsAfter : List Event → Held → Held → Type 0
 HoldsAfter calls old new =
     (new.files ≡ files_after calls old.files) × (new.state ≡ state_after calls old.state)
     × (new.nodes ≡ nodes_after calls old.nodes) × (new.in_use ≡ old.in_use)
+    × (new.nodes_fault ≡ old.nodes_fault)
 
 -- a world in memory that followed its log holds what that says
 abbrev pub HoldsWhatIsLogged : Type 0

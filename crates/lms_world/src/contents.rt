@@ -22,8 +22,11 @@ pub trait Taker {
 
 /// A file that was opened to be read.
 pub trait Contents {
-    // The bytes that it holds, where that is known.
+    // The bytes that it holds, where that is known: it can be read then.
     ghost holds: { Self → Option (List ℕ) };
+
+    // What it may hand over.
+    ghost may_give: { Self → List ℕ → Type 0 };
 
     /// Hands all of its bytes over, one piece after another. It takes no memory.
     ///
@@ -32,6 +35,6 @@ pub trait Contents {
     fn hand_over<T: Taker>(self, taker: &mut T) -> Result<(), WorldFault>
         ensures handed { OnOk result
             ((bytes : List ℕ) × IfSome (holds self) (λ held. bytes ≡ held)
-            × T.after taker.old bytes taker.new) }
+            × may_give self bytes × T.after taker.old bytes taker.new) }
         ensures refused { IfErr result (λ _. holds self ≡ None) };
 }

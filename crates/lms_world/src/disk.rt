@@ -55,6 +55,9 @@ where
 
     ghost memory = { λ _. None };
 
+    // All that was left in a file, where that is known.
+    ghost may_read = { λ bytes. (file : R.File) × IfSome (R.File.remaining file) (λ rest. bytes ≡ rest) };
+
     fn read(&mut self, alloc: Global, name: &str) -> Result<Vec<u8>, WorldFault> {
         let answer = read_whole(self.files, alloc, name).map_err(|error| fault_of(&error));
         match &answer {
@@ -89,8 +92,11 @@ where
 
     fn write(&mut self, name: &str, bytes: &[u8]) -> Result<(), WorldFault> {
         let answer = fs::write(self.files, name, bytes).map_err(|error| fault_of(&error));
-        let done = answer.is_ok();
-        self.log = self.log.and(&Call::Written { name, bytes, done });
+        self.log = self.log.and(&Call::Written {
+            name,
+            bytes,
+            answer,
+        });
         answer
     }
 
@@ -171,8 +177,7 @@ where
         let answer = lock
             .write_nodes(self.files, alloc, text)
             .map_err(|error| fault_of(&error));
-        let done = answer.is_ok();
-        self.log = self.log.and(&Call::NodesWritten { text, done });
+        self.log = self.log.and(&Call::NodesWritten { text, answer });
         answer
     }
 
@@ -189,6 +194,9 @@ pub struct DiskContents<F> {
 
 impl<F: Read + Drop> Contents for DiskContents<F> {
     ghost holds = { λ _. None };
+
+    // All that was left in the file, where that is known.
+    ghost may_give = { λ contents bytes. IfSome (F.remaining contents.file) (λ rest. bytes ≡ rest) };
 
     fn hand_over<T: Taker>(self, taker: &mut T) -> Result<(), WorldFault> {
         let mut file = self.file;
@@ -214,7 +222,10 @@ fn hand_blocks<F: Read, T: Taker>(file: &mut F, taker: &mut T) -> io::Result<()>
 }
 
 /// The bytes of a file, whole.
-fn read_whole<R: Files>(files: &R, alloc: Global, path: &str) -> io::Result<Vec<u8>> {
+fn read_whole<R: Files>(files: &R, alloc: Global, path: &str) -> io::Result<Vec<u8>>
+    ensures { IfOk result (λ bytes.
+        (file : R.File) × IfSome (R.File.remaining file) (λ rest. bytes.items ≡ rest)) }
+{
     let mut file = fs::open(files, path)?;
     let size = file.metadata()?.len() as usize;
     read_sized(alloc, &mut file, size)

@@ -44,7 +44,7 @@ pub(crate) enum Call<'a> {
     Written {
         name: &'a str,
         bytes: &'a [u8],
-        done: bool,
+        answer: Result<(), WorldFault>,
     },
     Acquired {
         name: &'a str,
@@ -66,7 +66,7 @@ pub(crate) enum Call<'a> {
     NodesRefused,
     NodesWritten {
         text: &'a [u8],
-        done: bool,
+        answer: Result<(), WorldFault>,
     },
     Printed {
         bytes: &'a [u8],

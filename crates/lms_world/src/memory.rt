@@ -1,8 +1,9 @@
 //! Files and a state in memory.
 ghost use Rattle.std.specs.Prelude.{ℕ, [], ◌≡◌, ◌≤◌, ◌⊎◌, ◌∷◌, List, IfErr, IfOk, IfSome, OnErr, OnOk, Ok, Err, None, Some, false, if◌then◌else◌, is_ok, length, option_map};
 ghost use Rattle.lms_book.specs.Memory.{cannot_read, held};
+ghost use Rattle.lms_world.specs.Events.{read_of};
 ghost use Rattle.lms_world.specs.Held.{answer_in, is_there, with_file, with_nodes_kept};
-ghost use Rattle.lms_world.specs.Files.{answer_of, bytes_or_fault, entry_of, files_in, held_in, is_used_elsewhere, nodes_in, state_fails, state_text, store_in, used_elsewhere, with_failing_nodes, with_nodes, with_store};
+ghost use Rattle.lms_world.specs.Files.{answer_of, entry_of, files_in, held_in, is_used_elsewhere, nodes_fault_in, nodes_in, state_fails, state_text, store_in, used_elsewhere, with_failing_nodes, with_nodes, with_store};
 
 use crate::contents::{Contents, Taker};
 use crate::fault::WorldFault;
@@ -45,6 +46,8 @@ pub struct MemoryContents {
 
 impl Contents for MemoryContents {
     ghost holds = { λ contents. Some contents.bytes.items };
+
+    ghost may_give = { λ contents bytes. bytes ≡ contents.bytes.items };
 
     /// In one piece.
     fn hand_over<T: Taker>(self, taker: &mut T) -> Result<(), WorldFault> {
@@ -128,7 +131,7 @@ impl MemoryWorld {
 
     fn put(&mut self, name: &str, answer: Result<Vec<u8>, WorldFault>) -> Result<(), AllocError>
         ensures files { files_in self.new ≡ (if is_ok result
-            then (name.now, bytes_or_fault answer) ∷ files_in self.old else files_in self.old) }
+            then (name.now, read_of answer) ∷ files_in self.old else files_in self.old) }
         ensures others { self.new ≡ record self.old { entries = self.new.entries } }
     {
         let name = String::from_str(self.alloc, name)?;
@@ -162,6 +165,8 @@ impl MemoryWorld {
     fn set(&mut self, name: &str, bytes: &[u8]) -> Result<(), WorldFault>
         ensures held { held_in self.new ≡ (if is_ok result
             then with_file name.now bytes.now (held_in self.old) else held_in self.old) }
+        ensures refused { IfErr result (λ fault.
+            (answer_of self.old name.now ≡ Err fault) ⊎ (fault ≡ WorldFault.OutOfMemory)) }
         ensures uncalled { self.new.log ≡ self.old.log }
     {
         if let Some((_, Err(fault))) = self.entry(name) {
@@ -212,6 +217,8 @@ impl MemoryWorld {
     fn keep(&mut self, alloc: Global, text: &[u8]) -> Result<(), WorldFault>
         ensures held { held_in self.new ≡ (if is_ok result
             then with_nodes_kept text.now (held_in self.old) else held_in self.old) }
+        ensures refused { IfErr result (λ fault.
+            (nodes_fault_in self.old ≡ Some fault) ⊎ (fault ≡ WorldFault.OutOfMemory)) }
         ensures uncalled { self.new.log ≡ self.old.log }
     {
         if let Some(fault) = self.nodes_fault {
@@ -233,6 +240,8 @@ impl World for MemoryWorld {
     ghost events = { λ world. world.log };
 
     ghost memory = { λ world. Some (held_in world) };
+
+    ghost may_read = { λ _. Unit {0} };
 
     fn read(&mut self, alloc: Global, name: &str) -> Result<Vec<u8>, WorldFault> {
         let answer = self.copy_of(alloc, name);
@@ -267,8 +276,11 @@ impl World for MemoryWorld {
 
     fn write(&mut self, name: &str, bytes: &[u8]) -> Result<(), WorldFault> {
         let answer = self.set(name, bytes);
-        let done = answer.is_ok();
-        self.log = self.log.and(&Call::Written { name, bytes, done });
+        self.log = self.log.and(&Call::Written {
+            name,
+            bytes,
+            answer,
+        });
         answer
     }
 
@@ -330,8 +342,7 @@ impl World for MemoryWorld {
         text: &[u8],
     ) -> Result<(), WorldFault> {
         let answer = self.keep(alloc, text);
-        let done = answer.is_ok();
-        self.log = self.log.and(&Call::NodesWritten { text, done });
+        self.log = self.log.and(&Call::NodesWritten { text, answer });
         answer
     }
 

@@ -1,6 +1,6 @@
 //! What a world of files and states owes.
-ghost use Rattle.std.specs.Prelude.{◌≡◌, ◌≤◌, ◌∷◌, List, option_map, length, IfSome};
-ghost use Rattle.lms_world.specs.Events.{Event, Read, Opened, Written, Locked, Unlocked, Asked, PutBack, NodesRead, NodesWritten, Printing, is_done, locking_of, opening_of, read_of, taking_of};
+ghost use Rattle.std.specs.Prelude.{◌≡◌, ◌≤◌, ◌∷◌, ℕ, List, option_map, length, IfOk, IfSome};
+ghost use Rattle.lms_world.specs.Events.{Event, Read, Opened, Written, Locked, Unlocked, Asked, PutBack, NodesRead, NodesWritten, Printing, locking_of, opening_of, read_of, taking_of};
 ghost use Rattle.lms_world.specs.Held.{Does, Memory};
 
 use crate::contents::Contents;
@@ -30,13 +30,17 @@ pub trait World {
     // What is known of the files and the states: in memory all, of a disk nothing.
     ghost memory: { Self → Memory };
 
+    // What a read of a file may give.
+    ghost may_read: { List ℕ → Type 0 };
+
     /// The bytes of a file.
     ///
     /// `Device` where there is no such file or it can't be read, `OutOfMemory` where memory for its
     /// bytes was refused.
     fn read(&mut self, alloc: Global, name: &str) -> Result<Vec<u8>, WorldFault>
         ensures logged { events self.new ≡ Read name.now (read_of result) ∷ events self.old }
-        ensures acts { Does (Read name.now (read_of result)) (memory self.old) (memory self.new) };
+        ensures acts { Does (Read name.now (read_of result)) (memory self.old) (memory self.new) }
+        ensures given { IfOk result (λ bytes. may_read bytes.items) };
 
     /// Opens a file, whose bytes are then handed over piece by piece.
     ///
@@ -52,8 +56,8 @@ pub trait World {
     /// `Device` where it can't be written, `OutOfMemory` where memory for that was refused. After
     /// an error the file may be missing or cut short.
     fn write(&mut self, name: &str, bytes: &[u8]) -> Result<(), WorldFault>
-        ensures logged { events self.new ≡ Written name.now bytes.now (is_done result) ∷ events self.old }
-        ensures acts { Does (Written name.now bytes.now (is_done result)) (memory self.old) (memory self.new) };
+        ensures logged { events self.new ≡ Written name.now bytes.now result ∷ events self.old }
+        ensures acts { Does (Written name.now bytes.now result) (memory self.old) (memory self.new) };
 
     /// Locks the state of this name, without waiting. `None` where the lock is not available,
     /// `OutOfMemory` where memory for it was refused.
@@ -105,8 +109,8 @@ pub trait World {
         lock: &Self::Lock,
         text: &[u8],
     ) -> Result<(), WorldFault>
-        ensures logged { events self.new ≡ NodesWritten text.now (is_done result) ∷ events self.old }
-        ensures acts { Does (NodesWritten text.now (is_done result)) (memory self.old) (memory self.new) };
+        ensures logged { events self.new ≡ NodesWritten text.now result ∷ events self.old }
+        ensures acts { Does (NodesWritten text.now result) (memory self.old) (memory self.new) };
 
     /// Records what was printed to an output so far, before more is printed.
     fn begin_printing<O: Write>(&mut self, output: &Printer<O>)

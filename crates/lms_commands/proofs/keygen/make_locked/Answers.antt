@@ -1,11 +1,11 @@
-use Rattle.std.proofs.Common.{subst, subst₂, ap, codes, refl, Bool, List, ℕ, Some, true, false, ◌≡◌, ◌∷◌, ◌∙◌}
+use Rattle.std.proofs.Common.{subst, subst₂, ap, codes, refl, List, ℕ, Some, Ok, false, ◌≡◌, ◌∷◌, ◌∙◌}
 use Rattle.std.specs.Prelude.{IfErr, OnOk}
 use Rattle.std.proofs.lemmas.Result.{IfErr-weaker, on_ok_weaker}
 use Rattle.lms_spec.specs.Profile.{hss_public_key}
 use Rattle.lms_hss.specs.Keys.{hss_key_of}
 use Rattle.lms_hss.specs.declared.key.HssKey.{HssKey}
 use Rattle.lms_kept.specs.Ways.{Way}
-use Rattle.lms_world.specs.Events.{Asked, Written}
+use Rattle.lms_world.specs.Events.{Asked, Writing, Written}
 use Rattle.lms_world.specs.Names.{Bytes}
 use Rattle.lms_texts.specs.Descriptions.{number_line}
 use Rattle.lms_commands.specs.KeygenLogs.{AreGenuineTrees, StoresKey, WritesKey}
@@ -17,8 +17,8 @@ use Rattle.lms_commands.proofs.keygen.make_locked.Goals as goal
 -- the public key was written or not, once the key's state was stored and trees of it were kept
 module _ (key : HssKey) (public : Bytes) (trees : Way) (old asked stored kept : WorldCalls) (genuine : AreGenuineTrees key (Some trees))
     (asked_is : asked ≡ Asked false ∷ old) (stores : StoresKey key asked stored) (keeps : LogsKeeping (Some trees) stored kept) where
-  abbrev writes_so : (written : Bool) → WritesKey key public written old (Written public (hss_public_key (hss_key_of key)) written ∷ kept)
-  writes_so written = record {
+  abbrev writes_so : (answer : Writing) → WritesKey key public answer old (Written public (hss_public_key (hss_key_of key)) answer ∷ kept)
+  writes_so answer = record {
     trees = Some trees;
     genuine = genuine;
     until_stored = stored;
@@ -40,9 +40,9 @@ returns-clause-logged g c =
     on_ok_weaker c.publish.result
     (λ published. (
       record {
-        until_written = Written c.args.public.now public true ∷ kept;
+        until_written = Written c.args.public.now public (Ok tt) ∷ kept;
         writes = writes_so c.args.key c.args.public.now c.in_ok-trees.trees _ _ stored kept genuine
-            c.if-exists.ensures.logged c.in_ok-store_key.ensures.logged c.keep_trees.ensures.logged true;
+            c.if-exists.ensures.logged c.in_ok-store_key.ensures.logged c.keep_trees.ensures.logged (Ok tt);
         prints = published.0;
       },
       published.1,

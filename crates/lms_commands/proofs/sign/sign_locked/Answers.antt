@@ -1,8 +1,8 @@
-use Rattle.std.proofs.Common.{sym, subst, refl, inl, inr, ⊎_elim, ℕ, List, Option, Bool, true, false, ◌≡◌, ◌∷◌}
+use Rattle.std.proofs.Common.{sym, subst, refl, inl, inr, ⊎_elim, ℕ, List, Option, Ok, Err, ◌≡◌, ◌∷◌}
 use Rattle.std.proofs.lemmas.Result.{IfErr-weaker, on_ok_weaker}
-use Rattle.lms_world.specs.Events.{NodesRead, Written}
+use Rattle.lms_world.specs.Events.{NodesRead, Writing, Written}
 use Rattle.lms_world.specs.Names.{Bytes}
-use Rattle.lms_commands.specs.Logs.{WorldCalls}
+use Rattle.lms_commands.specs.Logs.{WorldCalls, write_cause}
 use Rattle.lms_commands.specs.SignLogs.{LogsNotSigned, LogsSigned, WritesSignature}
 use Rattle.lms_commands.proofs.Failing.{handed_on}
 use Rattle.lms_world.proofs.Following.{one_call, both_follow}
@@ -10,8 +10,8 @@ use Rattle.lms_commands.proofs.sign.sign_locked.Goals as goal
 
 module _ (random message : List ℕ) (out : Bytes) (nodes : Option (List ℕ)) (index : ℕ) (signature : List ℕ) (old asked signed : WorldCalls)
     (asked_is : asked ≡ NodesRead nodes ∷ old) (signs : LogsSigned nodes random message index signature asked signed) where
-  abbrev writes_so : (written : Bool) → WritesSignature random message out written old (Written out signature written ∷ signed)
-  writes_so written = record {
+  abbrev writes_so : (answer : Writing) → WritesSignature random message out answer old (Written out signature answer ∷ signed)
+  writes_so answer = record {
     nodes = nodes;
     index = index;
     signature = signature;
@@ -31,9 +31,9 @@ returns-clause-logged g c =
     on_ok_weaker c.deliver.result
     (λ published. (
       record {
-        until_written = Written c.args.out.now is.signature.items true ∷ signed;
+        until_written = Written c.args.out.now is.signature.items (Ok tt) ∷ signed;
         writes = writes_so job.c job.message.items c.args.out.now _ is.index is.signature.items _ asked signed
-            c.kept_text-kept.ensures.logged signs true;
+            c.kept_text-kept.ensures.logged signs (Ok tt);
         prints = published.0;
       },
       published.1,
@@ -55,12 +55,13 @@ returns-clause-log_failed g c =
       failed.0,
       ⊎_elim
           (λ (refused, calls, same). inl (
-            subst (λ (log : WorldCalls). WritesSignature job.c job.message.items c.args.out.now false old log)
-                (sym calls) (writes false),
+            write_cause failed.1.0,
+            subst (λ (log : WorldCalls). WritesSignature job.c job.message.items c.args.out.now (Err (write_cause failed.1.0)) old log)
+                (sym calls) (writes (Err (write_cause failed.1.0))),
             same,
           ))
-          (λ (at, calls, line). inr (record { until_written = _; writes = writes true; prints = calls }, line))
-          failed.1,
+          (λ (at, calls, line). inr (record { until_written = _; writes = writes (Ok tt); prints = calls }, line))
+          failed.1.1,
     ))
     c.deliver.ensures.failed
 

@@ -5,8 +5,8 @@ use Rattle.lms_hss.specs.Keys.{hss_key_of}
 use Rattle.lms_hss.specs.declared.key.HssKey.{HssKey}
 use Rattle.lms_kept.proofs.signing.sign_anew.Goals as goal
 
-pub returns : goal.returns
-returns g c =
+pub returns-clause-signature : goal.returns-clause-signature
+returns-clause-signature g c =
     let trees = c.in_ok-trees.ensures in
     let along = rw c.in-Some.is at c.in_ok-signature.ensures.along in
     let checked = rw c.in-Some.is at c.in_ok-signature.ensures.checked in

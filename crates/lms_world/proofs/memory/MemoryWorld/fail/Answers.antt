@@ -1,4 +1,4 @@
-use Rattle.std.proofs.Common.{◌≡◌, ◌∙◌, ◌∷◌, Result, Ok, Err, ap, rules}
+use Rattle.std.proofs.Common.{◌≡◌, ◌∙◌, ◌∷◌, Result, Ok, Err, ap}
 use Rattle.std.specs.Prelude.{ℕ, List, OnOk, if◌then◌else◌, is_ok}
 use Rattle.lms_world.specs.Held.{Answers, answer_in}
 use Rattle.lms_world.proofs.Answering.{answer_first}

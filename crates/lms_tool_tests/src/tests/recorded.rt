@@ -1,0 +1,123 @@
+//! A world that records the calls on it that change what it holds.
+use lms_book::MemoryStore;
+use lms_world::{OutOfMemory, Printer, World, WorldFault};
+use std::alloc::{AllocError, Global};
+use std::io::Write;
+
+/// What a world was called to hold.
+#[derive(Drop)]
+pub(super) enum Change {
+    File { name: String, bytes: Vec<u8> },
+    State { text: Vec<u8> },
+    Nodes { text: Vec<u8> },
+}
+
+/// Hands all calls on to a world, and records those that changed what it holds, where there is
+/// memory for that.
+#[derive(Drop)]
+pub(super) struct Recorded<W> {
+    alloc: Global,
+    pub(super) world: W,
+    pub(super) changes: Vec<Change>,
+}
+
+impl<W> Recorded<W> {
+    pub(super) fn new(alloc: Global, world: W) -> Self {
+        Recorded {
+            alloc,
+            world,
+            changes: Vec::new(alloc),
+        }
+    }
+}
+
+fn file_change(alloc: Global, name: &str, bytes: &[u8]) -> Result<Change, AllocError> {
+    Ok(Change::File {
+        name: String::from_str(alloc, name)?,
+        bytes: Vec::from_slice(alloc, bytes)?,
+    })
+}
+
+fn state_change(alloc: Global, store: &MemoryStore) -> Result<Change, AllocError> {
+    let text = Vec::from_slice(alloc, store.text().unwrap_or(b""))?;
+    Ok(Change::State { text })
+}
+
+fn nodes_change(alloc: Global, text: &[u8]) -> Result<Change, AllocError> {
+    let text = Vec::from_slice(alloc, text)?;
+    Ok(Change::Nodes { text })
+}
+
+impl<W: World<Store = MemoryStore>> World for Recorded<W> {
+    type Lock = W::Lock;
+
+    type Store = MemoryStore;
+
+    type Contents = W::Contents;
+
+    ghost events = { λ recorded. W.events recorded.world };
+
+    ghost memory = { λ recorded. W.memory recorded.world };
+
+    ghost may_read = { W.may_read };
+
+    fn read(&mut self, alloc: Global, name: &str) -> Result<Vec<u8>, WorldFault> {
+        self.world.read(alloc, name)
+    }
+
+    fn open(&mut self, alloc: Global, name: &str) -> Result<W::Contents, WorldFault> {
+        self.world.open(alloc, name)
+    }
+
+    fn write(&mut self, name: &str, bytes: &[u8]) -> Result<(), WorldFault> {
+        let answer = self.world.write(name, bytes);
+        if let (Ok(()), Ok(change)) = (answer, file_change(self.alloc, name, bytes)) {
+            let _ = self.changes.push(change);
+        }
+        answer
+    }
+
+    fn lock(&mut self, alloc: Global, name: &str) -> Result<Option<W::Lock>, OutOfMemory> {
+        self.world.lock(alloc, name)
+    }
+
+    fn unlock(&mut self, lock: W::Lock) {
+        self.world.unlock(lock)
+    }
+
+    fn exists(&mut self, lock: &W::Lock) -> bool {
+        self.world.exists(lock)
+    }
+
+    fn take_store(&mut self, alloc: Global, lock: &W::Lock) -> Result<MemoryStore, OutOfMemory> {
+        self.world.take_store(alloc, lock)
+    }
+
+    fn put_back(&mut self, lock: &W::Lock, store: MemoryStore) {
+        if let Ok(change) = state_change(self.alloc, &store) {
+            let _ = self.changes.push(change);
+        }
+        self.world.put_back(lock, store)
+    }
+
+    fn read_nodes(&mut self, alloc: Global, lock: &W::Lock, most: usize) -> Option<Vec<u8>> {
+        self.world.read_nodes(alloc, lock, most)
+    }
+
+    fn write_nodes(
+        &mut self,
+        alloc: Global,
+        lock: &W::Lock,
+        text: &[u8],
+    ) -> Result<(), WorldFault> {
+        let answer = self.world.write_nodes(alloc, lock, text);
+        if let (Ok(()), Ok(change)) = (answer, nodes_change(self.alloc, text)) {
+            let _ = self.changes.push(change);
+        }
+        answer
+    }
+
+    fn begin_printing<O: Write>(&mut self, output: &Printer<O>) {
+        self.world.begin_printing(output)
+    }
+}

@@ -1,0 +1,88 @@
+//! What a world in memory holds after runs of the program, against a replay of its calls.
+use super::arguments::{SIGN, keygen};
+use super::recorded::{Change, Recorded};
+use super::{VERIFY, ends, fails_with};
+use lms_world::{MemoryWorld, World, WorldFault};
+use std::alloc::Global;
+use std::test::Fail;
+
+/// The bytes that were written last to the file of a name.
+fn file_after<'a>(changes: &'a [Change], name: &str) -> Option<&'a [u8]> {
+    changes.iter().rev().find_map(|change| match change {
+        Change::File { name: other, bytes } if other.as_str() == name => Some(bytes.as_slice()),
+        _ => None,
+    })
+}
+
+/// The state that was put back last.
+fn state_after(changes: &[Change]) -> Option<&[u8]> {
+    changes.iter().rev().find_map(|change| match change {
+        Change::State { text } => Some(text.as_slice()),
+        _ => None,
+    })
+}
+
+/// The nodes that were kept last.
+fn nodes_after(changes: &[Change]) -> Option<&[u8]> {
+    changes.iter().rev().find_map(|change| match change {
+        Change::Nodes { text } => Some(text.as_slice()),
+        _ => None,
+    })
+}
+
+/// Whether the world holds what its calls say, and nothing else: of files those of these names, of
+/// which the last one can't be written.
+fn is_as_called(alloc: Global, recorded: &mut Recorded<MemoryWorld>) -> bool {
+    let Recorded { world, changes, .. } = recorded;
+    let state = world.state().and_then(|store| store.text());
+    if state != state_after(changes) || world.nodes() != nodes_after(changes) {
+        return false;
+    }
+    ["text", "key.pub", "text.sig", "other.sig"]
+        .iter()
+        .all(|name| {
+            match (world.read(alloc, name), file_after(changes, name)) {
+                (Ok(found), Some(bytes)) => found.as_slice() == bytes,
+                (Err(WorldFault::Device), None) => true,
+                _ => false,
+            }
+        })
+}
+
+/// A key is made, signs, signs in vain, since its signature can't be written, and signs again.
+#[test]
+fn a_memory_ends_as_its_calls_say(rt: HostRuntime) -> Result<(), Fail> {
+    let mut world = Recorded::new(rt.alloc(), MemoryWorld::new(rt.alloc()));
+    world.world.fail("other.sig", WorldFault::Device)?;
+    world.write("text", b"abc")?;
+    assert!(rt;
+        ends(
+            &rt,
+            &keygen("5/2,5/2"),
+            &mut world,
+            0,
+            "capacity 1024\n",
+            ""
+        )
+    );
+    assert!(rt; is_as_called(rt.alloc(), &mut world));
+    assert!(rt; ends(&rt, &SIGN, &mut world, 0, "index 0\n", ""));
+    assert!(rt; is_as_called(rt.alloc(), &mut world));
+    let mut elsewhere = SIGN;
+    elsewhere[9] = "other.sig";
+    assert!(rt;
+        ends(
+            &rt,
+            &elsewhere,
+            &mut world,
+            6,
+            "",
+            "error: cannot write output\n"
+        )
+    );
+    assert!(rt; is_as_called(rt.alloc(), &mut world));
+    assert!(rt; ends(&rt, &SIGN, &mut world, 0, "index 2\n", ""));
+    assert!(rt; ends(&rt, &VERIFY, &mut world, 0, "valid\n", ""));
+    assert!(rt; is_as_called(rt.alloc(), &mut world));
+    Ok(())
+}
