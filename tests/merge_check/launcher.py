@@ -1,8 +1,9 @@
 """The script `lms_tool` in a folder of its own, over stand-ins for `rt` and for the two programs
-that it builds: which program runs, with arguments, input and status passed through, and when and
-how one is built."""
+that it builds: which program runs, with arguments, input and status passed through, when and how
+one is built, what an interruption leaves, and that no argument is told or kept."""
 
 import os
+import pathlib
 import re
 import signal
 import subprocess
@@ -10,6 +11,10 @@ import subprocess
 from tests.harness import add_test, test
 from tests.merge_check.stand_ins import COMMON, StandIns
 
+# What may end the script.
+SIGNALS = [signal.SIGHUP, signal.SIGINT, signal.SIGPIPE, signal.SIGTERM]
+# A seed, as it may be an argument.
+SECRET = "5eedc0ffee" * 6 + "5eed"
 # Arguments of which one has a space and one is empty.
 SOME = ["sign", "a b", ""]
 
@@ -261,12 +266,103 @@ def libraries_that_use_no_other_go_beside_each_other():
 
 
 @test
-def interrupted():
+def interrupted_while_libraries_are_checked():
     with StandIns(False) as it:
         it.on("lib", f'echo $$ >"{it.top}/number"; exec sleep 60\n')
-        for number in (signal.SIGHUP, signal.SIGPIPE, signal.SIGTERM):
+        for number in SIGNALS:
             it.interrupt(number, "build")
             it.holds(not os.path.exists(it.common) and not os.path.exists(it.fast), "something was built")
+
+
+def interrupted_while_a_program_is_made(has_avx2, numbers, *arguments):
+    """The toolchain has put the program there by the common one's name, and does not end. None is
+    left, whichever it is, so the next start builds it."""
+    with StandIns(False, has_avx2) as it:
+        makes = pathlib.Path(it.top, "on_run").read_text()
+        for number in numbers:
+            it.on("run", f'{makes}echo $$ >"{it.top}/number"\nexec sleep 60\n')
+            it.interrupt(number, *arguments)
+            it.holds(not os.path.exists(it.common) and not os.path.exists(it.fast), "a program is left")
+        it.on("run", makes)
+        it.forget()
+        runs(it, it.best)
+        it.asked_to_build(it.build)
+
+
+for processor, numbers, words in [
+    (True, SIGNALS, ["sign"]),
+    (True, [signal.SIGINT], ["build"]),
+    (True, [signal.SIGTERM], ["build", "both"]),
+    (False, [signal.SIGINT], ["sign"]),
+]:
+    suffix = f"{' '.join(words)}, {'with' if processor else 'without'} AVX2"
+    add_test(f"interrupted while a program is made, {suffix}", interrupted_while_a_program_is_made, processor, numbers, *words)
+
+
+@test
+def build_both_interrupted_while_the_common_program_is_made():
+    """That for AVX2 stays."""
+    with StandIns() as it:
+        it.age(it.common, 3)
+        it.on("run", f'cp "{it.top}/common" "{it.common}"\necho $$ >"{it.top}/number"\nexec sleep 60\n')
+        it.interrupt(signal.SIGTERM, "build", "both")
+        it.holds(not os.path.exists(it.common), "a program is left")
+        it.forget()
+        runs_again(it, "old_fast")
+
+
+def has_secret(text):
+    return SECRET.lower() in text.lower()
+
+
+def keeps_nothing(it):
+    """What is secret of the arguments is in nothing that was printed, in no file, nor in its name,
+    and was in nothing that the toolchain was given or found beside it."""
+    it.holds(not has_secret(it.output + it.errors), "it tells an argument")
+    for file in pathlib.Path(it.top).rglob("*"):
+        name = str(file.relative_to(it.top))
+        is_kept = has_secret(name) or file.is_file() and has_secret(os.fsdecode(file.read_bytes()))
+        it.holds(not is_kept, f"an argument is in {name}")
+
+
+# What the toolchain sees while it runs: its environment, and the files that the script made.
+SEES = 'env >>"{0}/seen"\n(cd "{0}" && find . ! -name seen && find files crates -type f -exec cat {{}} +) >>"{0}/seen"\n'
+
+
+def tells_and_keeps_no_argument(has_avx2, is_built, failing, status, *words):
+    """Neither where the program runs nor where it can't be built. The program here prints nothing,
+    and ends with 3."""
+    with StandIns(is_built, has_avx2) as it:
+        for name in ("common", "fast", *(os.path.relpath(file, it.top) for file in (it.common, it.fast) if is_built)):
+            it.script(name, '[ "$*" = --help ] || exit 3\n')
+        sees = SEES.format(it.top)
+        for verb in ("lib", "run", "try"):
+            text = it.has(f"on_{verb}")
+            it.on(verb, f"{sees}{text}{'exit 1' * (verb in failing)}\n")
+        it.start(*words, "--seed", SECRET, f"--id={SECRET[:32]}", "--state", "key.state")
+        it.holds(it.status == status, f"not {status}")
+        it.holds(is_built or "HOME=" in it.has("seen"), "the toolchain saw nothing")
+        keeps_nothing(it)
+
+
+for what, *row in [
+    ("a program that is there", True, True, [], 3, "keygen"),
+    ("the common program that is there", False, True, [], 3, "keygen"),
+    ("a program that is built first", True, False, [], 3, "keygen"),
+    ("the common program that is built first", False, False, [], 3, "keygen"),
+    ("no trial run", True, False, ["try"], 3, "keygn"),
+    ("no library", True, False, ["lib"], 70, "keygen"),
+    ("no program", True, False, ["run"], 70, "keygen"),
+]:
+    add_test(f"tells and keeps no argument, {what}", tells_and_keeps_no_argument, *row)
+
+
+@test
+def tells_and_keeps_no_argument_where_it_is_interrupted():
+    with StandIns(False) as it:
+        it.on("run", f'{SEES.format(it.top)}echo $$ >"{it.top}/number"\nexec sleep 60\n')
+        it.interrupt(signal.SIGINT, "keygen", "--seed", SECRET)
+        keeps_nothing(it)
 
 
 @test

@@ -6,29 +6,14 @@ import os
 import pathlib
 import re
 import shutil
-import stat
-import tarfile
-import time
 
 from tests.harness import TOP, Skipped, checks, holds, said_by
+from tests.merge_check.packages import (
+    COMMANDS, DEBIAN, FLAGS, LEVELS, NAME, OUTPUTS, PAGE, PAGES, VERSION, are_right, copy_sources, pack_twice,
+)
 from tests.program import job_lines, keygen, put, sign, verify
 
-VERSION = (TOP / "VERSION").read_text(encoding="utf-8").strip()
-NAME, DEBIAN = f"lms_tool-{VERSION}-x86_64", f"lms-tool_{VERSION}_amd64.deb"
-PACKED = [f"{NAME}.tar.gz", DEBIAN, "lms_verify.html", "SHA256SUMS"]
-COMMANDS = ["keygen", "sign", "batch", "verify", "info"]
 TOOLS = ["tar", "gzip", "strip", "sha256sum", "md5sum", "dpkg-deb", "dpkg", "basenc"]
-OUTPUTS = [
-    "crates/lms_tool/out/lms_tool",
-    "crates/lms_tool/out/avx2/lms_tool",
-    "crates/lms_c/out/liblms_c.a",
-    "examples/web/out/lms_verify.html",
-]
-# What the launcher asks of a processor before it takes the program for AVX2.
-FLAGS = ["avx", "avx2", "bmi1", "bmi2", "f16c", "fma", "abm", "movbe"]
-LEVELS = ["x86-64-v2", "x86-64-v3"]
-# 2001-09-09, 01:46:40.
-SECONDS = 1000000000
 # `dpkg` is there for root.
 ALL_TOOLS = f"{os.environ.get('PATH', '')}:/usr/sbin:/sbin"
 # What follows this is the first block of commands of a document.
@@ -50,7 +35,9 @@ def skip_where_something_is_missing():
     for output in OUTPUTS:
         if not (TOP / output).is_file():
             raise Skipped(f"{output} is not built")
-        if (TOP / output).stat().st_mtime_ns < newest:
+        text = TOP / "examples/web/index.html"
+        own = text.stat().st_mtime_ns if output == PAGE else 0
+        if (TOP / output).stat().st_mtime_ns < max(newest, own):
             raise Skipped(f"{output} is older than a source")
 
 
@@ -64,45 +51,9 @@ def prints(wanted, said):
     holds(said == f"{wanted}\n", f"it printed {said!r}, not {wanted!r}")
 
 
-def copy_sources(folder):
-    """A folder with all that `release` reads, and nothing else."""
-    for part in ("src", "specs", "proofs"):
-        os.makedirs(f"{folder}/crates/lms_c/{part}", exist_ok=True)
-    for name in ("docs", "include", "examples/c", "portable"):
-        shutil.copytree(TOP / name, f"{folder}/{name}")
-    plain = [it.relative_to(TOP) for it in (TOP / "examples").glob("*.*")]
-    for name in ("release", "VERSION", "README.md", "crates.txt", *plain, *OUTPUTS):
-        os.makedirs(os.path.dirname(f"{folder}/{name}"), exist_ok=True)
-        shutil.copy2(TOP / name, f"{folder}/{name}")
-
-
 def packs():
-    """Two packings in two folders are the same bytes. The copies are in no repository."""
-    copy_sources("here")
-    copy_sources("a folder elsewhere")
-    for file in pathlib.Path("a folder elsewhere/docs").iterdir():
-        then = time.time() - 3 * 86400
-        os.utime(file, (then, then))
-    both = {**os.environ, "SOURCE_DATE_EPOCH": str(SECONDS), "MAINTAINER": "No One <no-one@debian.org>"}
-    said_by("here/release", "--built", "packed", env=both)
-    os.mkdir("temporary")
-    os.chmod("temporary", 0o2777)
-    other = {"TZ": "Asia/Tokyo", "LC_ALL": "C.UTF-8", "TMPDIR": os.path.abspath("temporary")}
-    more = {"TAR_OPTIONS": "--mtime=now", "DPKG_DEB_COMPRESSOR_LEVEL": "1"}
-    masked = ["sh", "-c", 'umask 077 && exec "$0" "$@"']
-    said_by(*masked, "a folder elsewhere/release", "--built", "packed again", env={**both, **other, **more})
-    for file in PACKED:
-        holds(pathlib.Path("packed", file).read_bytes() == pathlib.Path("packed again", file).read_bytes(), f"{file} has other bytes")
-    holds(not os.listdir("temporary"), "temporary files are left")
-    with tarfile.open(f"packed/{NAME}.tar.gz") as packed:
-        for it in packed:
-            holds((it.uid, it.gid, it.mtime) == (0, 0, SECONDS), f"{it.name} has another owner or time")
-
-
-def sums():
-    """The checksums are those of all that was packed."""
-    said_by("sha256sum", "-c", "SHA256SUMS", cwd="packed")
-    holds(len(pathlib.Path("packed/SHA256SUMS").read_text().splitlines()) == 3, "not three sums")
+    """Two packings in two folders are the same bytes."""
+    pack_twice(lambda folder: copy_sources(folder, OUTPUTS))
 
 
 def goes_round(program, package):
@@ -187,8 +138,7 @@ def compiles(package, library):
 
 def manual_shows(package, command):
     """A page of the manual shows each option that the command's help names, and no line is lost."""
-    page = f"{package}/share/man/man1/lms_tool{'-' * bool(command)}{command}.1.gz"
-    shown = alone("man", "-l", page, more={"MANWIDTH": "200"}).replace("\b", "")
+    shown = alone("man", "-l", f"{package}/{PAGES[command]}", more={"MANWIDTH": "200"}).replace("\b", "")
     lines = alone(f"{package}/bin/lms_tool", *[command] * bool(command), "--help").splitlines()
     holds(any(lines), "there is no help")
     for line in lines:
@@ -209,13 +159,6 @@ def installs():
     goes_round(f"{below}/usr/bin/lms_tool", f"{below}/usr")
     said_by(*dpkg, "--force-not-root", "-r", "lms-tool", **how)
     holds(not os.path.lexists(f"{below}/usr/bin/lms_tool"), "the program is left")
-
-
-def is_whole():
-    """The package names each of its files but those of its own, with their sums."""
-    said_by("md5sum", "-c", "--quiet", "DEBIAN/md5sums", cwd="debian")
-    files = [it for it in pathlib.Path("debian/usr").rglob("*") if stat.S_ISREG(it.lstat().st_mode)]
-    holds(len(pathlib.Path("debian/DEBIAN/md5sums").read_text().splitlines()) == len(files), "not each file has a sum")
 
 
 def names_the_version():
@@ -250,14 +193,14 @@ def tries(counter, package, library):
 @checks
 def the_packages(counter):
     skip_where_something_is_missing()
-    if not (counter.check("two packings in two folders are the same bytes", packs) & counter.check("SHA256SUMS", sums)):
+    if not counter.check("two packings in two folders are the same bytes", packs):
         return
+    counter.check("what is packed, with its modes", are_right, "packed", "here")
     said_by("tar", "-xzf", f"packed/{NAME}.tar.gz")
     said_by("dpkg-deb", "-R", f"packed/{DEBIAN}", "debian")
     tries(counter, NAME, "lib")
     tries(counter, "debian/usr", "lib/x86_64-linux-gnu")
     counter.check("README's first block", follows_readme)
-    counter.check("the package's files", is_whole)
     counter.check("the package is installed and removed", installs)
     if shutil.which("lintian"):
         words = ["--allow-root", "--fail-on", "error", "--tag-display-limit", "0"]

@@ -37,15 +37,15 @@ class StandIns:
     """The script `lms_tool` in the current folder, with crates that have nothing in them, and in
     bin/ short scripts that stand in for `rt`, which notes what it is asked, and for what tells
     whether the processor has AVX2. Others stand in for the programs that `rt` makes. Where nothing
-    else is said, both are there, built after the sources were last changed. At the end no temporary
-    file may be left."""
+    else is said, both are there, built after the sources were last changed. What the script makes
+    for a time only its owner may see, and at the end nothing of it may be left."""
 
     def __init__(self, is_built=True, has_avx2=True):
         self.top = os.getcwd()
         self.common, self.fast = f"{self.top}/{OUT}/lms_tool", f"{self.top}/{OUT}/avx2/lms_tool"
         self.best, self.build = ("fast", FAST) if has_avx2 else ("common", COMMON)
-        self.status, self.output, self.errors = None, "", ""
-        for folder in ("bin", "files", os.path.dirname(self.fast)):
+        self.pid, self.status, self.output, self.errors = None, None, "", ""
+        for folder in ("bin", "files", "home", os.path.dirname(self.fast)):
             os.makedirs(folder)
         shutil.copy(TOP / "lms_tool", ".")
         self.write("crates.txt", CRATES)
@@ -72,14 +72,16 @@ class StandIns:
 
     def __exit__(self, kind, *_):
         if kind is None:
-            self.holds(not os.listdir(f"{self.top}/files"), "files are left behind")
+            self.holds(not os.listdir(f"{self.top}/files") + os.listdir(f"{self.top}/home"), "files are left behind")
+            self.holds(set(self.has("modes").split()) <= {"700"}, f"others may see what it makes: {self.has('modes')!r}")
 
     def make_tools(self):
         """What stands in for `grep` and for `rt`."""
         top = self.top
         grep = f'[ "$3" != /proc/cpuinfo ] || set -- "$1" "$2" "{top}/cpuinfo"\nexec {shutil.which("grep")} "$@"\n'
         self.script("bin/grep", grep)
-        notes = f'[ "$1" = try ] || echo "${{PWD##*/}} $*" >>"{top}/builds"\ncat >"{top}/nothing"\n'
+        notes = f'[ "$1" = try ] || echo "${{PWD##*/}} $*" >>"{top}/builds"\nstat -c %a "{top}/files/"* >>"{top}/modes"\n'
+        notes += f'cat >"{top}/nothing"\n'
         self.script("bin/rt", f'{notes}[ "$1" = try ] || echo "a line of rt $1"\n. "{top}/on_$1"\n')
 
     def write(self, name, text):
@@ -102,10 +104,11 @@ class StandIns:
         os.chmod(pathlib.Path(self.top, name), 0o755)
 
     def stand_in(self, file, name):
-        """Makes a program that prints this name, its arguments, a line each, and its input, and
-        ends with 3. Where it is asked for help it reads its input, too, and ends with 0."""
+        """Makes a program that prints this name, its arguments, a line each, and its input, notes
+        its process, and ends with 3. Where it is asked for help it reads its input, too, and ends
+        with 0."""
         asked = f'[ "$*" = --help ] && cat >"{self.top}/nothing" && exit\n'
-        self.script(file, f"{asked}printf '%s\\n' {name} \"$@\"\ncat\nexit 3\n")
+        self.script(file, f"{asked}echo $$ >\"{self.top}/process\"\nprintf '%s\\n' {name} \"$@\"\ncat\nexit 3\n")
 
     def on(self, verb, text):
         """What `rt` does where its first argument is this one."""
@@ -117,9 +120,12 @@ class StandIns:
 
     def begin(self, arguments, by, cwd, **how):
         """Starts the script with these arguments, by these words before it, and with these
-        streams."""
-        environment = {**os.environ, "PATH": f"{self.top}/bin:{os.environ['PATH']}", "TMPDIR": f"{self.top}/files"}
-        return subprocess.Popen([*by, f"{self.top}/lms_tool", *arguments], cwd=cwd, env=environment, **how)
+        streams. It is left to the script to take rights away."""
+        folders = {"TMPDIR": f"{self.top}/files", "HOME": f"{self.top}/home", "PATH": f"{self.top}/bin:{os.environ['PATH']}"}
+        words = [*by, f"{self.top}/lms_tool", *arguments]
+        running = subprocess.Popen(words, cwd=cwd, env={**os.environ, **folders}, umask=0, **how)
+        self.pid = running.pid
+        return running
 
     def start(self, *arguments, by=(), cwd=None):
         """Runs the script with these arguments, an input and one end of a pipe, which must be
@@ -171,9 +177,11 @@ class StandIns:
             raise Wrong(f"{what}; ended with {self.status}\n{said}".encode(errors="backslashreplace").decode())
 
     def ran(self, name, *arguments):
-        """The program of this name ran, with these arguments and the input."""
+        """The program of this name ran in place of the script, with these arguments and the
+        input."""
         wanted = "".join(f"{it}\n" for it in (name, *arguments, "input"))
         self.holds((self.status, self.output) == (3, wanted), f"not as {name} does")
+        self.holds(self.has("process") == f"{self.pid}\n", "the script did not become the program")
 
     def is_quiet(self):
         """Nothing was asked of the toolchain, and nothing said."""

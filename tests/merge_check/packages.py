@@ -1,0 +1,218 @@
+"""What `release` packs: its sources in a folder of their own, and what its packages have to have in
+them, made of these."""
+
+import gzip
+import hashlib
+import io
+import os
+import pathlib
+import re
+import shutil
+import stat
+import subprocess
+import tarfile
+import time
+
+from tests.harness import TOP, holds, said_by
+
+VERSION = (TOP / "VERSION").read_text(encoding="utf-8").strip()
+NAME, DEBIAN = f"lms_tool-{VERSION}-x86_64", f"lms-tool_{VERSION}_amd64.deb"
+PACKED = [f"{NAME}.tar.gz", DEBIAN, "lms_verify.html", "SHA256SUMS"]
+COMMANDS = ["keygen", "sign", "batch", "verify", "info"]
+COMMON, FAST = "crates/lms_tool/out/lms_tool", "crates/lms_tool/out/avx2/lms_tool"
+LIBRARY, PAGE = "crates/lms_c/out/liblms_c.a", "examples/web/out/lms_verify.html"
+OUTPUTS = [COMMON, FAST, LIBRARY, PAGE]
+LEVELS = ["x86-64-v2", "x86-64-v3"]
+PROGRAMS = ["bin/lms_tool", *(f"lib/lms_tool/{level}/lms_tool" for level in LEVELS)]
+DOCS = "share/doc/lms-tool"
+DOCUMENTS = ["PROVED", "PROFILE", "C"]
+EXAMPLES = ["release.pub", "firmware.bin", "firmware.sig", "c/verify.c", "c/sha256.h"]
+PAGES = {command: f"share/man/man1/lms_tool{'-' * bool(command)}{command}.1.gz" for command in ("", *COMMANDS)}
+# The time of all files in packages, 2001-09-09, 01:46:40, and their maintainer.
+SECONDS, MAINTAINER = 1000000000, "No One <no-one@debian.org>"
+# What the launcher asks of a processor before it takes the program for AVX2.
+FLAGS = ["avx", "avx2", "bmi1", "bmi2", "f16c", "fma", "abm", "movbe"]
+
+
+def copy_sources(folder, outputs=()):
+    """A folder with all that `release` reads, with these outputs, and nothing else."""
+    for part in ("src", "specs", "proofs"):
+        os.makedirs(f"{folder}/crates/lms_c/{part}", exist_ok=True)
+    for name in ("docs", "include", "examples/c", "portable"):
+        shutil.copytree(TOP / name, f"{folder}/{name}", ignore=shutil.ignore_patterns("__pycache__"))
+    plain = [it.relative_to(TOP) for it in (TOP / "examples").glob("*.*")]
+    for name in ("release", "VERSION", "README.md", "crates.txt", "examples/web/index.html", *plain, *outputs):
+        os.makedirs(os.path.dirname(f"{folder}/{name}"), exist_ok=True)
+        shutil.copy2(TOP / name, f"{folder}/{name}")
+
+
+def pack_twice(make):
+    """Packs what was built, from two folders with sources that `make` makes: that gives the same
+    bytes, whatever was set. The copies are in no repository. The first packages are in packed/,
+    made of here/."""
+    make("here")
+    make("a folder elsewhere")
+    for file in pathlib.Path("a folder elsewhere/docs").iterdir():
+        then = time.time() - 3 * 86400
+        os.utime(file, (then, then))
+    both = {**os.environ, "SOURCE_DATE_EPOCH": str(SECONDS), "MAINTAINER": MAINTAINER}
+    said_by("here/release", "--built", "packed", env=both)
+    os.mkdir("temporary")
+    os.chmod("temporary", 0o2777)
+    other = {"TZ": "Asia/Tokyo", "LC_ALL": "C.UTF-8", "TMPDIR": os.path.abspath("temporary")}
+    more = {"TAR_OPTIONS": "--mtime=now", "DPKG_DEB_COMPRESSOR_LEVEL": "1"}
+    masked = ["sh", "-c", 'umask 077 && exec "$0" "$@"']
+    said_by(*masked, "a folder elsewhere/release", "--built", "packed again", env={**both, **other, **more})
+    for file in PACKED:
+        holds(pathlib.Path("packed", file).read_bytes() == pathlib.Path("packed again", file).read_bytes(), f"{file} has other bytes")
+    holds(not os.listdir("temporary"), "temporary files are left")
+
+
+class Package:
+    """A package, read without being unpacked: its files and folders by their names below the root
+    of what it installs, and where in there its library is."""
+
+    def __init__(self, name, packed, library):
+        self.name, self.library, self.found, self.bytes = name, library, {}, {}
+        for it in packed:
+            below = os.path.relpath(it.name, name)
+            self.found[below] = it
+            self.bytes[below] = packed.extractfile(it).read() if it.isfile() else b""
+
+    def holds(self, is_so, what):
+        """Fails the check where this is not so."""
+        holds(is_so, f"{self.name}: {what}")
+
+
+def tarball(folder):
+    """The tarball in a folder."""
+    with tarfile.open(f"{folder}/{NAME}.tar.gz") as packed:
+        return Package(NAME, packed, "lib")
+
+
+def debian(folder):
+    """The Debian package in a folder."""
+    words = ["dpkg-deb", "--fsys-tarfile", f"{folder}/{DEBIAN}"]
+    with tarfile.open(fileobj=io.BytesIO(subprocess.run(words, stdout=subprocess.PIPE, check=True).stdout)) as packed:
+        return Package("usr", packed, "lib/x86_64-linux-gnu")
+
+
+def files_of(package):
+    """The names of the files that a package is to have."""
+    library = [f"{package.library}/{name}" for name in ("liblms_c.a", "pkgconfig/lms.pc")]
+    documents = [f"{DOCS}/{name}.md" for name in (*DOCUMENTS, "STATES")] + [f"{DOCS}/examples/{os.path.basename(it)}" for it in EXAMPLES]
+    own = [f"{DOCS}/{name}" for name in ("changelog.gz", "copyright")] if package.name == "usr" else []
+    return [*PROGRAMS, *library, *documents, *own, *PAGES.values(), "include/lms.h", "share/lms-tool/lms_verify.c"]
+
+
+def has_modes(package):
+    """A package has these files and no other, which only root may write, and all may read. Programs
+    alone may be run."""
+    files = sorted(name for name, it in package.found.items() if not it.isdir())
+    package.holds(files == sorted(files_of(package)), f"its files are {files}")
+    for name, it in package.found.items():
+        wanted = 0o755 if it.isdir() or name in PROGRAMS else 0o644
+        package.holds(it.isfile() or it.isdir(), f"{name} is neither file nor folder")
+        package.holds(it.mode == wanted, f"{name} has the mode {it.mode:o}, not {wanted:o}")
+        package.holds((it.uid, it.gid) == (0, 0), f"{name} has another owner")
+
+
+def has_programs(package, top):
+    """A package has both programs as they were built, but for what `strip` leaves out. They are
+    two."""
+    found = [package.bytes[name] for name in PROGRAMS[1:]]
+    for built, has in zip((COMMON, FAST), found):
+        said_by("strip", "-o", "stripped", f"{top}/{built}")
+        package.holds(has == pathlib.Path("stripped").read_bytes(), f"another program than {built}")
+    package.holds(found[0] != found[1], "its two programs are one")
+
+
+def advice(readme):
+    """The section of README.md on states, whole."""
+    sections = re.split(r"(?m)^(?=## )", readme)
+    return "".join(it for it in sections if it.startswith("## What you must never do with a state\n"))
+
+
+def texts_of(package, top):
+    """The files of a package that are made of sources, with the bytes that each is to have."""
+    top = pathlib.Path(top)
+    texts = {f"{package.library}/liblms_c.a": (top / LIBRARY).read_bytes(), "include/lms.h": (top / "include/lms.h").read_bytes()}
+    texts["share/lms-tool/lms_verify.c"] = (top / "portable/lms_verify.c").read_bytes()
+    for name in EXAMPLES:
+        texts[f"{DOCS}/examples/{os.path.basename(name)}"] = (top / "examples" / name).read_bytes()
+    for name in DOCUMENTS:
+        # (The texts of links stay.)
+        text = (top / f"docs/{name}.md").read_text(encoding="utf-8")
+        texts[f"{DOCS}/{name}.md"] = re.sub(r"\[([^]\n]*)\]\([^)\n]*\)", r"\1", text).encode()
+    texts[f"{DOCS}/STATES.md"] = advice((top / "README.md").read_text(encoding="utf-8")).encode()
+    up = "/".join([".."] * (package.library.count("/") + 2))
+    flags = (top / "include/lms.pc").read_text(encoding="utf-8").replace("${pcfiledir}/../..", f"${{pcfiledir}}/{up}")
+    texts[f"{package.library}/pkgconfig/lms.pc"] = flags.replace("-L${prefix}/lib ", f"-L${{prefix}}/{package.library} ").encode()
+    return texts
+
+
+def has_texts(package, top):
+    """What a package has of sources is whole."""
+    for name, text in texts_of(package, top).items():
+        package.holds(text, f"there is nothing that {name} is made of")
+        package.holds(package.bytes[name] == text, f"{name} is not what it is made of")
+
+
+def shown(page):
+    """The lines of a page of the manual that its formatter shows as they are."""
+    lines = gzip.decompress(page).decode().partition("\n.nf\n")[2].partition("\n.fi\n")[0].splitlines()
+    return [line.removeprefix("\\&").replace("\\-", "-").replace("\\e", "\\") for line in lines]
+
+
+def has_manual(package, program):
+    """Each page of the manual has the help that this program gives, whole, and no line of it is a
+    command to the formatter."""
+    for command, name in PAGES.items():
+        help_text = said_by(program, *[command] * bool(command), "--help")
+        package.holds(shown(package.bytes[name]) == help_text.splitlines(), f"{name} does not have the help on {command or 'all'}")
+        raw = gzip.decompress(package.bytes[name]).decode().partition("\n.nf\n")[2].partition("\n.fi\n")[0]
+        package.holds(not re.search(r"(?m)^[.']", raw), f"a line of {name} is lost")
+
+
+def has_sums(folder):
+    """What was packed are these files, all of which may be read by all and written by their owner
+    alone, and the sums of the others in SHA256SUMS."""
+    holds(sorted(os.listdir(folder)) == sorted(PACKED), f"{os.listdir(folder)} were packed")
+    for name in PACKED:
+        mode = stat.S_IMODE(os.stat(f"{folder}/{name}").st_mode)
+        holds(mode == 0o644, f"{name} has the mode {mode:o}")
+    sums = [f"{hashlib.sha256(pathlib.Path(folder, name).read_bytes()).hexdigest()}  {name}" for name in PACKED[:3]]
+    holds(pathlib.Path(folder, "SHA256SUMS").read_text().splitlines() == sums, "SHA256SUMS has others")
+
+
+def has_own(folder, package, maintainer, seconds):
+    """The Debian package's own files: it names its version, maintainer and size, and each of its
+    files with its sum, and may be read by all."""
+    words = ["dpkg-deb", "--ctrl-tarfile", f"{folder}/{DEBIAN}"]
+    with tarfile.open(fileobj=io.BytesIO(subprocess.run(words, stdout=subprocess.PIPE, check=True).stdout)) as own:
+        texts = {os.path.basename(it.name): own.extractfile(it).read().decode() for it in own if it.isfile()}
+        holds(all(it.mode == (0o755 if it.isdir() else 0o644) for it in own), "its own files have other modes")
+        holds(all((it.uid, it.gid, it.mtime) == (0, 0, seconds) for it in own), "its own files have another owner or time")
+    holds(sorted(texts) == ["control", "md5sums"], f"its own files are {sorted(texts)}")
+    files = {name: text for name, text in package.bytes.items() if package.found[name].isfile()}
+    size = sum((len(text) + 1023) // 1024 for text in files.values())
+    lines = texts["control"].splitlines()
+    named = {"Package": "lms-tool", "Version": VERSION, "Maintainer": maintainer, "Installed-Size": size, "Depends": "libc6 (>= 2.34)"}
+    for name, what in named.items():
+        holds(f"{name}: {what}" in lines, f"control has no line {name}: {what}")
+    sums = sorted(f"{hashlib.md5(text).hexdigest()}  usr/{name}" for name, text in files.items())
+    holds(sorted(texts["md5sums"].splitlines()) == sums, "not each file has its sum")
+
+
+def are_right(folder, top, seconds=SECONDS, maintainer=MAINTAINER):
+    """All that was packed into a folder is made of the sources in another one, with this time and
+    maintainer."""
+    has_sums(folder)
+    has_own(folder, debian(folder), maintainer, seconds)
+    holds(pathlib.Path(folder, "lms_verify.html").read_bytes() == pathlib.Path(top, PAGE).read_bytes(), "another page was packed")
+    for package in (tarball(folder), debian(folder)):
+        has_modes(package)
+        has_programs(package, top)
+        has_texts(package, top)
+        has_manual(package, f"{top}/{COMMON}")
+        package.holds(all(it.mtime == seconds for it in package.found.values()), "its files have another time")

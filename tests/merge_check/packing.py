@@ -1,0 +1,256 @@
+"""The script `release` in a folder of its own, over stand-ins for the programs, the library and the
+page that it packs, and for what makes these: what it refuses, and all that it packs. It needs the
+tools that it packs with, git and cc."""
+
+import os
+import pathlib
+import shutil
+import subprocess
+import time
+
+from tests.harness import TOP, Skipped, add_test, holds, said_by, test
+from tests.merge_check.packages import (
+    DEBIAN, FAST, FLAGS, LEVELS, NAME, OUTPUTS, PAGE, SECONDS, are_right, copy_sources, pack_twice,
+)
+
+SOURCES = ["crates/lms_c/src/file", "crates/lms_c/specs/file", "crates/lms_c/proofs/a folder/file", "crates.txt"]
+# What `release` asks for where it is to build, in this order.
+ASKED = ["lms_tool build both", "lms_c", "lms_c --portable", "examples/web/build"]
+AUTHOR = "Some One <some-one@debian.org>"
+# What stands in for `./lms_tool`, `./lms_c` and `examples/web/build`: each notes what it is asked,
+# and makes its outputs of those in ../made. The file `fails` names one that can't.
+MAKER = """\
+#!/bin/sh
+top=%s
+echo "%s$([ "${1-}" != build ] || echo " $*")$([ "${1-}" != --portable ] || echo " $1")" >>"$top/../asked"
+umask 077
+[ "$(tail -n 1 "$top/../asked")" != "$(cat "$top/../fails")" ] || exit 70
+%s
+"""
+MAKES = {
+    "lms_tool": 'mkdir -p "$top/crates/lms_tool/out/avx2" && cp -p "$top/../made/common" "$top/crates/lms_tool/out/lms_tool" && '
+    'cp -p "$top/../made/fast" "$top/crates/lms_tool/out/avx2/lms_tool"',
+    "lms_c": 'if [ "${1-}" = --portable ]; then mkdir -p "$2" && cp "$top/../made/lms_verify.c" "$2"; exit; fi\n'
+    'mkdir -p "$top/crates/lms_c/out" && cat "$top/../made/library" >"$top/crates/lms_c/out/liblms_c.a"',
+    "examples/web/build": 'cat "$top/../made/page" >"$1"',
+}
+
+
+def make_outputs():
+    """Makes what stands in for what is built, in made/, with a program that only its owner may
+    use."""
+    if not shutil.which("cc"):
+        holds(False, "the stand-ins need a C compiler, and there is no cc here")
+    os.mkdir("made")
+    for name in ("common", "fast"):
+        said_by("cc", "-O1", f'-DNAME="{name}"', TOP / "tests/c/packed.c", "-o", f"made/{name}")
+        os.chmod(f"made/{name}", 0o700)
+    pathlib.Path("made/library").write_bytes(bytes(range(256)) * 40)
+    pathlib.Path("made/page").write_bytes(b"<title>a page</title>\n" * 999)
+    shutil.copy(TOP / "portable/lms_verify.c", "made")
+
+
+def age(file, hours):
+    """A file was last changed so many hours ago."""
+    then = time.time() - 3600 * hours
+    os.utime(file, (then, then))
+
+
+def make_sources(folder):
+    """Makes a folder with what `release` reads, nothing of it younger than two hours."""
+    for name in ("tar", "gzip", "strip", "sha256sum", "md5sum", "dpkg-deb", "git"):
+        if not shutil.which(name):
+            raise Skipped(f"there is no {name}")
+    if not os.path.exists("made"):
+        make_outputs()
+    copy_sources(folder)
+    for name in SOURCES:
+        os.makedirs(os.path.dirname(f"{folder}/{name}"), exist_ok=True)
+        with open(f"{folder}/{name}", "ab"):
+            pass
+    for file in pathlib.Path(folder).rglob("*"):
+        age(file, 2)
+
+
+def make_built(folder):
+    """Makes such a folder, where all is built."""
+    make_sources(folder)
+    for output, name in zip(OUTPUTS, ("common", "fast", "library", "page")):
+        os.makedirs(os.path.dirname(f"{folder}/{output}"), exist_ok=True)
+        shutil.copy(f"made/{name}", f"{folder}/{output}")
+
+
+def run(words, **more):
+    """Runs a command outside of any repository, with the system's own tools and a stand-in for `rt`.
+    How it ended, and what it printed to standard error."""
+    os.makedirs("path", exist_ok=True)
+    pathlib.Path("path/rt").write_text("#!/bin/sh\nexit 1\n")
+    os.chmod("path/rt", 0o755)
+    environment = {name: value for name, value in os.environ.items() if not name.startswith("GIT_")}
+    environment |= {"GIT_CONFIG_GLOBAL": os.devnull, "GIT_CONFIG_NOSYSTEM": "1", "GIT_CEILING_DIRECTORIES": os.getcwd()}
+    environment["PATH"] = f"{os.path.abspath('path')}:{os.environ['PATH']}"
+    how = {"stdin": subprocess.DEVNULL, "stdout": subprocess.PIPE, "stderr": subprocess.PIPE, "text": True}
+    ran = subprocess.run(words, env={**environment, **more}, check=False, **how)
+    return ran.returncode, ran.stderr
+
+
+def starts_by(launcher, level, name, path):
+    """A launcher becomes the program of this name, with its arguments and its status."""
+    how = {"env": {"PATH": f"{path}:{os.environ['PATH']}"}, "stdout": subprocess.PIPE, "text": True}
+    with subprocess.Popen([launcher, "a b", "", "-c"], **how) as running:
+        said = running.communicate()[0]
+    holds((running.returncode, said) == (3, f"{name}\n{running.pid}\na b\n\n-c\n"), f"{level}: {running.returncode} {said!r}")
+
+
+def becomes_the_program(package):
+    """The launcher in a package becomes the program for the processor, whose /proc/cpuinfo is read
+    by a stand-in for sed here. Nothing is left beside it."""
+    files = sorted(pathlib.Path(package).rglob("*"))
+    os.makedirs("other", exist_ok=True)
+    for missing in (None, *FLAGS):
+        flags = " ".join(it for it in ("fpu", *FLAGS, "sse2") if it != missing)
+        pathlib.Path("other/sed").write_text(f'#!/bin/sh\necho "{flags}"\n')
+        os.chmod("other/sed", 0o755)
+        level, name = (LEVELS[0], "common") if missing else (LEVELS[1], "fast")
+        starts_by(os.path.abspath(f"{package}/bin/lms_tool"), level, name, os.path.abspath("other"))
+    holds(sorted(pathlib.Path(package).rglob("*")) == files, "a file is left beside the launcher")
+
+
+@test
+def packs_what_is_built():
+    pack_twice(make_built)
+    are_right("packed", "here")
+    said_by("tar", "-xzf", f"packed/{NAME}.tar.gz")
+    becomes_the_program(NAME)
+    said_by("dpkg-deb", "-x", f"packed/{DEBIAN}", "debian")
+    becomes_the_program("debian/usr")
+
+
+def refuses_built(line):
+    """`release --built` refuses with this line, and packs nothing."""
+    found = run(["here/release", "--built", "packed"], SOURCE_DATE_EPOCH="1", MAINTAINER=AUTHOR)
+    holds(found == (70, f"release: {line}\n"), f"{found}, not: {line}")
+    holds(not os.listdir("packed"), "something was packed")
+
+
+@test
+def refuses_what_is_not_built():
+    make_built("here")
+    for output in OUTPUTS:
+        os.rename(f"here/{output}", "away")
+        refuses_built(f"{os.path.abspath('here')}/{output} is not built")
+        os.rename("away", f"here/{output}")
+
+
+def refuses_older(source, output):
+    """An output that alone is older than a source."""
+    age(f"here/{output}", 2)
+    age(f"here/{source}", 1)
+    here = os.path.abspath("here")
+    refuses_built(f"{here}/{source} is newer than {here}/{output}")
+    age(f"here/{output}", 0)
+    age(f"here/{source}", 2)
+
+
+@test
+def refuses_what_is_older_than_a_source():
+    make_built("here")
+    for output in OUTPUTS:
+        refuses_older(SOURCES[0], output)
+    for source in SOURCES[1:]:
+        refuses_older(source, FAST)
+    refuses_older("examples/web/index.html", PAGE)
+
+
+def commit(folder):
+    """Makes a repository of a folder, with one commit."""
+    pathlib.Path(folder, ".gitignore").write_text("out/\n")
+    for name, makes in MAKES.items():
+        here = "$(dirname -- \"$0\")" + "/.." * name.count("/")
+        file = pathlib.Path(folder, name)
+        file.write_text(MAKER % (here, name, makes))
+        file.chmod(0o755)
+    name, _, address = AUTHOR.partition(" <")
+    who = ["-c", f"user.name={name}", "-c", f"user.email={address[:-1]}"]
+    for words in (["init", "-q"], ["add", "-A"], [*who, "commit", "-q", "-m", "all"]):
+        found = run(["git", "-C", folder, *words], GIT_COMMITTER_DATE=f"{SECONDS} +0000", GIT_AUTHOR_DATE=f"{SECONDS - 99} +0000")
+        holds(found[0] == 0, f"git {words}: {found}")
+    for file in ("asked", "fails"):
+        pathlib.Path(file).write_text("")
+
+
+def asked():
+    """What `release` asked for."""
+    return pathlib.Path("asked").read_text().splitlines()
+
+
+@test
+def packs_the_commit():
+    """All is made first, and the packages have the commit's time and author. Of files that the
+    commit does not have only those among the crates are refused."""
+    make_sources("here")
+    commit("here")
+    pathlib.Path("here/notes").write_text("not of the commit\n")
+    found = run(["sh", "-c", 'umask 077 && exec "$0" "$@"', "here/release", "packed"])
+    holds(found == (0, ""), f"{found}")
+    holds(asked() == ASKED, f"asked for {asked()}")
+    are_right("packed", "here", maintainer=AUTHOR)
+
+
+def change(name):
+    """Changes a file."""
+    with open(name, "a") as file:
+        file.write("more\n")
+
+
+def stage(name):
+    """Changes a file, and adds that to what the next commit has."""
+    change(name)
+    holds(run(["git", "-C", "here", "add", "-A"])[0] == 0, "git add")
+
+
+# What makes the sources others than those of the commit.
+CHANGES = {
+    "a source": lambda: change("here/crates/lms_c/specs/file"),
+    "a document": lambda: change("here/docs/C.md"),
+    "a script": lambda: change("here/release"),
+    "a change that is staged": lambda: stage("here/README.md"),
+    "a file that is gone": lambda: os.remove("here/examples/firmware.sig"),
+    "a mode": lambda: os.chmod("here/crates.txt", 0o755),
+    "a new source": lambda: change("here/crates/lms_c/src/more.rt"),
+    "no repository": lambda: shutil.rmtree("here/.git"),
+}
+
+
+def refuses_changed(what):
+    """Sources that are not those of the commit are not built."""
+    make_sources("here")
+    commit("here")
+    CHANGES[what]()
+    found = "git can't tell whether" if what == "no repository" else ""
+    line = f"{found} the sources are {'' if found else 'not '}those of the commit".strip()
+    status, errors = run(["here/release", "packed"], SOURCE_DATE_EPOCH="1", MAINTAINER=AUTHOR)
+    holds((status, errors.splitlines()[-1:]) == (70, [f"release: {line}"]), f"{status} {errors!r}")
+    holds(not asked() and not os.path.exists("packed"), f"asked for {asked()}")
+
+
+for changed in CHANGES:
+    add_test(f"refuses sources that are not those of the commit: {changed}", refuses_changed, changed)
+
+
+@test
+def refuses_what_cannot_be_made():
+    """Each of what it asks for fails in turn, or makes another C file than the repository has."""
+    make_sources("here")
+    commit("here")
+    for at, name in enumerate(ASKED):
+        pathlib.Path("asked").write_text("")
+        pathlib.Path("fails").write_text(name)
+        status, _ = run(["here/release", "packed"])
+        holds(status == 70 and asked() == ASKED[: at + 1], f"{name}: {status} {asked()}")
+        holds(not os.listdir("packed"), "something was packed")
+    pathlib.Path("fails").write_text("")
+    change("made/lms_verify.c")
+    found = run(["here/release", "packed"])
+    holds(found == (70, "release: portable/lms_verify.c is not what ./lms_c --portable makes\n"), f"{found}")
+    holds(not os.listdir("packed"), "something was packed")
