@@ -145,8 +145,8 @@ ENDINGS = {
     "breaks off before it counts": ("one\ntwo\n", 1, "0 passed, 1 failed"),
     "breaks off after it counted": (f"{PROVED} passed, 0 failed\n", 137, f"{PROVED} passed, 1 failed"),
     "says nothing": ("", 2, "0 passed, 1 failed"),
-    "counts failures and ends well": ("39 passed, 1 failed\n", 0, None),
-    "counts nothing and ends well": ("one\n", 0, None),
+    "counts failures and ends well": ("39 passed, 1 failed\n", 0, "39 passed, 2 failed"),
+    "counts nothing and ends well": ("one\n", 0, "0 passed, 1 failed"),
 }
 
 
@@ -154,16 +154,35 @@ def rt_ci(what):
     """No module is run."""
     says, ends, line = ENDINGS[what]
     copy = Copy(says, ends)
-    if line:
-        copy.checks(line, 1, [])
-        holds(copy.printed.startswith(says), "what rt ci says is not printed")
-    else:
-        _, status = copy.run(".ci/run")
-        holds(status not in (0, 130) and not copy.lines("ran"), f"{status}: {copy.printed}")
+    copy.checks(line, 1, [])
+    holds(copy.printed.startswith(says), "what rt ci says is not printed")
 
 
 for ending in ENDINGS:
     add_test(f"rt ci {ending}", rt_ci, ending)
+
+
+# What `tests/run` says last, how it ends, and how the merge check ends then.
+RUNS = {
+    "passes": ("45 passed, 0 failed", 0, "45 passed, 0 failed", 0),
+    "fails": ("44 passed, 10 failed", 1, "44 passed, 10 failed", 1),
+    "counts failures and ends well": ("44 passed, 10 failed", 0, "44 passed, 10 failed", 1),
+    "counts no failure and does not end well": ("45 passed, 0 failed", 1, "45 passed, 0 failed", 1),
+    "breaks off": ("one", 2, f"{PROVED} passed, 1 failed", 1),
+    "breaks off and ends well": ("one", 0, f"{PROVED} passed, 1 failed", 1),
+}
+
+
+def tests_run(what):
+    """A script stands in for it."""
+    says, ends, line, status = RUNS[what]
+    copy = Copy()
+    (copy.top / "tests/run").write_text(f"#!/bin/sh\necho '{says}'\nexit {ends}\n")
+    copy.checks(line, status, [])
+
+
+for kind in RUNS:
+    add_test(f"tests/run {kind}", tests_run, kind)
 
 
 @test
