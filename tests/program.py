@@ -77,6 +77,20 @@ def has(name, contents):
     holds(read(name) == contents, f"{name} has other bytes")
 
 
+def mode_of(name):
+    """Who may do what with a file, whatever kind it is of."""
+    return stat.S_IMODE(os.lstat(name).st_mode)
+
+
+def is_plain(name):
+    """A file that a script made may be read, and nobody may do more with it than the user's mask
+    leaves of a plain file: it is no program."""
+    mask = os.umask(0)
+    os.umask(mask)
+    mode = mode_of(name)
+    holds(mode & 0o400 and not mode & ~(0o666 & ~mask), f"{name} has the mode {mode:o}")
+
+
 def run(arguments, program=PROGRAM, **how):
     """Runs the program, with no input where none is given. What it ended with and printed, as text
     where nothing else is said."""

@@ -11,7 +11,7 @@ import subprocess
 from tests import harness
 from tests.harness import TOP, Wrong, checks, holds
 from tests.merge_check.crates import KIT, libraries_of, take_left
-from tests.program import PROGRAM, keygen, put, read, sign, verify
+from tests.program import PROGRAM, is_plain, keygen, put, read, sign, verify
 
 EXAMPLES = TOP / "examples"
 PUBLIC, MESSAGE, SIGNATURE = EXAMPLES / "release.pub", EXAMPLES / "firmware.bin", EXAMPLES / "firmware.sig"
@@ -292,6 +292,8 @@ def judges_node():
 def builds_here():
     """The library of this computer, with header and pkg-config file in a folder."""
     print(said_by(TOP / "lms_c", os.path.abspath("installed")), end="", flush=True)
+    for name in ("include/lms.h", "lib/liblms_c.a", "lib/pkgconfig/lms.pc"):
+        is_plain(f"installed/{name}")
 
 
 def builds_by_rattle(bounds):

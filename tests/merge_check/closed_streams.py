@@ -2,9 +2,11 @@
 what isn't its own. And each exit status."""
 
 import os
+import subprocess
 
-from tests.harness import TOP, add_test, holds, test
+from tests.harness import TOP, Skipped, add_test, holds, test
 from tests.program import BATCH, INFO, PROGRAM, ends, fails, has, index_in, job_lines, keygen, preload, put, read, run, sign, verify
+from tests.reference import image
 
 LEVELS = ((5, 8),)
 SETS = ["", "0", "1", "2", "01", "02", "12", "012"]
@@ -90,6 +92,31 @@ def works_without(closed):
 
 for numbers in SETS:
     add_test(f"closed streams: {' '.join(numbers) or 'none'}", works_without, numbers)
+
+
+def lacks_dev_null(closed):
+    """Where /dev/null is not there the program ends before it touches a file, whatever is asked and
+    whichever streams are closed: a file might take the number of one."""
+    script = f'mount -t tmpfs none /dev && exec "$@" {" ".join(CLOSINGS[it] for it in closed)}'
+    words = ["-rm" if os.geteuid() else "-m", "sh", "-c", script, "sh"]
+    try:
+        subprocess.run(["unshare", *words, "true"], capture_output=True, check=True)
+    except (OSError, subprocess.SubprocessError) as why:
+        raise Skipped(f"/dev can't be taken away here: {why}") from why
+    put("key.state", image(LEVELS, 5))
+    files = {name: (read(name), os.stat(name).st_mtime_ns) for name in os.listdir()}
+    new = keygen(state="other", public="other.pub")
+    for arguments in (new, sign(), INFO, BATCH, verify("text", "text", "text"), ["--help"], ["none"]):
+        ran = run([*words, PROGRAM, *arguments], program="unshare")
+        found = (ran.returncode, ran.stdout, ran.stderr)
+        wanted = (6, "", "" if "2" in closed else "error: cannot read input\n")
+        holds(found == wanted, f"{arguments[0]}: {found}, not {wanted}")
+        left = {name: (read(name), os.stat(name).st_mtime_ns) for name in os.listdir()}
+        holds(left == files, f"{arguments[0]}: the files are {sorted(left)}")
+
+
+for numbers in ("", "0", "1", "012"):
+    add_test(f"no /dev/null, closed streams: {' '.join(numbers) or 'none'}", lacks_dev_null, numbers)
 
 
 @test

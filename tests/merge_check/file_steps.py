@@ -10,11 +10,18 @@ import itertools
 import os
 
 from tests.harness import add_test, holds, test
-from tests.program import DRAFT, INFO, NODES, ends, has, keeps, keygen, preload, put, read, run, sign, signs
+from tests.program import DRAFT, INFO, NODES, Lock, ends, has, keeps, keygen, preload, put, read, run, sign, signs
 from tests.reference import image, kept, public_of, signature_of
 
 LEVELS = ((5, 1),)
 STATE = "key.state"
+# Errors of which each operation is tried, and those of which a few are.
+ERRORS = [errno.EINVAL, errno.EOPNOTSUPP, errno.ENOSPC]
+OTHER_ERRORS = [
+    errno.EPERM, errno.ENOENT, errno.ENXIO, errno.EBADF, errno.EAGAIN, errno.EACCES, errno.EBUSY, errno.EEXIST, errno.ENODEV,
+    errno.ENOTDIR, errno.EISDIR, errno.ENOTTY, errno.EFBIG, errno.EROFS, errno.EPIPE, errno.ENOLCK, errno.ENOSYS, errno.ETIMEDOUT,
+    errno.ESTALE, errno.EDQUOT,
+]
 # The index that signs next, and that at which the nodes of the only tree were kept.
 INDEX, KEPT = 5, 3
 IN_USE, NOT_READ, NOT_WRITTEN, NO_MEMORY = (3, "state in use"), (6, "cannot read input"), (6, "cannot write output"), (5, "out of memory")
@@ -116,20 +123,26 @@ class Command:
         is_cleaned = part.cleaned is not None and place >= part.cleaned
         return [f"remove {DRAFT}"] * is_cleaned + steps_in(self.parts[at + 1 :])
 
-    def fails_at(self, at, place, number):
-        """The operation at a place of a part fails alone, with the error of this number. No others
-        follow than should, the state is the old or the new one, and the next command does well."""
+    def meets(self, at, place, number):
+        """The operation at a place of a part fails alone, with the error of this number: no others
+        follow than should. That operation, and the fault."""
         done = steps_in(self.parts[:at]) + self.parts[at].steps[: place + 1]
         self.begin()
         fault = self.parts[at].fault_at(place, number)
         self.ends(done + self.after(at, place), fault, FAIL=len(done), LAST=len(done), FAULT=number)
+        return done[-1], fault
+
+    def fails_at(self, at, place, number):
+        """The operation at a place of a part fails so. The state is the old or the new one, and the
+        next command does well."""
+        last, fault = self.meets(at, place, number)
         stores = [it for it, part in enumerate(self.parts) if part.steps is STORE]
         # (Without a fault it goes on to the end.)
         is_stored = not fault or (bool(stores) and (at, place) >= (stores[0], PLACED))
         left = self.states()[is_stored]
-        holds((read(STATE) if os.path.exists(STATE) else None) == left, f"{done[-1]}: another state is left")
-        holds(not os.path.exists(DRAFT), f"{done[-1]}: a draft of the nodes is left")
-        holds(is_stored or not os.path.exists("text.sig"), f"{done[-1]}: a signature is written before the state")
+        holds((read(STATE) if os.path.exists(STATE) else None) == left, f"{last}: another state is left")
+        holds(not os.path.exists(DRAFT), f"{last}: a draft of the nodes is left")
+        holds(is_stored or not os.path.exists("text.sig"), f"{last}: a signature is written before the state")
         self.goes_on(left, self.counters[is_stored])
 
     def goes_on(self, state, counter):
@@ -163,6 +176,45 @@ def fails_at_each(command, number):
 for what, one in COMMANDS.items():
     add_test(f"{what}, each operation failing alone", fails_at_each, one, errno.EIO)
     add_test(f"{what}, each operation out of memory", fails_at_each, one, errno.ENOMEM)
+
+
+def meets_at_each(number):
+    """Each operation of each command fails alone with this error: the fault is that of any other,
+    and nothing is tried again. To remove what is not there is no fault."""
+    for command in COMMANDS.values():
+        for at, part in enumerate(command.parts):
+            for place in range(len(part.steps)):
+                command.meets(at, place, number)
+
+
+for error in ERRORS:
+    add_test(f"each operation failing with {errno.errorcode[error]}", meets_at_each, error)
+
+
+def meets_each_error(command, beginning):
+    """The operations of a command that begin so fail alone, with each other error that a system may
+    have for them."""
+    places = [(at, place) for at, part in enumerate(command.parts) for place in range(len(part.steps))]
+    found = [(at, place) for at, place in places if command.parts[at].steps[place].startswith(beginning)]
+    holds(found, f"no operation begins with {beginning}")
+    for number in OTHER_ERRORS:
+        for at, place in found:
+            command.meets(at, place, number)
+
+
+add_test("a flush failing with each other error", meets_each_error, SIGN_BY_TREES, "flush ")
+add_test("a lock failing with each other error", meets_each_error, DESCRIBE, "lock ")
+add_test("a public key failing with each other error", meets_each_error, KEYGEN, "write key.pub")
+
+
+@test
+def asks_once_for_a_lock_that_another_has():
+    for command in COMMANDS.values():
+        command.begin()
+        at = command.parts.index(LOCKED_FIRST if command is KEYGEN else LOCKED)
+        with Lock():
+            command.ends([*steps_in(command.parts[: at + 1]), "write standard error"], IN_USE)
+
 
 
 def has_signed():

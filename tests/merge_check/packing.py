@@ -94,26 +94,30 @@ def run(words, **more):
     return ran.returncode, ran.stderr
 
 
-def starts_by(launcher, level, name, path):
-    """A launcher becomes the program of this name, with its arguments and its status."""
-    how = {"env": {"PATH": f"{path}:{os.environ['PATH']}"}, "stdout": subprocess.PIPE, "text": True}
+def starts_by(launcher, level, name):
+    """A launcher becomes the program of this name, with its arguments and its status, and prints
+    nothing itself."""
+    home = os.path.abspath("home")
+    folders = {"PATH": f"{os.path.abspath('other')}:{os.environ['PATH']}", "HOME": home, "TMPDIR": home}
+    how = {"env": folders, "stdout": subprocess.PIPE, "stderr": subprocess.PIPE, "text": True}
     with subprocess.Popen([launcher, "a b", "", "-c"], **how) as running:
-        said = running.communicate()[0]
-    holds((running.returncode, said) == (3, f"{name}\n{running.pid}\na b\n\n-c\n"), f"{level}: {running.returncode} {said!r}")
+        found = (*running.communicate(), running.returncode)
+    holds(found == (f"{name}\n{running.pid}\na b\n\n-c\n", "", 3), f"{level}: {found}")
 
 
 def becomes_the_program(package):
     """The launcher in a package becomes the program for the processor, whose /proc/cpuinfo is read
-    by a stand-in for sed here. Nothing is left beside it."""
+    by a stand-in for sed here. It leaves no file."""
     files = sorted(pathlib.Path(package).rglob("*"))
-    os.makedirs("other", exist_ok=True)
+    for folder in ("other", "home"):
+        os.makedirs(folder, exist_ok=True)
     for missing in (None, *FLAGS):
         flags = " ".join(it for it in ("fpu", *FLAGS, "sse2") if it != missing)
         pathlib.Path("other/sed").write_text(f'#!/bin/sh\necho "{flags}"\n')
         os.chmod("other/sed", 0o755)
         level, name = (LEVELS[0], "common") if missing else (LEVELS[1], "fast")
-        starts_by(os.path.abspath(f"{package}/bin/lms_tool"), level, name, os.path.abspath("other"))
-    holds(sorted(pathlib.Path(package).rglob("*")) == files, "a file is left beside the launcher")
+        starts_by(os.path.abspath(f"{package}/bin/lms_tool"), level, name)
+    holds(sorted(pathlib.Path(package).rglob("*")) == files and not os.listdir("home"), "a file is left")
 
 
 @test

@@ -12,7 +12,7 @@ from tests.merge_check.crates import KIT
 from tests.merge_check.portable_targets import AT_ZERO, BOARDS, FILE, FOLDER, HERE, HOSTED, INCLUDES, MODES, STRICT, Target
 from tests.merge_check.portable_vectors import all_changes, all_vectors, header, some
 from tests.merge_check.wasm_functions import build, compare, has_node, links, wasm_module
-from tests.program import put, read
+from tests.program import is_plain, put, read
 
 TARGET = "wasm64-unknown-unknown"
 LIBRARY = TOP / "crates/lms_c/out/liblms_c.a"
@@ -71,6 +71,8 @@ def is_made():
     made = read("a folder elsewhere/lms_verify.c")
     holds(made == read(FILE), "portable/lms_verify.c is another file than ./lms_c --portable makes")
     holds(read("a folder elsewhere/lms.h") == read(TOP / "include/lms.h"), "lms.h is another file")
+    for name in ("lms_verify.c", "lms.h"):
+        is_plain(f"a folder elsewhere/{name}")
 
 
 def compiles_silently(compiler):

@@ -80,7 +80,7 @@ class StandIns:
         top = self.top
         grep = f'[ "$3" != /proc/cpuinfo ] || set -- "$1" "$2" "{top}/cpuinfo"\nexec {shutil.which("grep")} "$@"\n'
         self.script("bin/grep", grep)
-        notes = f'[ "$1" = try ] || echo "${{PWD##*/}} $*" >>"{top}/builds"\nstat -c %a "{top}/files/"* >>"{top}/modes"\n'
+        notes = f'[ "$1" = try ] || echo "${{PWD##*/}} $*" >>"{top}/builds"\nstat -c %a "{top}/files/"* >>"{top}/modes" 2>/dev/null\n'
         notes += f'cat >"{top}/nothing"\n'
         self.script("bin/rt", f'{notes}[ "$1" = try ] || echo "a line of rt $1"\n. "{top}/on_$1"\n')
 
@@ -153,7 +153,7 @@ class StandIns:
             running = self.begin(arguments, (), cwd, stdin=subprocess.DEVNULL, stdout=output, stderr=errors)
             with running:
                 try:
-                    for _ in range(100):
+                    for _ in range(10 * SECONDS):
                         if self.has("number"):
                             break
                         time.sleep(0.1)

@@ -2,15 +2,16 @@
 ones, and files that may not be used."""
 
 import hashlib
+import itertools
 import os
 import select
-import stat
 import subprocess
 import time
 
 from tests.harness import Wrong, holds, test
 from tests.program import (
-    BATCH, INFO, NODES, PROGRAM, VERIFY, Lock, as_who_may_not, described, ends, fails, has, job_lines, keeps, keygen, put, sign, signs,
+    BATCH, INFO, NODES, PROGRAM, VERIFY, Lock, as_who_may_not, described, ends, fails, has, job_lines, keeps, keygen, preload, put, read,
+    run, sign, signs,
 )
 from tests.reference import IDENTIFIER, SEED, image, public_of, signature_of
 
@@ -27,7 +28,6 @@ def makes_a_key_and_signs():
     ends(keygen(), 0, "capacity 32\n")
     has("key.pub", public_of(ONE))
     has("key.state", image(ONE, 0))
-    holds(stat.S_IMODE(os.stat("key.state").st_mode) == 0o600, "others may use the state")
     signs(ONE, 0)
     has("key.state", image(ONE, 1, 1))
     keeps(ONE, 0)
@@ -207,6 +207,23 @@ def leaves_a_state_in_use():
 
 
 @test
+def finds_no_memory():
+    """Each request for memory that `info` makes is refused in turn, those for the lock among them:
+    it is out of memory, or does without, and never says that the state is in use or can't be
+    read."""
+    put("key.state", image(ONE, 5))
+    wanted, refused = [(0, run(INFO).stdout, ""), (5, "", "error: out of memory\n")], 0
+    for number in itertools.count(1):
+        ran = run(INFO, env=preload("refuse", REFUSE=number, REQUESTS="requests"))
+        if number > int(read("requests")):
+            break
+        found = (ran.returncode, ran.stdout, ran.stderr)
+        holds(found in wanted, f"with request {number} refused: {found}")
+        refused += ran.returncode == 5
+    holds(ran.returncode == 0 and refused > 20, f"it was out of memory {refused} times in {number}")
+
+
+@test
 def refuses_bad_states():
     good = image(ONE, 5)
     rows = [
@@ -255,10 +272,13 @@ def meets_files_that_are_none():
 
 @test
 def meets_a_full_device():
-    """The index is used, and the next signature has another."""
+    """The index is used, and the next signature has another. A key whose public key finds no space
+    is stored."""
     ends(keygen(), 0, "capacity 32\n")
     fails(sign(out="/dev/full"), 6, "cannot write output")
     signs(ONE, 1)
+    fails(keygen(state="other", public="/dev/full"), 6, "cannot write output")
+    has("other", image(ONE, 0))
 
 
 @test

@@ -15,7 +15,7 @@ import subprocess
 import time
 
 from tests.harness import ARGUMENTS, TOP, Skipped, checks, holds
-from tests.program import put
+from tests.program import is_plain, put
 from tests.reference import public_of, signature_of
 
 EXAMPLES = TOP / "examples"
@@ -252,6 +252,7 @@ def the_page(counter):
     if page is None:
         page = os.path.abspath("page.html")
         subprocess.run([EXAMPLES / "web/build", page], check=True, stdin=subprocess.DEVNULL, stdout=subprocess.DEVNULL)
+        counter.check("the page is a plain file", is_plain, page)
 
     def check(name, is_so):
         """Counts a check as passed where this is so."""
