@@ -38,6 +38,20 @@ def misses_a_file():
 
 
 @test
+def a_dash_is_a_name():
+    """A file named `-` is read, and the input is not."""
+    files = ("text", "text.sig", "key.pub")
+    for place, name in enumerate(files):
+        put_signed()
+        given = read(name)
+        arguments = verify(*(*files[:place], "-", *files[place + 1 :]))
+        fails(arguments, 6, "cannot read input", input=given.decode("latin-1"))
+        put("-", given)
+        ends(arguments, 0, "valid\n", input="another")
+        os.remove("-")
+
+
+@test
 def accepts_the_signature_of_another_implementation():
     message, signature, public = (TOP / "examples" / name for name in ("firmware.bin", "firmware.sig", "release.pub"))
     ends(verify(message, signature, public), 0, "valid\n")
