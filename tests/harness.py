@@ -32,8 +32,10 @@ def holds(is_so, what):
 
 
 def said_by(*words, **how):
-    """What a command prints, which must end well."""
-    how = {"stdin": subprocess.DEVNULL, "stdout": subprocess.PIPE, "stderr": subprocess.PIPE, "text": True, "errors": "replace", **how}
+    """What a command prints, which must end well. It has no input where none is given."""
+    how = {"stdout": subprocess.PIPE, "stderr": subprocess.PIPE, "text": True, "errors": "replace", **how}
+    if "input" not in how:
+        how.setdefault("stdin", subprocess.DEVNULL)
     ran = subprocess.run(words, check=False, **how)
     holds(ran.returncode == 0, f"{words[0]} ended with {ran.returncode}\n{ran.stdout[-2000:]}{(ran.stderr or '')[-2000:]}")
     return ran.stdout

@@ -34,16 +34,17 @@ SECONDS, MAINTAINER = 1000000000, "No One <no-one@debian.org>"
 FLAGS = ["avx", "avx2", "bmi1", "bmi2", "f16c", "fma", "abm", "movbe"]
 
 
-def copy_sources(folder, outputs=()):
-    """A folder with all that `release` reads, with these outputs, and nothing else."""
+def copy_sources(folder, outputs):
+    """A folder with all that `release` reads, with these files as outputs, and nothing else."""
     for part in ("src", "specs", "proofs"):
         os.makedirs(f"{folder}/crates/lms_c/{part}", exist_ok=True)
     for name in ("docs", "include", "examples/c", "portable"):
         shutil.copytree(TOP / name, f"{folder}/{name}", ignore=shutil.ignore_patterns("__pycache__"))
     plain = [it.relative_to(TOP) for it in (TOP / "examples").glob("*.*")]
-    for name in ("release", "VERSION", "README.md", "crates.txt", "examples/web/index.html", *plain, *outputs):
+    sources = ["release", "VERSION", "README.md", "crates.txt", "examples/web/index.html", *plain]
+    for name, file in {**{name: TOP / name for name in sources}, **outputs}.items():
         os.makedirs(os.path.dirname(f"{folder}/{name}"), exist_ok=True)
-        shutil.copy2(TOP / name, f"{folder}/{name}")
+        shutil.copy2(file, f"{folder}/{name}")
 
 
 def pack_twice(make):

@@ -63,7 +63,7 @@ def make_sources(folder):
             raise Skipped(f"there is no {name}")
     if not os.path.exists("made"):
         make_outputs()
-    copy_sources(folder)
+    copy_sources(folder, {})
     for name in SOURCES:
         os.makedirs(os.path.dirname(f"{folder}/{name}"), exist_ok=True)
         with open(f"{folder}/{name}", "ab"):

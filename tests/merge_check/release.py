@@ -1,6 +1,7 @@
 """Packs what is built twice, by ./release --built, and tries the packages as a new user would: with
-no toolchain on the PATH, in folders of their own. Nothing is proved or built. Where something is
-not built, by `./lms_tool build both`, `./lms_c` and `examples/web/build`, all is skipped."""
+no toolchain on the PATH, in folders of their own. Nothing is proved or built. What is built by
+`./lms_tool build both`, `./lms_c` and `examples/web/build` is tried whole; where that is only the
+common program and the library, others stand in for the rest, and a part is tried."""
 
 import os
 import pathlib
@@ -9,11 +10,11 @@ import shutil
 
 from tests.harness import TOP, Skipped, checks, holds, said_by
 from tests.merge_check.packages import (
-    COMMANDS, DEBIAN, FLAGS, LEVELS, NAME, OUTPUTS, PAGE, PAGES, VERSION, are_right, copy_sources, pack_twice,
+    COMMANDS, COMMON, DEBIAN, FAST, FLAGS, LEVELS, LIBRARY, NAME, OUTPUTS, PAGE, PAGES, VERSION, are_right, copy_sources, pack_twice,
 )
 from tests.program import job_lines, keygen, put, sign, verify
 
-TOOLS = ["tar", "gzip", "strip", "sha256sum", "md5sum", "dpkg-deb", "dpkg", "basenc"]
+TOOLS = ["tar", "gzip", "strip", "objcopy", "sha256sum", "md5sum", "dpkg-deb", "dpkg", "basenc"]
 # `dpkg` is there for root.
 ALL_TOOLS = f"{os.environ.get('PATH', '')}:/usr/sbin:/sbin"
 # What follows this is the first block of commands of a document.
@@ -26,19 +27,33 @@ def sources():
     return [TOP / "crates.txt", *(file for folder in folders for file in folder.rglob("*") if file.is_file())]
 
 
-def skip_where_something_is_missing():
-    """All is skipped where a tool is not there, or something is not built."""
+def why_not(output):
+    """Why an output can't be packed, or nothing."""
+    if not (TOP / output).is_file():
+        return f"{output} is not built"
+    newest = max(file.stat().st_mtime_ns for file in [*sources(), *[TOP / "examples/web/index.html"] * (output == PAGE)])
+    return f"{output} is older than a source" if (TOP / output).stat().st_mtime_ns < newest else ""
+
+
+def outputs():
+    """The files that are packed as outputs, and whether all are what is built. Where there is no
+    program for AVX2 the common one with a section more stands in for it, and a text for a page. All
+    is skipped where a tool or another output is not there."""
     for tool in TOOLS:
         if not shutil.which(tool, path=ALL_TOOLS):
             raise Skipped(f"there is no {tool}")
-    newest = max(file.stat().st_mtime_ns for file in sources())
-    for output in OUTPUTS:
-        if not (TOP / output).is_file():
-            raise Skipped(f"{output} is not built")
-        text = TOP / "examples/web/index.html"
-        own = text.stat().st_mtime_ns if output == PAGE else 0
-        if (TOP / output).stat().st_mtime_ns < max(newest, own):
-            raise Skipped(f"{output} is older than a source")
+    for output in (COMMON, LIBRARY):
+        if why := why_not(output):
+            raise Skipped(why)
+    files = {output: TOP / output for output in OUTPUTS}
+    if why_not(FAST):
+        put("section", b"one more")
+        said_by("objcopy", "--add-section", ".one_more=section", TOP / COMMON, "fast")
+        files[FAST] = "fast"
+    if why_not(PAGE):
+        put("page", b"<title>a page</title>\n")
+        files[PAGE] = "page"
+    return files, not any(map(why_not, OUTPUTS))
 
 
 def alone(*words, **how):
@@ -51,9 +66,9 @@ def prints(wanted, said):
     holds(said == f"{wanted}\n", f"it printed {said!r}, not {wanted!r}")
 
 
-def packs():
-    """Two packings in two folders are the same bytes."""
-    pack_twice(lambda folder: copy_sources(folder, OUTPUTS))
+def packs(files):
+    """Two packings of these outputs in two folders are the same bytes."""
+    pack_twice(lambda folder: copy_sources(folder, files))
 
 
 def goes_round(program, package):
@@ -192,14 +207,18 @@ def tries(counter, package, library):
 
 @checks
 def the_packages(counter):
-    skip_where_something_is_missing()
-    if not counter.check("two packings in two folders are the same bytes", packs):
+    files, are_built = outputs()
+    if not counter.check("two packings in two folders are the same bytes", packs, files):
         return
     counter.check("what is packed, with its modes", are_right, "packed", "here")
     said_by("tar", "-xzf", f"packed/{NAME}.tar.gz")
     said_by("dpkg-deb", "-R", f"packed/{DEBIAN}", "debian")
-    tries(counter, NAME, "lib")
-    tries(counter, "debian/usr", "lib/x86_64-linux-gnu")
+    if are_built:
+        tries(counter, NAME, "lib")
+        tries(counter, "debian/usr", "lib/x86_64-linux-gnu")
+    else:
+        counter.check(f"the launcher of {NAME}", launches, NAME)
+        counter.skip("each program, library and page of the manual", "not all is built")
     counter.check("README's first block", follows_readme)
     counter.check("the package is installed and removed", installs)
     if shutil.which("lintian"):
