@@ -5,14 +5,18 @@ import fcntl
 import os
 import pathlib
 import re
+import resource
+import select
 import shutil
 import stat
 import subprocess
 import tempfile
 import time
+import tty
 
 from tests.harness import TOP, Skipped, Wrong, holds
 from tests.reference import CHAINS, IDENTIFIER, RANDOMIZER, SEED, kept, signature_by, way_of
+from tests.seeds import keeps_secret
 
 PROGRAM = str(TOP / "crates/lms_tool/out/lms_tool")
 # Who may not do what the tests want refused, where the user of the tests may do all.
@@ -93,11 +97,57 @@ def is_plain(name):
 
 def run(arguments, program=PROGRAM, **how):
     """Runs the program, with no input where none is given. What it ended with and printed, as text
-    where nothing else is said."""
+    where nothing else is said. The seed stays where it may stand."""
     how = {"timeout": 600, "capture_output": True, "text": True, **how}
     if "input" not in how:
         how.setdefault("stdin", subprocess.DEVNULL)
-    return subprocess.run([program, *arguments], check=False, **how)
+    ran = subprocess.run([program, *arguments], check=False, **how)
+    record = (how.get("env") or {}).get("RECORD")
+    keeps_secret(arguments, (ran.stdout, ran.stderr), how.get("cwd") or ".", record=record)
+    return ran
+
+
+def taken():
+    """How many seconds of the processors all programs took that were run."""
+    used = resource.getrusage(resource.RUSAGE_CHILDREN)
+    return used.ru_utime + used.ru_stime
+
+
+def measured(arguments, **how):
+    """Runs the program. What it ended with and printed, how many seconds it took, and how many of the
+    processors."""
+    begun, before = time.monotonic(), taken()
+    ran = run(arguments, **how)
+    return ran, time.monotonic() - begun, taken() - before
+
+
+def said_on(terminal):
+    """All that is printed to a terminal until nobody has it any more."""
+    said, last = b"", time.monotonic() + 120
+    while True:
+        holds(select.select([terminal], [], [], max(0, last - time.monotonic()))[0], f"it did not end in two minutes: {said[-200:]!r}")
+        try:
+            said += os.read(terminal, 65536)
+        except OSError:
+            return said
+
+
+def on_terminal(arguments, streams=("stdout", "stderr"), **how):
+    """Runs the program with these of its streams on one terminal. What it ended with, what it printed
+    there, and what to the other of the two streams, if any."""
+    terminal, side = os.openpty()
+    tty.setraw(side)
+    how = {"stdin": subprocess.DEVNULL, "stdout": subprocess.PIPE, "stderr": subprocess.PIPE, **how, **dict.fromkeys(streams, side)}
+    with subprocess.Popen([PROGRAM, *arguments], **how) as running, os.fdopen(terminal, "rb", 0):
+        os.close(side)
+        try:
+            shown = said_on(terminal)
+            rest = b"".join(it.read() for it in (running.stdout, running.stderr) if it)
+        except BaseException:
+            running.kill()
+            raise
+    keeps_secret(arguments, (shown, rest), how.get("cwd") or ".")
+    return running.returncode, shown.decode(), rest.decode()
 
 
 def ends(arguments, status, output="", errors="", **how):

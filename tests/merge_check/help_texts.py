@@ -3,7 +3,7 @@ what the program prints, and nothing else."""
 
 from tests.harness import add_test, test
 from tests.program import ends
-from tests.reference import SEED
+from tests.reference import RANDOMIZER, SEED
 
 LEVELS = (
     "Height/width of each level, top first, as 10/8,10/8: 1 to 8 levels; heights 5, 10, 15, 20 or 25, together at most 60; "
@@ -189,9 +189,8 @@ for mistake, saying, then in MISTAKES:
 
 @test
 def takes_options_in_any_order_and_with_equals_signs():
-    seed = SEED.hex()
-    shows(f"keygen --public key.pub --state=key.state --id {'2' * 32} --seed {seed} --levels 5/8", "capacity 32\n")
-    shows(f"sign --out=text.sig --message text --random {seed} --state key.state", "index 0\n")
+    shows(f"keygen --public key.pub --state=key.state --id {'2' * 32} --seed {SEED.hex()} --levels 5/8", "capacity 32\n")
+    shows(f"sign --out=text.sig --message text --random {RANDOMIZER.hex()} --state key.state", "index 0\n")
     shows("info --state=key.state", "levels 5/8\ncounter 1\ncapacity 32\nleft 31\nopenings 1\nburnt 0\n")
     shows("batch --workers=1 --state key.state", "")
     shows("verify --signature text.sig --message=text --public key.pub", "valid\n")

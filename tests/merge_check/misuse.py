@@ -1,10 +1,11 @@
-"""A lease (`Lease` of `lms_book`) and a pass (`IndexPass` of `lms_pool`) have to be used, and once.
+"""A lease (`Lease` of `lms_book`) and a pass (`IndexPass` of `lms_pool`, `CellPass` of `lms_cell_pool`)
+have to be used, and once; and what has a key's seed in it can't be printed.
 
-The toolchain reads small bodies of a crate over these two: each wrong body it must refuse by the
+The toolchain reads small bodies of a crate over these: each wrong body it must refuse by the
 error that is named beside it, with no other beside that, and the right body it must take, up to
 where moves are looked for. It looks for wrong types first, then for what is dropped, then for what
 is moved twice, and stops where it has found some; so what was refused is taken out, and the rest is
-read again. Nothing is proved or built. And each place of the two crates that names one of the types
+read again. Nothing is proved or built. And each place of the three crates that names one of the types
 is compared with a list: its declaration, its impls with their functions and constants, and whatever
 else gives, takes, makes or ends one."""
 
@@ -19,6 +20,7 @@ import string
 import subprocess
 
 from tests.harness import TOP, Wrong, add_test, checks, holds, test
+from tests.merge_check import misuse_secrets, misuse_signing
 from tests.merge_check.misuse_cases import CASES, CRATES, TYPES
 
 ERROR = re.compile(r"(?m)^(.+?):\d+:\d+: error\[([\w-]+)\]: (.*)$")
@@ -62,7 +64,7 @@ ALWAYS_REFUSED = Body(
 
 
 def bodies():
-    """The wrong and the right bodies of each case, for each type."""
+    """The wrong and the right bodies of each case, for each type, and those that print."""
     found = []
     for type_name, words in TYPES.items():
         words = {"Type": type_name, **words}
@@ -71,6 +73,8 @@ def bodies():
             file = f"{words['it']}_{number}"
             found.append(Body(f"a {words['it']} {what}", f"{file}_wrong", wrong, error, says))
             found.append(Body(f"a {words['it']} that is not {what}", f"{file}_right", right))
+    for name, file, words, error, says in misuse_secrets.bodies():
+        found.append(Body(name, file, string.Template(misuse_secrets.BODY).substitute(words), error, says))
     return found
 
 
@@ -165,7 +169,7 @@ def judged(copy, read):
 
 
 def places(type_name):
-    """The places of the two crates that name a type, with its fields at its declaration and the
+    """The places of the three crates that name a type, with its fields at its declaration and the
     heads of the functions in its impls."""
     found = []
     named = re.compile(rf"\b{type_name}\b")
@@ -185,10 +189,10 @@ def places(type_name):
     return collections.Counter(found)
 
 
-def sources():
-    """The code of each file of the two crates, without comments and strings, and the crate's
-    name."""
-    for crate in CRATES:
+def sources(crates=CRATES):
+    """The code of each file of the three crates, or of others, without comments and strings, and the
+    crate's name."""
+    for crate in crates:
         for file in sorted((TOP / "crates" / crate / "src").rglob("*.rt")):
             yield crate, NO_CODE.sub(" ", file.read_text(encoding="utf-8"))
 
@@ -216,12 +220,16 @@ def plain(text):
     return " ".join(text.split())
 
 
-def is_named_as_listed(type_name, listed):
-    """The places that name a type are those on the list."""
+def are_as_listed(found, listed):
+    """These places are those on the list."""
     listed = collections.Counter(plain(it) for it in listed.strip().split("\n"))
-    found = places(type_name)
     differences = [*(f"not on the list: {it}" for it in found - listed), *(f"gone: {it}" for it in listed - found)]
     holds(not differences, "; ".join(differences))
+
+
+def is_named_as_listed(type_name, listed):
+    """The places that name a type are those on the list."""
+    are_as_listed(places(type_name), listed)
 
 
 for name_of_type, its_words in TYPES.items():
@@ -229,8 +237,26 @@ for name_of_type, its_words in TYPES.items():
 
 
 @test
+def the_places_that_sign():
+    """Nothing else in the product signs, before its index is reserved or by the same index again."""
+    crates = sorted(it.name for it in (TOP / "crates").iterdir() if not misuse_signing.OTHERS.search(it.name))
+    places = (f"{crate}: {head_at(code, it.start())[0]}" for crate, code in sources(crates) for it in misuse_signing.SIGNS.finditer(code))
+    are_as_listed(collections.Counter(places), misuse_signing.PLACES)
+
+
+@test
+def what_can_be_printed():
+    """No type of any crate that can be printed has a seed in it."""
+    found = collections.defaultdict(str)
+    for crate, code in sources(sorted(it.name for it in (TOP / "crates").iterdir())):
+        found[crate] += code
+    printed = [f"{it} of {crate}" for crate, code in found.items() for it in misuse_secrets.printed_with_a_seed(code)]
+    holds(not printed, f"with a seed in them these can be printed: {', '.join(printed)}")
+
+
+@test
 def unsafe_code_and_macros():
-    """Nothing else in the two crates may give a value twice though no place names its type."""
+    """Nothing else in the three crates may give a value twice though no place names its type."""
     found = {f"{crate} has the word {it}" for crate, code in sources() for it in re.findall(r"\b(?:unsafe|macro_rules)\b", code)}
     holds(not found, "; ".join(sorted(found)))
 

@@ -1,9 +1,9 @@
-"""The bodies of `misuse`, and the places of the two crates that name the two types."""
+"""The bodies of `misuse`, and the places of three crates that name their types."""
 
-CRATES = ("lms_book", "lms_pool")
+CRATES = ("lms_book", "lms_pool", "lms_cell_pool")
 
 # For each type the words of the bodies, how it would be made and how it is given, and each place of
-# the two crates that names it.
+# the three crates that names it.
 TYPES = {
     "Lease": {
         "crate": "lms_book",
@@ -41,6 +41,8 @@ TYPES = {
             lms_book: use crate::book::Lease;
             lms_book: pub fn knows(&self, lease: &Lease) -> bool
             lms_pool: use lms_book::Lease;
+            lms_cell_pool: use lms_book::Lease;
+            lms_cell_pool: pub fn over<R: Wait>( rt: &R, alloc: Global, lease: Lease, seats: usize, ) -> Result<(Self, Vec<CellSeat>), (OutOfMemory, Lease)>
             lms_pool: pub fn over( alloc: Global, lease: Lease, seats: usize, ) -> Result<(Self, Vec<DrawSeat>), (OutOfMemory, Lease)>
             """,
     },
@@ -80,6 +82,45 @@ TYPES = {
             lms_pool: use crate::pass::IndexPass;
             lms_pool: pub fn claim(&self, me: &mut DrawSeat) -> Result<IndexPass, Ended>
             lms_pool: Ok(IndexPass
+            """,
+    },
+    "CellPass": {
+        "crate": "lms_cell_pool",
+        "it": "cell_pass",
+        "number": "index",
+        "spend": "burn",
+        "Fault": "Ended",
+        "fields": "pool: _, place: _, index: _",
+        "made": """
+            use lms_cell_pool::{CellPass, CellPool};
+            use std::snapshot::Snapshot;
+
+            pub fn made(pool: &CellPool) -> CellPass {
+                CellPass { pool: Snapshot::of(pool), place: 0, index: 0 }
+            }""",
+        "given": """
+            ghost use Rattle.std.specs.Prelude.{◌≡◌};
+
+            use lms_cell_pool::{CellPass, CellPool, CellSeat, Ended};
+            use std::sync::Wait;
+
+            pub fn given<R: Wait>(rt: &R, pool: &CellPool, seat: &mut CellSeat) -> Result<CellPass, Ended>
+                requires { seat.old.pool ≡ pool.now }
+            {
+                pool.claim(rt, seat)
+            }""",
+        "places": """
+            lms_cell_pool: pub use crate::pass::CellPass;
+            lms_cell_pool: pub struct CellPass { pub(crate) pool: Snapshot<CellPool>, pub(crate) place: u64, pub(crate) index: u64, }
+            lms_cell_pool: impl Model for CellPass
+            lms_cell_pool: impl CellPass
+            lms_cell_pool: impl CellPass: pub fn place(&self) -> u64
+            lms_cell_pool: impl CellPass: pub fn index(&self) -> u64
+            lms_cell_pool: impl CellPass: pub fn burn(self)
+            lms_cell_pool: let CellPass
+            lms_cell_pool: use crate::pass::CellPass;
+            lms_cell_pool: pub fn claim<R: Wait>(&self, rt: &R, me: &mut CellSeat) -> Result<CellPass, Ended>
+            lms_cell_pool: Ok(CellPass
             """,
     },
 }

@@ -47,6 +47,7 @@ from tests.harness import ARGUMENTS, Wrong, add_test, holds
 from tests.merge_check.weak_disk import Disk, differs_by, fault_of, found_in, lay, operations, printed
 from tests.program import ends, has, job_lines, keygen, preload, read, run, sign
 from tests.reference import image, kept, public_of, signature_of
+from tests.seeds import tells
 
 ONE, TWO = ((5, 8),), ((5, 4), (5, 4))
 MESSAGE = b"abc"
@@ -79,6 +80,7 @@ class Run:
         said = f"{self.name} ended with {ran.returncode}: {ran.stderr}; calls that are not known: {unknown}"
         holds((ran.returncode, ran.stderr, unknown) == (0, b"", []), said)
         holds(printed(self.done) == ran.stdout, f"{self.name}: not all that was printed is recorded")
+        self.keeps_secret()
         disk = self.disk()
         for number, operation in enumerate(self.done, 1):
             disk.do(*operation, number)
@@ -87,6 +89,16 @@ class Run:
         holds(recorded == there, f"{self.name}: not all that was done to files is recorded")
         holds(there.get(self.key.state) == self.after, f"{self.name}: it left another state")
         return ran.stdout
+
+    def keeps_secret(self):
+        """Of all files and streams the seed is written to the state's draft alone."""
+        names, disk = {}, self.disk()
+        for word, number, _, data in self.done:
+            if word == "open":
+                names[number] = disk.name(data)
+            elif word == "write" and tells(data):
+                name = names.get(number, f"stream {number}")
+                holds(name == f"{self.key.state}.new", f"{self.name}: the seed is written to {name}")
 
     def disk(self, ignored=None):
         """The files that it found."""

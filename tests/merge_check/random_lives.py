@@ -37,6 +37,7 @@ from tests.harness import ARGUMENTS, Wrong, holds, test
 from tests.merge_check.power import Power
 from tests.program import PROGRAM, index_in, job_lines, keygen, preload, put, run, sign, verify
 from tests.reference import CHAINS
+from tests.seeds import keeps_secret
 
 LEVELS = ["5/1"] * 5 + ["5/2"] * 3 + ["5/4", "5/8"] + ["5/1,5/1"] * 5 + ["5/2,5/1"] * 2 + ["5/1,5/4,5/1", "5/8,5/8"]
 MESSAGE = b"a message"
@@ -87,7 +88,7 @@ class Life:
                 self.settings["LATE"] = 1
         elif self.fault == "refuse":
             self.settings = {"REFUSE": dice.randint(1, 160)}
-        self.moment, self.power = dice.random() * 1.2, None
+        self.moment, self.power, self.record = dice.random() * 1.2, None, None
 
     def arguments(self):
         """What the program is asked for."""
@@ -104,7 +105,7 @@ class Life:
         if self.power:
             # (After the other one it sees what is done of an operation that fails.)
             libraries.append("record")
-            settings["RECORD"] = f"{self.name}.record"
+            settings["RECORD"] = self.record = f"{self.name}.record"
         put(f"{self.name}.in", job_lines(*[MESSAGE] * self.jobs))
         to = "/dev/full" if self.fault == "full" and self.moment >= 0.6 else f"{self.name}.out"
         with open(f"{self.name}.in", "rb") as given, open(to, "wb") as output, open(f"{self.name}.err", "wb") as errors:
@@ -120,6 +121,7 @@ class Life:
             self.status = self.process.wait()
             holds(self.fault == "kill", f"{self.name}: it did not end")
         self.output, self.errors, self.signature = self.read("out"), self.read("err").decode(), self.read("sig")
+        keeps_secret(self.arguments(), (self.output, self.errors), self.key.folder, self.key.seeds, self.record)
         holds(self.status in (0, 1, 3, 4, 5, 6, -9), f"{self.name}: it ended with {self.status}: {self.errors}")
 
     def read(self, ending):
@@ -178,7 +180,7 @@ class Key:
         self.capacity = 2 ** sum(height for height, _ in self.levels)
         sizes = [12 + 32 * (CHAINS[width][1] + 1 + height) for height, width in self.levels]
         self.length = 4 + sum(sizes) + 56 * (len(sizes) - 1)
-        self.given, self.older, self.has_lost_power = {}, [], False
+        self.given, self.older, self.seeds, self.has_lost_power = {}, [], [], False
         os.mkdir(self.folder)
         put(f"{self.folder}/text", MESSAGE)
         begun = time.monotonic()
@@ -195,8 +197,9 @@ class Key:
 
     def make(self, name):
         """Makes a key of these levels, in files of this name."""
-        seed, identifier = self.dice.randbytes(32).hex(), self.dice.randbytes(16).hex()
-        self.call(keygen(self.text, seed, identifier, f"{self.folder}/{name}.state", f"{self.folder}/{name}.pub"))
+        seed, identifier = self.dice.randbytes(32), self.dice.randbytes(16).hex()
+        self.seeds.append(seed)
+        self.call(keygen(self.text, seed.hex(), identifier, f"{self.folder}/{name}.state", f"{self.folder}/{name}.pub"))
 
     def nodes(self, name):
         """The kept nodes, or no bytes."""

@@ -3,6 +3,7 @@ ones, and files that may not be used."""
 
 import hashlib
 import itertools
+import mmap
 import os
 import select
 import subprocess
@@ -67,6 +68,64 @@ def signs_and_verifies_a_large_message():
     ends(VERIFY, 0, "valid\n")
 
 
+def put_large(length, last):
+    """A message of so many bytes, which are zeros but for the last one. It takes next to no space."""
+    put("text", b"")
+    os.truncate("text", length)
+    with open("text", "r+b") as file:
+        file.seek(length - 1)
+        file.write(last)
+
+
+@test
+def signs_and_verifies_256_mib_and_a_byte():
+    """Each byte counts, also the last one, and the one after it."""
+    length = 2**28 + 1
+    put_large(length, b"\x07")
+    ends(keygen(), 0, "capacity 32\n")
+    ends(sign(), 0, "index 0\n")
+    with open("text", "rb") as file, mmap.mmap(file.fileno(), 0, access=mmap.ACCESS_READ) as message:
+        has("text.sig", signature_of(ONE, 0, message))
+    ends(VERIFY, 0, "valid\n")
+    put_large(length, b"\x06")
+    ends(VERIFY, 1, "invalid\n")
+    put_large(length, b"\x07")
+    with open("text", "ab") as file:
+        file.write(b"\0")
+    ends(VERIFY, 1, "invalid\n")
+
+
+@test
+def verifies_by_very_many_reads():
+    """Byte by byte, by more reads than a message of a GiB takes."""
+    message = bytes(2**18) + b"\x07"
+    put("text", message)
+    put("key.pub", public_of(ONE))
+    put("text.sig", signature_of(ONE, 3, message))
+    how = {"env": preload("stop", SHORT=1)}
+    ends(VERIFY, 0, "valid\n", **how)
+    put("text", message[:-1] + b"\x06")
+    ends(VERIFY, 1, "invalid\n", **how)
+
+
+@test
+def signs_by_each_number_of_levels():
+    """By `keygen`, `sign` and `batch`, beside the end of a tree in the middle of all indices."""
+    for count in range(1, 9):
+        levels, text, capacity = ((5, 1),) * count, ",".join(["5/1"] * count), 32**count
+        ends(keygen(text), 0, f"capacity {capacity}\n")
+        has("key.pub", public_of(levels))
+        described(text, 0, capacity, 0, 0)
+        index = capacity * 3 // 8 - 2
+        put("key.state", image(levels, index))
+        signs(levels, index)
+        ends(VERIFY, 0, "valid\n")
+        lines = "".join(f"{it} {signature_of(levels, it, b'abc').hex()}\n" for it in (index + 1, index + 2))
+        ends(BATCH, 0, lines, input=job_lines(b"abc", b"abc").decode())
+        described(text, index + 3, capacity, 2, 0)
+        os.remove("key.state")
+
+
 @test
 def reads_each_height_and_width():
     for levels, capacity in [("5/2,10/4,15/8,20/1,10/1", 2**60), ("5/2,25/8", 2**30)]:
@@ -86,9 +145,9 @@ def reads_until(terminal, what):
             raise Wrong(f"it ended, and reported {printed!r}") from why
 
 
-def begins_a_tree_of_height_25(words, jobs):
-    """The program reports leaves of such a tree, so it has the memory for it. All of them would
-    take some minutes: it is killed then."""
+def begins_trees_of_height_25(words, jobs, leaves):
+    """The program reports some of so many leaves, so it has the memory for the first tree. All of
+    them would take some minutes: it is killed then."""
     put("jobs", job_lines(*[b"abc"] * jobs))
     terminal, errors = os.openpty()
     with open("jobs", "rb") as lines:
@@ -96,21 +155,29 @@ def begins_a_tree_of_height_25(words, jobs):
     os.close(errors)
     with running, os.fdopen(terminal, "rb", 0):
         try:
-            reads_until(terminal, f" of {2**25} leaves".encode())
+            reads_until(terminal, f" of {leaves} leaves".encode())
         finally:
             running.kill()
 
 
 @test
-def begins_the_tallest_tree():
-    """A key of it, a signature by its last leaf, and two jobs on both sides of the edge between two
-    bottom subtrees. The indices are stored as used before."""
-    levels = ((25, 1),)
-    begins_a_tree_of_height_25(keygen("25/1"), 0)
+def begins_the_tallest_trees():
+    """A key of one, a signature by its last leaf, and two jobs on both sides of the edge between two
+    bottom subtrees; then of two levels, and of the most indices that there may be. The indices are
+    stored as used before."""
+    begins_trees_of_height_25(keygen("25/1"), 0, 2**25)
     holds(not os.path.exists("key.state"), "the state was stored before the public key was made")
-    for words, index, jobs in [(sign(), 2**25 - 1, 1), (BATCH, 1023, 2)]:
+    one, two, three = ((25, 1),), ((25, 1), (25, 1)), ((25, 1), (25, 1), (10, 1))
+    for words, levels, index, jobs, leaves in [
+        (sign(), one, 2**25 - 1, 1, 2**25),
+        (BATCH, one, 1023, 2, 2**25),
+        (sign(), two, 2**50 - 1, 1, 2 * 2**25),
+        (BATCH, two, 2**49 - 1, 2, 3 * 2**25),
+        (sign(), three, 2**59, 1, 2 * 2**25 + 2**10),
+        (BATCH, three, 2**60 - 2, 2, 2 * 2**25 + 2**10),
+    ]:
         put("key.state", image(levels, index))
-        begins_a_tree_of_height_25(words, jobs)
+        begins_trees_of_height_25(words, jobs, leaves)
         has("key.state", image(levels, index + jobs, 1))
 
 

@@ -10,12 +10,10 @@ quick. All of them are valid."""
 
 import os
 import re
-import resource
 import subprocess
-import time
 
 from tests.harness import ARGUMENTS, TOP, Skipped, Wrong, checks, holds
-from tests.program import ends, keygen, run, sign, verify
+from tests.program import ends, keygen, measured, sign, verify
 
 LEAST_PROCESSORS = 4
 # The argument by which the merge check asks for it.
@@ -23,20 +21,6 @@ NEEDED = "--needed"
 # In milliseconds of processor time: what a signature by kept nodes takes at most, and one by a tree
 # that is computed at least.
 QUICK, SLOW = 50, 500
-
-
-def taken():
-    """How many milliseconds of processor time all programs took that were run."""
-    used = resource.getrusage(resource.RUSAGE_CHILDREN)
-    return 1000 * (used.ru_utime + used.ru_stime)
-
-
-def measured(arguments):
-    """Runs the program. What it ended with and printed, how many seconds it took, and how many
-    milliseconds of processor time."""
-    begun, before = time.monotonic(), taken()
-    ran = run(arguments)
-    return ran, time.monotonic() - begun, taken() - before
 
 
 def reports(ran, seconds, leaves, output):
@@ -62,10 +46,10 @@ def makes_key(level, leaves):
 def signs(index, leaves):
     """Signs by this index, and finds the signature valid. How many milliseconds that took, and what
     was said."""
-    ran, seconds, milliseconds = measured(sign())
+    ran, seconds, taken = measured(sign())
     ends(verify(), 0, "valid\n")
     reports(ran, seconds, leaves, f"index {index}")
-    return milliseconds, ran.stderr
+    return 1000 * taken, ran.stderr
 
 
 def signs_quickly(index, leaves):

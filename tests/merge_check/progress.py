@@ -1,0 +1,174 @@
+"""What `keygen`, `sign` and `batch` tell of the leaves that they compute: on a terminal, elsewhere,
+and when.
+
+`machine.c`, which is loaded before the program, gives it a clock that goes on at each look alone. The
+program looks when it begins with leaves and each time that some are done, so each count can be due,
+and by one processor all that is printed is known byte by byte. What is printed to standard output and
+to standard error is one text where both are one terminal."""
+
+import os
+import re
+import statistics
+import subprocess
+
+from tests.harness import holds, test
+from tests.program import BATCH, INFO, NODES, PROGRAM, VERIFY, job_lines, keygen, on_terminal, preload, put, read, run, sign
+from tests.merge_check.wrong_nodes import wrong_way
+from tests.reference import checked, image, kept_parts, public_of, signature_of
+
+ONE, TWO, THREE = (((5, 1),) * count for count in (1, 2, 3))
+# What clears a line, how many leaves are computed at once, and how often a count may be shown on a
+# terminal and elsewhere, in nanoseconds.
+WIPED, AT_ONCE, SHOWN, PRINTED = "\r\x1b[K", 8, 5 * 10**8, 10**10
+# A count is told too early where the work before it takes less than this part of what it takes else.
+EARLY = 0.4
+
+
+def machine(tick, processors=1, **settings):
+    """The environment of a machine with so many processors, whose clock goes on by so much at each
+    look."""
+    put("looks", b"")
+    return preload("machine", PROCESSORS=processors, TICK=tick, LOOKS="looks", **settings)
+
+
+def counts(leaves, of=None, every=1):
+    """The line on a terminal as it is after each count, or after every so many counts."""
+    return "".join(f"{WIPED}{at} of {of or leaves} leaves" for at in range(every * AT_ONCE, leaves + 1, every * AT_ONCE))
+
+
+def shows(arguments, status, text, begins=1, tick=SHOWN, every=1, **how):
+    """The program ends so and shows this on a terminal, its line among it, and looks at the clock no
+    more often than it begins and than it is done with some leaves."""
+    status_is, shown, _ = on_terminal(arguments, env=machine(tick), **how)
+    holds((status_is, shown) == (status, text), f"{arguments[0]}: {status_is} {shown!r}, and not {status} {text!r}")
+    looks, wanted = len(read("looks").splitlines()), begins + every * text.count("leaves")
+    holds(looks == wanted, f"{arguments[0]} looked at the clock {looks} times, and not {wanted} times")
+
+
+def begins_at(levels, index, nodes=None):
+    """The state gives this index next, and these nodes are kept, or none."""
+    put("key.state", image(levels, index))
+    if os.path.exists(NODES):
+        os.remove(NODES)
+    if nodes:
+        put(NODES, nodes)
+
+
+@test
+def shows_each_count_once_and_wipes_it():
+    """By `keygen`, `sign` by trees of three levels, all announced at once, by those that are not kept
+    and by kept ones, and `batch` over the end of a tree. What computes no tree shows nothing."""
+    shows(keygen("5/1,5/1,5/1"), 0, f"{counts(32)}{WIPED}capacity 32768\n")
+    shows(sign(), 0, f"{counts(64)}{WIPED}index 0\n")
+    shows(sign(), 0, "index 1\n", begins=0)
+    begins_at(THREE, 1)
+    shows(sign(), 0, f"{counts(96)}{WIPED}index 1\n")
+    shows(VERIFY, 0, "valid\n", begins=0)
+    put("jobs", job_lines(*[b"abc"] * 3))
+    begins_at(THREE, 30)
+    answers = "".join(f"{index} {signature_of(THREE, index, b'abc').hex()}\n" for index in (30, 31, 32))
+    with open("jobs", "rb") as jobs:
+        shows(BATCH, 0, f"{counts(128)}{WIPED}{answers}", stdin=jobs)
+    numbers = "levels 5/1,5/1,5/1\ncounter 33\ncapacity 32768\nleft 32735\nopenings 1\nburnt 0\n"
+    shows(INFO, 0, numbers, begins=0)
+
+
+@test
+def announces_each_level():
+    """Of the top tree alone `keygen` tells the leaves, and `sign` those of all trees."""
+    for count in range(1, 9):
+        levels = ((5, 1),) * count
+        shows(keygen(",".join(["5/1"] * count)), 0, f"{counts(32)}{WIPED}capacity {32**count}\n")
+        begins_at(levels, 0)
+        shows(sign(), 0, f"{counts(32 * count)}{WIPED}index 0\n")
+        os.remove("key.state")
+
+
+@test
+def wipes_before_a_fault():
+    """Where no public key and no signature can be written, and where the state can't."""
+    fault = f"{WIPED}error: cannot write output\n"
+    shows(keygen("5/1", public="none/key.pub"), 6, counts(32) + fault)
+    begins_at(ONE, 0)
+    shows(sign(out="none/text.sig"), 6, counts(32) + fault)
+    os.remove("key.state")
+    os.mkdir("key.state.new")
+    shows(keygen("5/1"), 3, f"{counts(32)}{WIPED}error: cannot write state\n")
+
+
+@test
+def begins_anew():
+    """Kept nodes turn out to be wrong once a tree is computed: then all leaves are announced, and
+    counted from none on."""
+    begins_at(TWO, 64, checked(TWO, kept_parts(45, wrong_way(TWO, 45, 0, 2))))
+    put("key.pub", public_of(TWO))
+    shows(sign(), 0, f"{counts(32)}{counts(64)}{WIPED}index 64\n", begins=2)
+    shows(VERIFY, 0, "valid\n", begins=0)
+
+
+@test
+def tells_no_progress_but_its_own():
+    """A key of very many signatures begins once, with the leaves of its top tree."""
+    for text, capacity in [("5/1,25/8", 2**30), ("5/1,25/8,25/8,5/8", 2**60), ("10/1,25/8", 2**35)]:
+        leaves = 1024 if text.startswith("10") else 32
+        shows(keygen(text), 0, f"{counts(leaves)}{WIPED}capacity {capacity}\n")
+        os.remove("key.state")
+
+
+@test
+def shows_a_count_twice_a_second():
+    """And elsewhere prints one every ten seconds. Where less has passed, none is due."""
+    shows(keygen("5/1"), 0, f"{counts(32, every=2)}{WIPED}capacity 32\n", tick=SHOWN - 1, every=2)
+    os.remove("key.state")
+    for tick, wanted in [(PRINTED, [8, 16, 24, 32]), (PRINTED - 1, [16, 32]), (SHOWN, [])]:
+        ran = run(keygen("5/1"), env=machine(tick))
+        text = "".join(f"{at} of 32 leaves\n" for at in wanted)
+        holds((ran.returncode, ran.stdout, ran.stderr) == (0, "capacity 32\n", text), f"{ran.returncode} {ran.stdout!r} {ran.stderr!r}")
+        os.remove("key.state")
+
+
+@test
+def shows_a_line_where_errors_go():
+    """What the other stream is does not matter."""
+    found = on_terminal(keygen("5/1"), ["stderr"], env=machine(SHOWN))
+    holds(found == (0, counts(32) + WIPED, "capacity 32\n"), f"errors on a terminal: {found}")
+    os.remove("key.state")
+    found = on_terminal(keygen("5/1"), ["stdout"], env=machine(PRINTED))
+    lines = "".join(f"{at} of 32 leaves\n" for at in range(8, 33, 8))
+    holds(found == (0, "capacity 32\n", lines), f"the output on a terminal: {found}")
+
+
+@test
+def shows_one_line_of_those_due_at_once():
+    """A thread for each of 32 processors looks at the clock with its first leaves, all of them together.
+    One count is shown, and the clock stands still from then on."""
+    status, shown, _ = on_terminal(keygen("10/1"), env=machine(SHOWN, 32, MANY=32))
+    wanted = rf"{re.escape(WIPED)}\d+ of 1024 leaves{re.escape(WIPED)}capacity 1024\n"
+    holds(status == 0 and re.fullmatch(wanted, shown), f"keygen: {status} {shown!r}")
+
+
+def taken_between_looks():
+    """How much of the processor the program took from one look at the clock to the next."""
+    looks = [int(it) for it in read("looks").split()]
+    return [after - before for before, after in zip(looks, looks[1:])]
+
+
+@test
+def tells_no_leaf_before_it_is_computed():
+    """From the beginning to the first count it takes no less of a processor than from one count to the
+    next; nor with the roots of bottom subtrees, whose leaves are told together."""
+    ran = run(keygen("10/4"), env=machine(PRINTED))
+    holds(ran.returncode == 0, f"keygen ended with {ran.returncode}: {ran.stderr}")
+    taken = taken_between_looks()
+    holds(len(taken) == 1024 // AT_ONCE, f"{len(taken)} counts")
+    holds(taken[0] > EARLY * statistics.median(taken), "the first leaves were told before they were computed")
+    how = {"stdin": subprocess.DEVNULL, "stdout": subprocess.DEVNULL, "stderr": subprocess.PIPE, "text": True, "env": machine(PRINTED)}
+    with subprocess.Popen([PROGRAM, *keygen("15/1", state="tall.state")], **how) as running:
+        try:
+            lines = [running.stderr.readline() for _ in range(1024 // AT_ONCE + 5)]
+        finally:
+            running.kill()
+    told = [*range(AT_ONCE, 1025, AT_ONCE), *range(2048, 6145, 1024)]
+    holds(lines == [f"{at} of 32768 leaves\n" for at in told], f"it told {lines[-7:]}")
+    taken = taken_between_looks()[len(told) - 5 : len(told)]
+    holds(taken[0] > EARLY * statistics.median(taken), "the leaves of a bottom subtree were told before they were computed")

@@ -1,0 +1,188 @@
+"""The program with each of its requests for memory refused in turn, until a run meets no refusal.
+
+It ends well, or with a fault that says what became of the state, as the state then shows. A next
+`sign` does well, and no index is given twice. `refuse.c` refuses the request. `machine.c` gives the
+program one processor, so that its requests are the same in each run, and a clock by which it tells of
+all leaves that it has computed: so it is seen how many are computed when a request is refused. All
+memory for a tree is asked for before its leaves are."""
+
+import collections
+import concurrent.futures
+import os
+import pathlib
+import re
+
+from tests.harness import Wrong, add_test, holds
+from tests.merge_check.made_up_trees import MadeUpTree
+from tests.program import BATCH, INFO, NODES, index_in, job_lines, keygen, preload, put, run, sign, verify
+from tests.reference import IDENTIFIER, SEED, SUBTREE, checked, image, kept, kept_parts, number, public_of, signature_of
+
+ONE, TWO, TALL = ((5, 1),), ((5, 1),) * 2, ((15, 1), *((5, 1),) * 4)
+# The last index of a tree of height 5, and the first one of the second bottom subtree of TALL's top tree.
+LAST, EDGE = 31, 2 ** (SUBTREE + 20)
+# A batch has a job on either side of the end of a tree.
+JOBS = 2
+# How far the clock goes on at a look, so that each count is told.
+TICK = 10**10
+# More requests than any command makes.
+MOST_REQUESTS = 10**6
+COUNT = re.compile(r"(\d+) of (\d+) leaves\n")
+FAULT = re.compile(r"(?:error: (.*)\n)?")
+
+
+def key_of(levels):
+    """The file of a public key."""
+    return {"key.pub": public_of(levels)}
+
+
+def with_nodes():
+    """And kept nodes of the index LAST."""
+    return {**key_of(TWO), NODES: kept(TWO, LAST)}
+
+
+def with_signature():
+    """And a signature."""
+    return {**key_of(TWO), "old.sig": signature_of(TWO, 0, b"abc")}
+
+
+def with_tall_nodes():
+    """The public key and the top tree of TALL, as `keygen` keeps it, with nodes that are made up, but for
+    the bottom subtree that the index EDGE goes through."""
+    top = MadeUpTree(*TALL[0], IDENTIFIER, SEED, {0: [], 1: range(2**SUBTREE, 2 * 2**SUBTREE)})
+    nodes = checked(TALL, kept_parts(0, [(top, 0, b"")]))
+    return {"key.pub": number(len(TALL), 4) + top.public(), NODES: nodes}
+
+
+class Command:
+    """A command: its arguments, the levels of the key, the index that the state gives next, or None where
+    there is no state, how many indices it uses, its input, and a call for the other files that it finds.
+    `late` says how many leaves were computed where it ends by a refusal and some were: each number with
+    that of these refusals. Where only those are tried that burn an index, the others are as in another
+    command."""
+
+    def __init__(self, arguments, levels, late, index=LAST, uses=1, lines=b"", files=None, burns=False):
+        self.arguments, self.levels, self.late, self.index, self.uses, self.lines = arguments, levels, late, index, uses, lines
+        self.files, self.burns = files or (lambda: key_of(levels)), burns
+
+    def begin(self, folder, files):
+        """Makes the files that it finds."""
+        folder.mkdir()
+        for name, contents in {"text": b"abc", "lines": self.lines, **files}.items():
+            put(folder / name, contents)
+        if self.index is not None:
+            put(folder / "key.state", image(self.levels, self.index))
+
+    def ends(self, fault, answers):
+        """With which status it may end where it prints this fault and so many answers, and how many
+        indices are used by then, or None without a state."""
+        if fault is None:
+            return 0, [self.uses]
+        if fault == "out of memory":
+            return 5, [0, None] if self.index is None else [0]
+        if self.uses and fault == f"out of memory: {self.uses} burnt":
+            return 5, [self.uses]
+        if self.uses and fault == f"partial: {answers} of {self.uses} signed":
+            return 1, [self.uses]
+        holds(self.uses and fault == "cannot write output", f"it says {fault!r}")
+        return 6, [self.uses]
+
+
+class Run:
+    """A command with the request of a number refused, in a folder of its own."""
+
+    def __init__(self, command, files, request):
+        self.command, self.folder, made = command, pathlib.Path(str(request)).resolve(), pathlib.Path(f"{request}.made").resolve()
+        command.begin(self.folder, files)
+        settings = {"REFUSE": request, "REQUESTS": made, "PROCESSORS": 1, "TICK": TICK}
+        self.ran = self.run(command.arguments, env=preload("refuse", "machine", **settings))
+        self.made = int(made.read_text())
+        self.told, announced = max(((int(told), int(all_of)) for told, all_of in COUNT.findall(self.ran.stderr)), default=(0, 0))
+        found = FAULT.fullmatch(COUNT.sub("", self.ran.stderr))
+        holds(found, f"it printed {self.ran.stderr!r}")
+        self.fault = found[1]
+        holds(self.fault or self.told == announced, f"it told of {self.told} leaves, and announced {announced}")
+
+    def run(self, arguments, **how):
+        """Runs the program here."""
+        with open(self.folder / "lines", "rb") as lines:
+            return run(arguments, cwd=self.folder, stdin=lines, **how)
+
+    def used(self):
+        """How many indices were used since, by the state, or None where there is none."""
+        state, first = self.folder / "key.state", self.command.index or 0
+        if not state.exists():
+            return None
+        for used in range(JOBS + 1):
+            if state.read_bytes() == image(self.command.levels, first + used, min(used, 1)):
+                return used
+        raise Wrong("another state is left")
+
+    def given(self):
+        """The indices that it gave, by its answers or by its signature."""
+        if self.command.lines:
+            return [int(it.partition(" ")[0]) for it in self.ran.stdout.splitlines()]
+        signature = self.folder / "text.sig"
+        return [index_in(signature.read_bytes(), self.command.levels)] if signature.exists() else []
+
+    def check(self):
+        """Compares the end, and goes on."""
+        used, given, status = self.used(), self.given(), self.ran.returncode
+        wanted, may_use = self.command.ends(self.fault, len(given))
+        holds(status == wanted and used in may_use, f"it ended with {status} and {self.fault!r}, and {used} indices are used")
+        if used is None:
+            ran = self.run(self.command.arguments)
+            holds(ran.returncode == 0, f"the next keygen fails: {ran.stderr!r}")
+        elif used or self.command.index is None:
+            self.goes_on((self.command.index or 0) + used, given)
+
+    def goes_on(self, index, given):
+        """The next `sign` gives this index."""
+        ran = self.run(sign(out="next.sig"))
+        holds(ran.stdout == f"index {index}\n", f"the next sign: {ran.returncode} {ran.stdout!r} {ran.stderr!r}, and not index {index}")
+        holds(index not in given, f"index {index} is given twice")
+        if self.command.index is not None or self.fault is None:
+            holds(self.run(verify(signature="next.sig")).stdout == "valid\n", "the next signature is invalid")
+
+
+def refuses(command, files, request):
+    """Refuses the request of a number, if there is one that is to be tried. Whether it was, and how many
+    leaves were computed where that ended the command, or None."""
+    try:
+        one = Run(command, files, request)
+        one.check()
+    except Wrong as why:
+        raise Wrong(f"with request {request} refused: {why}") from why
+    is_tried = request <= one.made and not (command.burns and one.fault == "out of memory")
+    return is_tried, one.told if is_tried and one.fault else None
+
+
+def refuses_each(command):
+    """Refuses each request of a command, some at once; or from the last one down, while an index is
+    burnt."""
+    preload("refuse", "machine")
+    files, late, at_once = command.files(), collections.Counter(), len(os.sched_getaffinity(0))
+    last = Run(command, files, MOST_REQUESTS).made
+    requests = list(range(1, last + 2) if not command.burns else range(last, 0, -1))
+    with concurrent.futures.ThreadPoolExecutor(at_once) as pool:
+        while requests:
+            found = list(pool.map(lambda request: refuses(command, files, request), requests[:at_once]))
+            late.update(told for _, told in found if told)
+            requests = requests[at_once:] if all(is_tried for is_tried, _ in found) else []
+    holds(late == command.late, f"leaves computed where memory is refused: {dict(late)}, and not {command.late}")
+
+
+COMMANDS = {
+    "keygen": Command(keygen("5/1,5/1"), TWO, {32: 4}, index=None, uses=0),
+    "info": Command(INFO, TWO, {}, uses=0),
+    "verify": Command(verify(signature="old.sig"), TWO, {}, uses=0, files=with_signature),
+    "sign by two trees": Command(sign(), TWO, {32: 3, 64: 1}),
+    "sign by one tree": Command(sign(), ONE, {32: 1}, index=LAST - 1, burns=True),
+    "sign by kept trees": Command(sign(), TWO, {}, files=with_nodes, burns=True),
+    "sign by the next tree": Command(sign(), TWO, {32: 1}, index=LAST + 1, files=with_nodes, burns=True),
+    "sign by the next bottom subtree": Command(
+        sign(), TALL, {1024: 3, 1056: 3, 1088: 3, 1120: 3, 1152: 1}, index=EDGE, files=with_tall_nodes, burns=True
+    ),
+    "batch": Command([*BATCH[:-1], "1"], TWO, {32: 4, 64: 3, 96: 5}, uses=JOBS, lines=job_lines(*[b"abc"] * JOBS)),
+}
+for what, one_of_them in COMMANDS.items():
+    add_test(f"{what}, each request for memory refused", refuses_each, one_of_them)

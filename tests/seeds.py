@@ -1,0 +1,92 @@
+"""Where a key's seed may stand: in the state's file and in its draft, and in nothing else that a run
+of the program wrote or printed."""
+
+import functools
+import os
+import pathlib
+
+from tests.harness import holds
+from tests.reference import IDENTIFIER, SEED, derived
+
+# So many bytes of a seed, one after another, tell it.
+TELLING = 8
+# A longer file is a message.
+MOST_LENGTH = 2**23
+# The paths of all states that runs were given, and of their drafts; and how tests name one.
+STATES, STATE = set(), "key.state"
+
+
+@functools.lru_cache(maxsize=None)
+def parts(seed):
+    """What tells a seed, as it is and by digits: a few of its bytes; the seed of the tree below the first
+    leaf; and what the check value of kept nodes is made by."""
+    cut = {seed[at : at + TELLING] for at in range(len(seed) - TELLING + 1)}
+    cut |= {derived(IDENTIFIER, seed, 0, 0xFFFE), derived(IDENTIFIER, seed, 0, 0xFFFC)}
+    return cut, {it.hex().encode() for it in cut}
+
+
+def tells(contents, seed=SEED):
+    """Whether a part of a seed is in these bytes, as it is or by digits in either case."""
+    as_it_is, digits = parts(seed)
+    lowered = contents.lower()
+    return any(it in contents for it in as_it_is) or any(it in lowered for it in digits)
+
+
+def given(words, option):
+    """The value of an option, if it is among these words."""
+    for word, after in zip(words, [*words[1:], None]):
+        if word == option:
+            return after
+        if word.startswith(f"{option}="):
+            return word.partition("=")[2]
+    return None
+
+
+def seeds_in(words):
+    """The seed of most tests, and the one that these words give, if any."""
+    digits = given(words, "--seed") or ""
+    try:
+        named = bytes.fromhex(digits)
+    except ValueError:
+        named = b""
+    return {SEED, named} if len(named) == len(SEED) else {SEED}
+
+
+def plain_files(folders):
+    """The paths of the plain files in these folders, but for long ones."""
+    for folder in folders:
+        with os.scandir(folder) as found:
+            for it in found:
+                if it.is_file(follow_symlinks=False) and it.stat(follow_symlinks=False).st_size <= MOST_LENGTH:
+                    yield os.path.join(folder, it.name)
+
+
+def contents_of(path):
+    """The bytes of a file, or none where it is gone or may not be read."""
+    try:
+        return pathlib.Path(path).read_bytes()
+    except OSError:
+        return b""
+
+
+def keeps_secret(arguments, printed, folder=".", seeds=(), record=None):
+    """A run of the program with these arguments, in this folder, printed this. Neither that nor a file
+    beside what it was given tells its seed, that of most tests, or one of these, but for states, their
+    drafts, and the record of what was written."""
+    words = [os.fsdecode(it) if isinstance(it, bytes) else str(it) for it in arguments]
+    seeds = {*seeds_in(words), *seeds}
+    for text in printed:
+        contents = text.encode(errors="replace") if isinstance(text, str) else text or b""
+        holds(not any(tells(contents, it) for it in seeds), f"{words[:1]}: the seed is printed")
+    folders = {os.path.realpath(folder)}
+    for option, name in [("--state", STATE), *((it, given(words, it)) for it in ("--state", "--public", "--out"))]:
+        if name:
+            path = os.path.realpath(os.path.join(folder, name))
+            folders |= {os.path.dirname(path)} if os.path.isdir(os.path.dirname(path)) else set()
+            if option == "--state":
+                STATES.update((path, f"{path}.new"))
+    others = {os.path.realpath(os.path.join(folder, record))} if record else set()
+    for path in plain_files(folders):
+        if path not in STATES and path not in others:
+            contents = contents_of(path)
+            holds(not any(tells(contents, it) for it in seeds), f"{words[:1]}: the seed is in {path}")
