@@ -58,8 +58,8 @@ LogsFailed (Verify public message signature) fault input rest before printed old
     LogsVerifyFailed (string_bytes public) (string_bytes message)
     (string_bytes signature) before printed fault old new
 
--- a command that the arguments ask for is done; or they ask for help, which is printed, or are
--- mistaken, and nothing is called
+-- a command that the arguments ask for is done; or they ask for help, and a text is printed, or they
+-- are mistaken, and nothing is called
 abbrev pub LogsAnswered : List Text → Status → Option (List ℕ) → Option (List ℕ) → List ℕ → List ℕ
     → WorldCalls → WorldCalls → Type 0
 LogsAnswered words end input rest before printed old new =

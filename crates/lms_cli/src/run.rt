@@ -1,5 +1,5 @@
 //! The whole program, over its arguments, its files and its streams.
-ghost use Rattle.std.specs.Prelude.{◌≡◌, ◌⊎◌, ◌<◌, IfErr, IfOk, MatchResult, OnOk, map};
+ghost use Rattle.std.specs.Prelude.{◌≡◌, ◌⊎◌, ◌++◌, ◌<◌, IfErr, IfOk, MatchResult, OnOk, map};
 ghost use Rattle.std.specs.Io.KnownBytes.{Appends};
 ghost use Rattle.lms_lines.specs.AnswerLines.{AppendsFront};
 ghost use Rattle.lms_commands.specs.Faults.{fault_line, status_number, status_of};
@@ -83,15 +83,24 @@ fn answer<S: AsStr, W: World, I: Read, O: Write, E: Write>(
 {
     match command(resources.alloc, words) {
         Ok(command) => obey(resources, command, world, input, output),
-        Err(CommandFault::Help { text }) => match print_text(output, &text) {
-            Ok(()) => Ok(Status::Done),
-            Err(_) => Err(Fault::WriteOutput),
-        },
+        Err(CommandFault::Help { text }) => show_help(output, &text),
         Err(CommandFault::Usage { text }) => {
             let _ = print_text(errors, &text);
             Ok(Status::Usage)
         }
         Err(CommandFault::OutOfMemory) => Err(Fault::OutOfMemory),
+    }
+}
+
+/// Prints help. `WriteOutput` where that can't be done, maybe after a beginning of it.
+fn show_help<O: Write>(output: &mut Printer<O>, text: &str) -> Result<Status, Fault>
+    ensures shown { IfOk result (λ status.
+        (status ≡ Status.Done) × (output.new ≡ output.old ++ text.now)) }
+    ensures failed { IfErr result (λ fault. fault ≡ Fault.WriteOutput) }
+{
+    match print_text(output, text) {
+        Ok(()) => Ok(Status::Done),
+        Err(_) => Err(Fault::WriteOutput),
     }
 }
 

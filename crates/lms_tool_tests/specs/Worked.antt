@@ -1,5 +1,6 @@
--- A worked case of what is carried along from run to run: a key's first signature, a second one
--- whose use is not stored for certain, and, since it may be, a third.
+-- A worked case of what is carried along from run to run, by their calls on the state alone: the use
+-- of a key's first index is stored, that of the second not for certain, and, since it may be, that of
+-- the third.
 use Rattle.std.specs.Prelude.{ℕ, List, [], ◌∷◌, Some}
 use Rattle.lms_hss.specs.declared.key.HssKey.{HssKey as KeyOfCode}
 use Rattle.lms_image.specs.Image.{image_of}
@@ -9,8 +10,8 @@ use Rattle.lms_commands.specs.Histories.{IsCarriedAlong, Signature, TakenTurn, U
 use Rattle.lms_commands.specs.Logs.{KeyState}
 
 -- a key's state after so many signatures, each of an opening of its own
-abbrev pub state_after : KeyOfCode → ℕ → KeyState
-state_after key n = record { key = key; index = n; openings = n; burnt = 0 }
+abbrev pub state_at : KeyOfCode → ℕ → KeyState
+state_at key n = record { key = key; index = n; openings = n; burnt = 0 }
 
 -- its image
 abbrev pub image_after : KeyOfCode → ℕ → List ℕ
@@ -20,7 +21,7 @@ image_after key n = image_of key n n 0
 abbrev pub run_at : KeyOfCode → ℕ → Taking → StoreView → List Signature → TakenTurn
 run_at key n taken left signatures =
     record {
-      turn = Uses 1 (state_after key n) (image_after key n);
+      turn = Uses 1 (state_at key n) (image_after key n);
       signatures = signatures;
       whole = PutBack left ∷ Taken (Some taken) ∷ [];
       begun = PutBack left ∷ Taken (Some taken) ∷ [];

@@ -217,9 +217,11 @@ impl Write for Closed {
     }
 }
 
-/// A stream that takes bytes and fails when they are to be passed on.
+/// A stream that takes bytes and fails when they are to be passed on, so many times.
 #[derive(Drop)]
-struct Stuck;
+struct Stuck {
+    times: u64,
+}
 
 impl Write for Stuck {
     fn write(&mut self, buf: &[u8]) -> io::Result<usize> {
@@ -227,6 +229,7 @@ impl Write for Stuck {
     }
 
     fn flush(&mut self) -> io::Result<()> {
+        self.times = self.times.saturating_add(1);
         Err(io::Error::from(io::ErrorKind::StorageFull))
     }
 }
@@ -246,6 +249,8 @@ fn is_unprinted<O: Write>(
 #[test]
 fn cannot_pass_on(rt: HostRuntime) -> Result<(), Fail> {
     let mut world = signed(rt.alloc())?;
-    assert!(rt; is_unprinted(&rt, &VERIFY, &mut world, &mut Stuck));
+    let mut output = Stuck { times: 0 };
+    assert!(rt; is_unprinted(&rt, &VERIFY, &mut world, &mut output));
+    assert!(rt; output.times == 1);
     Ok(())
 }

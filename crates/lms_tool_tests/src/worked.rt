@@ -1,8 +1,8 @@
 //! A worked case of a premise, as a contract.
 ghost use Rattle.lms_tool_tests.specs.Worked.{WorkedRuns};
 
-/// Runs one after another can carry along what is stored, with a failed write between them: the
-/// premise on which no index leaves twice can be met.
+/// Runs one after another can carry along what is stored, with a failed write between them: so the
+/// premise on which no index leaves twice is not one that nothing meets.
 pub fn runs_carry_their_state_along()
     ensures { WorkedRuns }
 {}

@@ -152,7 +152,9 @@ fn cannot_write_answers(rt: HostRuntime) -> Result<(), Fail> {
     }
     let mut rest = TWO_LINES.as_bytes();
     let line = "error: cannot write output\n";
-    assert!(rt; fails_by(&rt, &mut world, &mut rest, &mut Stuck, line));
+    let mut output = Stuck { times: 0 };
+    assert!(rt; fails_by(&rt, &mut world, &mut rest, &mut output, line));
+    assert!(rt; output.times == 1);
     assert!(rt; is_with(&world, &ONE, 9, 2, 0));
     Ok(())
 }

@@ -1,10 +1,13 @@
 //! What a world in memory holds after runs of the program, against a replay of its calls.
 use super::arguments::{SIGN, keygen};
 use super::recorded::{Change, Recorded};
-use super::{VERIFY, ends, fails_with};
+use super::{VERIFY, ends};
 use lms_world::{MemoryWorld, World, WorldFault};
 use std::alloc::Global;
 use std::test::Fail;
+
+/// The files that the program is asked for. The last one can't be written.
+const FILES: [&str; 4] = ["text", "key.pub", "text.sig", "other.sig"];
 
 /// The bytes that were written last to the file of a name.
 fn file_after<'a>(changes: &'a [Change], name: &str) -> Option<&'a [u8]> {
@@ -30,23 +33,32 @@ fn nodes_after(changes: &[Change]) -> Option<&[u8]> {
     })
 }
 
-/// Whether the world holds what its calls say, and nothing else: of files those of these names, of
-/// which the last one can't be written.
-fn is_as_called(alloc: Global, recorded: &mut Recorded<MemoryWorld>) -> bool {
-    let Recorded { world, changes, .. } = recorded;
-    let state = world.state().and_then(|store| store.text());
-    if state != state_after(changes) || world.nodes() != nodes_after(changes) {
-        return false;
+/// Whether no call wrote another file than these.
+fn writes_these_alone(changes: &[Change]) -> bool {
+    changes.iter().all(|change| match change {
+        Change::File { name, .. } => FILES.iter().any(|file| name.as_str() == *file),
+        _ => true,
+    })
+}
+
+/// Whether the file of a name has the bytes that were written last, or can't be read where none
+/// were.
+fn has_file(alloc: Global, recorded: &mut Recorded<MemoryWorld>, name: &str) -> bool {
+    let found = recorded.world.read(alloc, name);
+    match (found, file_after(&recorded.changes, name)) {
+        (Ok(found), Some(bytes)) => found.as_slice() == bytes,
+        (Err(WorldFault::Device), None) => true,
+        _ => false,
     }
-    ["text", "key.pub", "text.sig", "other.sig"]
-        .iter()
-        .all(|name| {
-            match (world.read(alloc, name), file_after(changes, name)) {
-                (Ok(found), Some(bytes)) => found.as_slice() == bytes,
-                (Err(WorldFault::Device), None) => true,
-                _ => false,
-            }
-        })
+}
+
+/// Whether the world holds what its calls say, and nothing else.
+fn is_as_called(alloc: Global, recorded: &mut Recorded<MemoryWorld>) -> bool {
+    let state = recorded.world.state().and_then(|store| store.text());
+    state == state_after(&recorded.changes)
+        && recorded.world.nodes() == nodes_after(&recorded.changes)
+        && writes_these_alone(&recorded.changes)
+        && FILES.iter().all(|name| has_file(alloc, recorded, name))
 }
 
 /// A key is made, signs, signs in vain, since its signature can't be written, and signs again.
