@@ -1,11 +1,15 @@
 """Function bodies of WebAssembly as C: the operand stack becomes expressions, locals become variables,
 labels those of C."""
 
+import re
+
 from c_values import C_TYPES, MEMORY, Value, binary, call, cast, comparison, constant, reads_of, shift
 from wasm_module import BITS, Refused
 
 # The fields of struct machine for the globals of these names.
 GLOBALS = {"__stack_pointer": "stack_pointer", "in_call": "in_call"}
+# A function's name stands in a comment, which nothing in it can end.
+NAME = re.compile("[A-Za-z0-9_.:<># ]+")
 OPERATORS = {"add": "+", "sub": "-", "mul": "*", "and": "&", "or": "|", "xor": "^"}
 SHIFTS = {"shl": "<<", "shr_u": ">>"}
 COMPARISONS = {
@@ -36,6 +40,8 @@ class Body:
         self.label_count, self.reachable, self.at = 0, True, 0
         if len(self.function.results) > 1:
             self.refuse("several results")
+        if not NAME.fullmatch(self.function.name):
+            self.refuse("a name that may not stand in a comment")
         self.result = self.function.results[0] if self.function.results else None
 
     def refuse(self, why):
@@ -52,8 +58,7 @@ class Body:
             self.translate(name, immediate)
         if self.labels:
             self.refuse("the body has no end")
-        name = self.function.name.replace("*/", "* /")
-        return "\n".join([f"/* {name} */", f"{self.head()} {{", *self.declarations(), *self.lines, "}", ""])
+        return "\n".join([f"/* {self.function.name} */", f"{self.head()} {{", *self.declarations(), *self.lines, "}", ""])
 
     def head(self):
         """The function's head in C."""
@@ -79,13 +84,16 @@ class Body:
     def push(self, value):
         self.operands.append(value)
 
-    def pop(self, valtype):
-        """The last operand, of this type."""
+    def pop(self, valtype, may_be_address=False):
+        """The last operand, of this type. It may be an address of the constants only where nothing is
+        done with the number, which C compilers choose, but to add to it."""
         if not self.operands:
             self.refuse("there is no operand")
         value = self.operands.pop()
         if value.valtype != valtype:
             self.refuse(f"an operand of type {value.valtype}, where one of type {valtype} should be")
+        if value.is_address and not may_be_address:
+            self.refuse("an address of the constants, where no module of ours has one")
         return value
 
     def no_operands(self, name):
@@ -97,14 +105,14 @@ class Body:
         """Has the operands computed that read this, before it changes."""
         for at, value in enumerate(self.operands):
             if changed in value.reads:
-                self.operands[at] = self.temporary(value.valtype, value.plain())
+                self.operands[at] = self.temporary(value.valtype, value.plain(), value.is_address)
 
-    def temporary(self, valtype, text):
+    def temporary(self, valtype, text, is_address=False):
         """A variable that keeps the value of this text."""
         name = f"t{len(self.temporaries)}"
         self.temporaries.append(valtype)
         self.say(f"{name} = {text};")
-        return Value(valtype, name)
+        return Value(valtype, name, is_address=is_address)
 
     # Statements.
 
@@ -134,7 +142,8 @@ class Body:
         """Translates an instruction."""
         valtype, _, operation = name.partition(".")
         if operation in OPERATORS:
-            right, left = self.pop(valtype), self.pop(valtype)
+            right = self.pop(valtype, operation == "add")
+            left = self.pop(valtype, operation == "add" and not right.is_address)
             self.push(binary(valtype, OPERATORS[operation], left, right))
         elif operation in SHIFTS:
             right, left = self.pop(valtype), self.pop(valtype)
@@ -201,7 +210,7 @@ class Body:
 
     def on_call(self, index):
         called = self.module.functions[index]
-        values = [self.pop(it) for it in reversed(called.parameters)][::-1]
+        values = [self.pop(it, True) for it in reversed(called.parameters)][::-1]
         self.put_aside(MEMORY)
         text = f"{self.names[index]}({', '.join(['m', *(it.plain() for it in values)])})"
         if called.results:
@@ -258,10 +267,13 @@ class Body:
 
     # Memory.
 
-    def address(self, offset):
-        """The address that is on the stack, and the offset that is added."""
-        base = self.pop("i64")
-        return f"m, {base.plain()}, {self.constant_at(offset) if self.is_address() else offset}", base
+    def address(self, base, offset):
+        """An address, and the offset that is added."""
+        if self.is_address():
+            offset = self.constant_at(offset)
+        elif offset >= 0x10000:
+            offset = constant("i64", offset).text
+        return f"m, {base.plain()}, {offset}"
 
     def is_address(self):
         """The immediate is an address of the constants."""
@@ -271,8 +283,8 @@ class Body:
         return f"CONSTANT({address - self.base})"
 
     def load(self, valtype, function, offset):
-        text, base = self.address(offset)
-        self.push(Value(valtype, f"{function}({text})", reads=base.reads | {MEMORY}))
+        base = self.pop("i64", not self.is_address())
+        self.push(Value(valtype, f"{function}({self.address(base, offset)})", reads=base.reads | {MEMORY}))
 
     def on_i32_load(self, offset):
         self.load("i32", "i32_load", offset)
@@ -284,10 +296,9 @@ class Body:
         self.load("i64", self.load64, offset)
 
     def store(self, valtype, function, offset):
-        value = self.pop(valtype)
-        text, _ = self.address(offset)
+        value, base = self.pop(valtype), self.pop("i64")
         self.put_aside(MEMORY)
-        self.say(f"{function}({text}, {value.plain()});")
+        self.say(f"{function}({self.address(base, offset)}, {value.plain()});")
 
     def on_i32_store(self, offset):
         self.store("i32", "i32_store", offset)
@@ -317,7 +328,8 @@ class Body:
         self.push(constant("i32", number))
 
     def on_i64_const(self, number):
-        self.push(Value("i64", self.constant_at(number)) if self.is_address() else constant("i64", number))
+        is_address = self.is_address()
+        self.push(Value("i64", self.constant_at(number), is_address=True) if is_address else constant("i64", number))
 
     def on_i32_eqz(self, _):
         self.equals_zero("i32")

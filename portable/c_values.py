@@ -14,11 +14,12 @@ class Value:
 
     `operator` is the outermost one of the text, where parentheses may be needed. `reads` has the
     locals, and MEMORY, that change the value when they change. A constant has its `number`. A
-    condition has the text of its `opposite`; its own text is 0 or 1 as an int."""
+    condition has the text of its `opposite`; its own text is 0 or 1 as an int. `is_address` says that
+    it is an address of the constants, or a sum with one."""
 
-    def __init__(self, valtype, text, operator=None, reads=frozenset(), number=None, opposite=None):
+    def __init__(self, valtype, text, operator=None, reads=frozenset(), number=None, opposite=None, is_address=False):
         self.valtype, self.text, self.operator, self.reads = valtype, text, operator, reads
-        self.number, self.opposite = number, opposite
+        self.number, self.opposite, self.is_address = number, opposite, is_address
 
     def plain(self):
         """The text where nothing stands beside it."""
@@ -54,7 +55,8 @@ def binary(valtype, operator, left, right):
     bits = BITS[valtype]
     if operator == "+" and right.number is not None and right.number > (1 << bits) - 0x10000:
         operator, right = "-", constant(valtype, (1 << bits) - right.number)
-    return Value(valtype, f"{left.operand(operator)} {operator} {right.operand()}", operator, reads_of(left, right))
+    text, is_address = f"{left.operand(operator)} {operator} {right.operand()}", left.is_address or right.is_address
+    return Value(valtype, text, operator, reads_of(left, right), is_address=is_address)
 
 
 def comparison(operator, opposite, left, right):

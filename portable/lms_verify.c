@@ -38,6 +38,10 @@
 #error "A pointer has to have at least 32 bits."
 #endif
 
+#if defined LMS_DIRECT && defined LMS_CHECK_CALLER
+#error "LMS_DIRECT checks nothing, LMS_CHECK_CALLER the caller too: define one of them."
+#endif
+
 /* Numbers of 32 bits and constants have to be of one unsigned type. */
 typedef char an_int_has_32_bits[sizeof(int) == sizeof(uint32_t) ? 1 : -1];
 
@@ -142,6 +146,16 @@ static inline uint64_t address_of(const uint8_t *pointer) {
     return HOST + (uintptr_t)pointer;
 }
 
+/* The sum of an address and an offset. */
+static inline uint64_t sum(struct machine *m, uint64_t address, uint64_t offset) {
+#ifdef LMS_CHECK_CALLER
+    if (address > UINT64_MAX - offset) trap(m);
+#else
+    (void)m;
+#endif
+    return address + offset;
+}
+
 #ifdef LMS_DIRECT
 
 #define CONSTANT(offset) (address_of(constants) + (offset))
@@ -177,16 +191,6 @@ typedef uint64_t address_t;
 
 static inline uintptr_t pointer_at(uint64_t address) {
     return (uintptr_t)(address - HOST);
-}
-
-/* The sum of an address and an offset. */
-static inline uint64_t sum(struct machine *m, uint64_t address, uint64_t offset) {
-#ifdef LMS_CHECK_CALLER
-    if (address > UINT64_MAX - offset) trap(m);
-#else
-    (void)m;
-#endif
-    return address + offset;
 }
 
 /* Whether an address may be HOST + p for a pointer p. Of 64 bits these are close to 0 or 2^64. */
@@ -333,7 +337,7 @@ static APART void fill(struct machine *m, address_t to, uint32_t value, uint64_t
 
 /* i64.load in functions that lms_verify_pieces alone calls, which read the caller's pieces. */
 static APART uint64_t i64_load_or_piece(struct machine *m, uint64_t address, uint64_t offset) {
-    uint64_t at = address + offset - PIECES;
+    uint64_t at = sum(m, address, offset) - PIECES;
     if (at / PIECE_LEN < m->piece_count) {
         const struct lms_piece *piece = m->pieces + (size_t)(at / PIECE_LEN);
         if (at % PIECE_LEN == 0) return address_of(piece->bytes);

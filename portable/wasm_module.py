@@ -177,8 +177,13 @@ class Module:
         self.globals = part.vector(one)
 
     def read_export(self, part):
+        names = set()
+
         def one():
             name, kind, index = part.name(), part.byte(), part.index()
+            if name in names:
+                part.refuse(f"{name} is exported twice")
+            names.add(name)
             if kind == 0:
                 self.exports[name] = index
                 self.at(self.functions, index, part)
@@ -211,10 +216,24 @@ class Module:
                 continue
             for index, name in names.vector(lambda names=names: (names.index(), names.name())):
                 if kind == 7:
-                    self.global_names[index] = name
+                    self.name_global(index, name, names)
                 else:
-                    self.at(self.functions, index, names).name = name
+                    self.name_function(index, name, names)
             names.end()
+
+    def name_global(self, index, name, part):
+        self.at(self.globals, index, part)
+        if index in self.global_names:
+            part.refuse(f"global {index} has two names, {self.global_names[index]} and {name}")
+        if name in self.global_names.values():
+            part.refuse(f"two globals have the name {name}")
+        self.global_names[index] = name
+
+    def name_function(self, index, name, part):
+        function = self.at(self.functions, index, part)
+        if function.name is not None:
+            part.refuse(f"function {index} has two names, {function.name} and {name}")
+        function.name = name
 
     def at(self, things, index, part):
         """The thing of this index."""

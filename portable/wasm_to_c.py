@@ -19,12 +19,16 @@ from wasm_stack import need_of, order_of
 PIECES = "lms_verify_pieces"
 # The call whose answer is written to the top of the module's stack, and how much of that it takes.
 HEAD, HEAD_BYTES = "lms_message_head", 64
+# How many pointers and lengths lms.h's functions are given. (Their answer is an i32.)
+PARAMETERS = {"lms_verify": 6, PIECES: 6, HEAD: 5, "lms_verify_hash": 5}
 
 
 def addresses(module, other):
     """For each function the instructions with an immediate that is an address of the constants: those
     in which the two modules differ."""
     (base, constants), (base_there, constants_there) = module.data, other.data
+    if base == base_there:
+        raise Refused("the two modules have their constants at the same address")
     if constants != constants_there or len(module.functions) != len(other.functions):
         raise Refused("the two modules are not of one library")
     found = []
@@ -39,6 +43,14 @@ def addresses(module, other):
                 raise Refused(f"{one.name}, instruction {at}: {name} {here} differs, and is no address of a constant")
         found.append(frozenset(differ))
     return found
+
+
+def check_calls(module):
+    """What is exported has the types of lms.h's functions. (That it is these, the template says.)"""
+    for name, index in module.exports.items():
+        function = module.functions[index]
+        if name in PARAMETERS and (function.parameters, function.results) != (["i64"] * PARAMETERS[name], ["i32"]):
+            raise Refused(f"{name} has another type than lms.h's function")
 
 
 def c_name(index, name):
@@ -60,8 +72,12 @@ def functions_of(module, marks):
 
 
 def stack_of(module):
-    """The bytes of stack that the deepest call needs."""
-    return max(need_of(module, index) + (HEAD_BYTES if name == HEAD else 0) for name, index in module.exports.items())
+    """The bytes of stack that the deepest call needs, of those that the module has."""
+    needs = {name: need_of(module, index) + (HEAD_BYTES if name == HEAD else 0) for name, index in module.exports.items()}
+    deepest, place = max(needs, key=needs.get), module.data[0]
+    if needs[deepest] > place:
+        raise Refused(f"{deepest} needs {needs[deepest]} bytes of stack, and there are {place}")
+    return needs[deepest]
 
 
 def rows(contents):
@@ -83,6 +99,7 @@ def c_file(contents, other, template):
     for at, name in module.global_names.items():
         if name == "in_call" and module.globals[at] != ("i32", True, 0):
             raise Refused("in_call does not begin with 0")
+    check_calls(module)
     names, functions = functions_of(module, addresses(module, there))
     base, constants = module.data
     values = {

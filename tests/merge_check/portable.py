@@ -6,7 +6,7 @@ import os
 import re
 import shutil
 
-from tests.harness import ARGUMENTS, TOP, Skipped, checks, holds, said_by
+from tests.harness import ARGUMENTS, TOP, Skipped, Wrong, checks, holds, said_by
 from tests.merge_check import verifier_functions
 from tests.merge_check.crates import KIT
 from tests.merge_check.portable_targets import AT_ZERO, BOARDS, FILE, FOLDER, HERE, HOSTED, INCLUDES, MODES, STRICT, Target
@@ -81,6 +81,17 @@ def compiles_silently(compiler):
         words = ["-std=c99", *STRICT, *flags.split(), f"-I{TOP}/include", "-c", FILE, "-o", "silent.o"]
         said = said_by(compiler, *words)
         holds(said == "", said)
+
+
+def is_not_of_two_ways():
+    """No compiler takes the words that ask for all checks and for none."""
+    words = [*MODES["direct"], *MODES["the caller checked"], f"-I{TOP}/include", "-c", FILE, "-o", "two.o"]
+    try:
+        said_by("cc", *words)
+    except Wrong as why:
+        holds("define one of them" in str(why), f"it says: {why}")
+    else:
+        raise Wrong("it is compiled")
 
 
 def keeps_to_itself():
@@ -241,6 +252,7 @@ def the_file(counter):
     counter.check("it is what ./lms_c makes", is_made)
     for compiler in filter(shutil.which, ("cc", "clang")):
         counter.check(f"{compiler} has nothing to say of it", compiles_silently, compiler)
+    counter.check("it is not checked and direct at once", is_not_of_two_ways)
     counter.check("it keeps to itself", keeps_to_itself)
     counter.check("its stack", takes_stack)
 

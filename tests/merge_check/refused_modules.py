@@ -3,15 +3,28 @@ from a module that it takes."""
 
 from tests.merge_check.small_functions import CALLS, CONSTANTS
 from tests.merge_check.wasm_builder import (
-    KNOWN, Function, code, joined, sections, signed, sized, unsigned, vector, wasm_instructions,
+    GLOBALS, KNOWN, Function, code, joined, name_section, sections, signed, sized, unsigned, vector, wasm_instructions,
 )
 
 PREFIX = wasm_instructions.PREFIX
 ENDS = (0x100000, 0x20000)
-FRAME = [("global.get", 0), ("i64.const", 64), "i64.sub", ("local.tee", 6), ("global.set", 0)]
-BACK = [("local.get", 6), ("i64.const", 64), "i64.add", ("global.set", 0)]
 ZERO = ("i32.const", 0)
 A = ("local.get", 0)
+
+
+def frame(size):
+    """Takes a frame of this size."""
+    return [("global.get", 0), ("i64.const", size), "i64.sub", ("local.tee", 6), ("global.set", 0)]
+
+
+def back(size):
+    """Gives it back."""
+    return [("local.get", 6), ("i64.const", size), "i64.add", ("global.set", 0)]
+
+
+FRAME, BACK, OWN = frame(64), back(64), ("local.get", 6)
+# Goes on, or to the end of a block.
+MAY_GO = [A, "i64.eqz", ("br_if", 0)]
 
 
 def functions(*words, own=("i64", "i32"), more=()):
@@ -60,10 +73,30 @@ def body_of(*words):
     return change
 
 
-def with_third_global(parts, _):
-    """These sections with one more global, which never changes."""
-    more = b"\x7e\0" + code(("i64.const", 5), "end")
-    return [(at, b"\3" + it[1:] + more if at == 6 else it) for at, it in parts]
+def body_at(words):
+    """The same for instructions that a function makes of the address of the constants."""
+    return lambda parts, base: body_of(code(*words(base), "end"))(parts, base)
+
+
+def one_more(number, more):
+    """A function that puts one more thing to the end of a section that is a list."""
+    return lambda parts, _: [(at, bytes([it[0] + 1]) + it[1:] + more if at == number else it) for at, it in parts]
+
+
+def named(of_functions=tuple(enumerate(CALLS)), of_globals=tuple(enumerate(GLOBALS))):
+    """A function that gives these names to functions and globals of these numbers."""
+    return with_section(0, name_section(of_functions, of_globals))
+
+
+def in_turn(*changes):
+    """A function that makes several changes."""
+
+    def change(parts, base):
+        for it in changes:
+            parts = it(parts, base)
+        return parts
+
+    return change
 
 
 def refused_bodies():
@@ -108,6 +141,109 @@ def refused_bodies():
     }
 
 
+def refused_stacks():
+    """Ways to use the stack that no module of ours has: the first call's instructions, with what is said."""
+    place, negative = ENDS[0], (1 << 64) - 64
+    beyond = "uses the stack pointer for more than a frame"
+    kept, met = "does not give back its stack on each way out", "gives back its stack on one of two ways that meet"
+    return {
+        "an address below the stack": (
+            ("global.get", 0), ("i64.const", 16), "i64.sub", ("local.tee", 6), A, ("i64.store", 0), ZERO,
+            beyond,
+        ),
+        "an address in a caller's frame": (("global.get", 0), ("i64.load", 8), "i32.wrap_i64", beyond),
+        "a stack pointer that is tested for more": (
+            "block", ("global.get", 0), ("i64.const", 64), "i64.lt_s", ("br_if", 0), "end", ZERO,
+            beyond,
+        ),
+        "a stack pointer that is read again": (*FRAME, ("global.get", 0), ("i64.load", 0), "i32.wrap_i64", *BACK, beyond),
+        "an address below an empty frame": (
+            ("global.get", 0), ("local.tee", 6), ("i64.const", 16), "i64.sub", A, ("i64.store", 0), OWN, ("global.set", 0), ZERO,
+            beyond,
+        ),
+        "an address by an empty frame's local": (
+            "block", ("global.get", 0), ("local.tee", 6), ("i64.const", 16), "i64.lt_s", ("br_if", 0), "end",
+            OWN, ("i64.load", 0), "i32.wrap_i64", OWN, ("global.set", 0),
+            beyond,
+        ),
+        "a frame that is kept": (*FRAME, ZERO, kept),
+        "a frame that is kept at a return": (*FRAME, "block", *MAY_GO, ZERO, "return", "end", *BACK, ZERO, kept),
+        "a frame that is kept at the end": (*FRAME, "block", *MAY_GO, *BACK, ZERO, "return", "end", ZERO, kept),
+        "a frame that is kept by a table": (
+            *FRAME, "block", "block", ZERO, ("br_table", 0, 1, 0), "end", *BACK, ZERO, "return", "end", ZERO,
+            kept,
+        ),
+        "a frame that a branch keeps": (*FRAME, "block", *MAY_GO, *BACK, "end", ZERO, met),
+        "a frame that a branch gives back": (*FRAME, "block", "block", *MAY_GO, *BACK, ("br", 1), "end", "end", ZERO, met),
+        "a frame that a loop gives back": (*FRAME, "loop", *BACK, *MAY_GO, "end", ZERO, met),
+        "a frame of a negative size": (*frame(negative), *back(negative), ZERO, f"takes {negative} bytes of stack, and there are"),
+        "a frame that is larger than the stack": (
+            *frame(place + 16), *back(place + 16), ZERO,
+            f"lms_verify takes {place + 16} bytes of stack, and there are {place}",
+        ),
+        "a frame of a part of a step": (*frame(24), *back(24), ZERO, "lms_verify takes 24 bytes of stack, which is no multiple of 16"),
+        "frames that are larger than the stack": (
+            *frame(place - 48), ("call", 4), *back(place - 48), ZERO,
+            f"lms_verify needs {place + 16} bytes of stack, and there are {place}",
+        ),
+    }
+
+
+def refused_addresses():
+    """Addresses of the constants where no module of ours has one: instructions, with what is said."""
+    wrong = "an address of the constants, where no module of ours has one"
+    load = ("i32.load", 0)
+    there = {
+        "a bit more of an address": lambda it: [it, ("i64.const", 1), "i64.or", load],
+        "bits of an address": lambda it: [it, ("i64.const", 0xFFF0), "i64.and", load],
+        "a bit more of a sum with an address": lambda it: [A, it, "i64.add", ("i64.const", 1), "i64.or", load],
+        "a bit more of a sum of an address": lambda it: [it, A, "i64.add", ("i64.const", 1), "i64.or", load],
+        "a bit more of an address that waits": lambda it: [
+            A, it, "i64.add", ("i64.const", 7), ("local.set", 0), ("i64.const", 1), "i64.or", load,
+        ],
+        "a difference to an address": lambda it: [A, it, "i64.sub", load],
+        "an address that is compared": lambda it: [A, it, "i64.ne"],
+        "an address in a local": lambda it: [it, ("local.set", 0), ZERO],
+        "an address that is stored": lambda it: [A, it, ("i64.store", 0), ZERO],
+        "an address that is stored to": lambda it: [it, A, ("i64.store", 0), ZERO],
+        "an address that is filled": lambda it: [it, ZERO, ("i64.const", 1), "memory.fill", ZERO],
+        "an address that is copied to": lambda it: [it, A, ("i64.const", 1), "memory.copy", ZERO],
+        "an address that is copied from": lambda it: [A, it, ("i64.const", 1), "memory.copy", ZERO],
+        "a size that is an address": lambda it: [A, A, it, "memory.copy", ZERO],
+        "the sum of two addresses": lambda it: [it, it, "i64.add", load],
+        "an address at an address": lambda it: [it, ("i32.load", it[1])],
+    }
+    return {name: (body_at(lambda base, words=words: words(("i64.const", base + 8))), wrong) for name, words in there.items()}
+
+
+def refused_names():
+    """Names and types of functions and globals that no module of ours has: how the sections are
+    changed, with what is said."""
+    six, five = b"\x60\x06" + b"\x7e" * 6, b"\x60\x05" + b"\x7e" * 5
+    another_flag, of_globals = one_more(6, b"\x7f\1" + code(ZERO, "end")), list(enumerate(GLOBALS))
+    return {
+        "a call of fewer parameters": (replaced(1, six, five), "lms_verify has another type than lms.h's function"),
+        "a call of more parameters": (replaced(1, five + b"\1", six + b"\1"), "lms_message_head has another type than"),
+        "a call of another parameter": (replaced(1, five, five[:-1] + b"\x7f"), "lms_message_head has another type than"),
+        "a call of another result": (replaced(1, b"\1\x7f", b"\1\x7e"), "lms_verify has another type than lms.h's function"),
+        "a call of no result": (replaced(1, b"\1\x7f", b"\0"), "lms_verify has another type than lms.h's function"),
+        "a call exported twice": (one_more(7, sized(b"lms_verify") + b"\0\1"), "lms_verify is exported twice"),
+        "a call and the memory of one name": (one_more(7, sized(b"lms_verify") + b"\2\0"), "lms_verify is exported twice"),
+        "a function of two names": (named([*enumerate(CALLS), (0, "other")]), "function 0 has two names, lms_verify and other"),
+        "a global of two names": (named(of_globals=[*of_globals, (1, "other")]), "global 1 has two names, in_call and other"),
+        "two globals of one name": (
+            in_turn(another_flag, named(of_globals=[*of_globals, (2, "in_call")])),
+            "two globals have the name in_call",
+        ),
+        "the name of a global that is not there": (named(of_globals=[*of_globals, (2, "other")]), "index 2 is too large"),
+        "a name that ends a comment": (replaced(0, b"lms_verify_hash", b"lms_verify_*/sh"), "a name that may not stand in a comment"),
+        "a name that ends a comment on the next line": (
+            replaced(0, b"lms_verify_hash", b"lms_verify*\\\n/h"),
+            "a name that may not stand in a comment",
+        ),
+    }
+
+
 def refused_sections():
     """Sections in forms that no module of ours has: how they are changed, with what is said."""
     return {
@@ -126,7 +262,6 @@ def refused_sections():
         "a section that is too short": (lambda parts, _: [(1, parts[0][1][:-1]), *parts[1:]], "the type section: it ends early"),
         "a type of no function": (replaced(1, b"\x60", b"\x5f"), "a type 0x5f, where only 0x60 is known"),
         "a parameter of another type": (replaced(1, b"\x7e", b"\x7c"), "a value of type 0x7c"),
-        "several results": (replaced(1, b"\x01\x7f", b"\x02\x7f\x7f"), "several results"),
         "two memories": (replaced(5, b"\1\4", b"\2\4"), "a number of memories 0x2"),
         "a memory of 32 bits": (replaced(5, b"\1\4", b"\1\0"), "limits 0x0, where only 0x4 is known"),
         "a memory with an end": (replaced(5, b"\1\4\x11", b"\1\5\x11\x12"), "limits 0x5, where only 0x4 is known"),
@@ -194,11 +329,15 @@ def refused_sections():
 
 def refused():
     """Names of what is refused, each with the two modules and what is said."""
-    found = []
-    for name, (*words, says) in refused_bodies().items():
-        found.append((name, both(*words, change=with_third_global), says))
-    for name, (change, says) in refused_sections().items():
+    found, steady = [], one_more(6, b"\x7e\0" + code(("i64.const", 5), "end"))
+    deeper = Function("deeper", [], [], code(*FRAME, *BACK), ["i64"] * 7)
+    pair = Function("pair", [], ["i32", "i32"], code(ZERO, ZERO))
+    for name, (*words, says) in {**refused_bodies(), **refused_stacks()}.items():
+        found.append((name, both(*words, change=steady, more=[deeper]), says))
+    for name, (change, says) in {**refused_addresses(), **refused_names(), **refused_sections()}.items():
         found.append((name, both(change=change), says))
+    found.append(("several results", both(("call", 4), more=[pair]), "several results"))
+    found.append(("two modules of one size of stack", both()[:1] * 2, "the two modules have their constants at the same address"))
     found.append(("what is no module", [b"\0asm\2\0\0\0"] * 2, "it is no WebAssembly of version 1"))
     found.append(("an empty file", [b""] * 2, "it is no WebAssembly of version 1"))
     return found

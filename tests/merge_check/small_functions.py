@@ -17,6 +17,9 @@ BESIDE = {
 }
 CONSTANTS = bytes(range(0x80, 0x100))
 FRAME = 128
+TEST = [("i64.const", 16), "i64.lt_s", ("br_if", 0)]
+# Where lms_verify_pieces says that the caller's array is.
+PIECES = 1 << 61
 # Of the verifier's four calls, which each module has to export, with what the template hands them.
 CALLS = {"lms_verify": "i64 " * 6, "lms_verify_pieces": "i64 " * 6, "lms_message_head": "i64 " * 5, "lms_verify_hash": "i64 " * 5}
 BINARY = """
@@ -80,7 +83,7 @@ def conditions():
     found = [Function(name, both, ["i32"], code(*words)) for name, words in bodies.items()]
     found.append(Function("extended condition", both, ["i64"], code(*less, "i64.extend_i32_u")))
     number, sums = [A, "i32.wrap_i64"], [A, B, "i64.add", A, B, "i64.sub"]
-    for name, test in {"less": less, "not": [A, "i64.eqz"], "number": number, "number's not": [*number, "i32.eqz"]}.items():
+    for name, test in {"less": less, "not": [A, "i64.eqz"], "number": number, "not number": [*number, "i32.eqz"]}.items():
         found.append(Function(f"select by {name}", both, ["i64"], code(A, B, *test, "select")))
         found.append(Function(f"select of sums by {name}", both, ["i64"], code(*sums, *test, "select", A, "i64.xor")))
         body = code("block", *test, ("br_if", 0), B, "return", "end", A)
@@ -142,24 +145,41 @@ def globals_and_calls(first):
         Function("traps", ["i32"], [], traps),
         Function("after a trap", ["i32", "i32"], ["i32"], after_a_trap),
         Function("calls framed", ["i64", "i32"], ["i64"], calls_framed, ["i64", "i64"]),
+        *stack(frame, back),
     ]
 
 
-def memory(base):
-    """Loads and stores at addresses with offsets, of constants, and while operands wait that a store
-    changes."""
+def stack(frame, back):
+    """What takes no frame, an empty one, or one that it gives back on several ways."""
+    own = ("local.get", 2)
+    tests = code("block", ("global.get", 0), *TEST, A, "return", "end", "unreachable")
+    empty = code("block", ("global.get", 0), ("local.tee", 2), *TEST, own, ("global.set", 0), A, "return", "end", "unreachable")
+    halved = [own, own, ("i64.load", 0), ("i64.const", 1), "i64.shr_u", ("i64.store", 0)]
+    again = [own, ("i64.load", 0), ("i64.const", 7), "i64.gt_u", ("br_if", 0)]
+    ways = code(
+        "block", *frame, own, *TEST, "block", "block", A, "i64.eqz", ("br_if", 0), own, A, ("i64.store", 0),
+        "loop", *halved, *again, "end", B, ("br_table", 0, 1, 0), "end", *back, ("i64.const", 5), "return", "end",
+        own, ("i64.load", 0), ("local.set", 3), *back, ("local.get", 3), "return", "end", "unreachable",
+    )
+    return [
+        Function("tests the stack", ["i64"], ["i64"], tests),
+        Function("an empty frame", ["i64", "i32"], ["i64"], empty, ["i64"]),
+        Function("several ways out", ["i64", "i32"], ["i64"], ways, ["i64", "i64"]),
+    ]
+
+
+def memory():
+    """Loads and stores at addresses with offsets, and while operands wait that a store changes."""
     found = []
-    for offset in (0, 1, 40):
+    for offset in (0, 1, 40, 1 << 63):
         for name in ("i32.load", "i32.load8_u", "i64.load"):
             found.append(Function(f"{name} {offset}", ["i64"], [name[:3]], code(A, (name, offset))))
         for name in ("i32.store", "i32.store8", "i32.store16", "i64.store"):
             found.append(Function(f"{name} {offset}", ["i64", name[:3]], [], code(A, B, (name, offset))))
-    constant = code(("i64.const", base + 3), ("i64.load", 5), A, ("i32.load", base + 7), "i64.extend_i32_u", "i64.xor")
     stored = code(A, ("i32.load", 0), A, ("i32.load8_u", 1), A, B, ("i32.store16", 0), A, ("i32.load", 0), "i32.add", "i32.xor")
     filled = code(A, ("i64.load", 0), A, B, "i32.wrap_i64", ("i64.const", 5), "memory.fill", A, ("i64.load", 0), "i64.sub")
     copied = code(A, ("i64.load", 0), A, B, ("i64.const", 6), "memory.copy", A, ("i64.load", 0), "i64.sub")
     return found + [
-        Function("constants", ["i64"], ["i64"], constant),
         Function("waits for a store", ["i64", "i32"], ["i32"], stored),
         Function("waits for a fill", ["i64", "i64"], ["i64"], filled),
         Function("waits for a copy", ["i64", "i64"], ["i64"], copied),
@@ -168,22 +188,45 @@ def memory(base):
     ]
 
 
-def verifier(functions):
-    """The four calls: the first one calls all these functions, that with the pieces loads by itself."""
+def constants(base, load):
+    """Loads of constants by their addresses, one of them by the function of this number."""
+    each = code(("i64.const", base + 3), ("i64.load", 5), A, ("i32.load", base + 7), "i64.extend_i32_u", "i64.xor")
+    waits = code(A, ("i64.const", base), "i64.add", ("i64.const", base + 1), A, "i64.add", ("i64.const", 0), ("local.set", 0))
+    summed = code(waits, ("i64.load", 2), A, "i64.sub", ("local.set", 0), ("i64.load", 1), A, "i64.xor")
+    return [
+        Function("constants", ["i64"], ["i64"], each),
+        Function("sums with constants", ["i64"], ["i64"], summed),
+        Function("constants that are handed on", ["i64"], ["i64"], code(("i64.const", base + 9), ("call", load), A, "i64.xor")),
+    ]
+
+
+def of_pieces():
+    """Loads of what may be an array of pieces, also where the sum of address and offset passes 2^64."""
+    return [Function(f"i64.load {it} of pieces", ["i64"], ["i64"], code(A, ("i64.load", it))) for it in (8, PIECES + 16)]
+
+
+def calls_of(functions, first):
+    """Calls of functions, the first of which has this number."""
     words = []
-    for at, function in enumerate(functions):
+    for at, function in enumerate(functions, first):
         words += [*((f"{it}.const", 0) for it in function.parameters), ("call", at)]
         words += [*["i32.wrap_i64"] * (function.results == ["i64"]), ("global.set", 1)] if function.results else []
+    return words
+
+
+def verifier(functions, loads):
+    """The four calls: the first one calls all these functions, that with the pieces these loads."""
     answer = [("i32.const", 0)]
-    bodies = [[*words, *answer], [("local.get", 2), ("i64.load", 8), "i32.wrap_i64"], answer, answer]
+    bodies = [calls_of(functions, 0) + answer, calls_of(loads, len(functions)) + answer, answer, answer]
     return [Function(name, CALLS[name].split(), ["i32"], code(*body)) for name, body in zip(CALLS, bodies)]
 
 
 def all_functions(base=STACK_END):
     """All functions, for a stack that ends at this address. The names say what is tried."""
     found = numbers() + conditions() + control()
-    found += globals_and_calls(len(found)) + memory(base)
-    return found + verifier(found)
+    found += globals_and_calls(len(found)) + memory()
+    found += constants(base, [it.name for it in found].index("i64.load 0"))
+    return found + of_pieces() + verifier(found, of_pieces())
 
 
 def module_of(functions, base):
@@ -198,8 +241,10 @@ def seen_instructions(functions):
     return {name for function in module.functions for name, _ in function.body}
 
 
-# In the stack, near both of its ends; of constants; and where there is no memory.
+# In the stack, near both of its ends; among the constants, from their first one on; and where there is
+# no memory.
 STACK = [STACK_END - 256, STACK_END - 255, STACK_END - 100, STACK_END - 60, STACK_END - 49]
+CONSTANT = [0, 1, 2, 60, 113]
 NOWHERE = [1 << 33, (1 << 62) + STACK_END, (1 << 64) - 41, (1 << 64) - 8, (1 << 64) - 1]
 
 
@@ -208,7 +253,9 @@ def addresses(function, at):
     address."""
     if function.name in ("memory.copy", "waits for a copy") and at == 1:
         return [*STACK, STACK_END, STACK_END + 3, *NOWHERE]
-    is_memory = any(it in function.name for it in (".load", ".store", "memory.", "waits for", "constants"))
+    if "constants" in function.name:
+        return CONSTANT
+    is_memory = any(it in function.name for it in (".load", ".store", "memory.", "waits for"))
     if at or not is_memory:
         return []
     return [*STACK, STACK_END, STACK_END + 3, *NOWHERE] if ".load" in function.name else STACK + NOWHERE

@@ -1,15 +1,18 @@
 """The translator of portable/: each instruction that it knows, alone and among others, against node's
 own WebAssembly, on numbers at the edges; and modules that it has to refuse, each with what it says."""
 
-from tests.harness import Skipped, Wrong, checks, holds
+from tests.harness import Skipped, Wrong, checks, holds, said_by
 from tests.merge_check import wasm_functions
 from tests.merge_check.refused_modules import REFUSED, refused_instructions
 from tests.merge_check.small_functions import all_functions, cases_of, module_of, seen_instructions
 from tests.merge_check.wasm_builder import KNOWN
-from tests.merge_check.wasm_functions import TOP, build, compare, has_node, links, wasm_module, wasm_to_c
+from tests.merge_check.wasm_functions import INCLUDES, TOP, build, compare, has_node, links, wasm_module, wasm_to_c
+from tests.program import put
 
 TEMPLATE = (TOP / "portable/lms_verify.c.in").read_text(encoding="utf-8")
 OTHER_END = 0x20000
+# (No -Wextra: the small functions leave parameters unused.)
+WELL_FORMED = ["-std=c99", "-pedantic", "-Wconversion", "-Wsign-conversion", "-Werror"]
 UNDEFINED = ["-fsanitize=undefined", "-fno-sanitize-recover=all"]
 
 
@@ -23,6 +26,12 @@ def knows_all(functions):
     """Each instruction that is translated is in one of the functions."""
     missing = set(KNOWN) - seen_instructions(functions)
     holds(not missing, f"no function has {' '.join(sorted(missing))}")
+
+
+def is_well_formed(functions):
+    """The C file is what a strict compiler takes."""
+    put("small.c", translated(functions)[1].encode())
+    said_by("cc", *WELL_FORMED, *INCLUDES, "-c", "small.c", "-o", "small.o")
 
 
 def is_as_in_node(functions):
@@ -39,6 +48,7 @@ def is_as_in_node(functions):
 def instructions(counter):
     functions = all_functions()
     counter.check("each instruction is tried", knows_all, functions)
+    counter.check("the C is well-formed", is_well_formed, functions)
     counter.check("all are as in node", is_as_in_node, functions)
 
 

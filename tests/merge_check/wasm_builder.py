@@ -12,6 +12,8 @@ OPCODES = {name: bytes([opcode]) for opcode, name in wasm_instructions.NAMES.ite
 OPCODES.update((name, bytes([wasm_instructions.PREFIX, opcode])) for opcode, name in wasm_instructions.PREFIXED.items())
 KNOWN = wasm_instructions.KNOWN
 END = "end"
+# The names of the globals.
+GLOBALS = ["__stack_pointer", "in_call"]
 
 
 def unsigned(value):
@@ -92,13 +94,16 @@ def names(pairs):
     return vector([unsigned(at) + sized(name.encode()) for at, name in pairs])
 
 
+def name_section(of_functions, of_globals):
+    """The section with the names of functions and globals."""
+    return sized(b"name") + b"\x01" + sized(names(of_functions)) + b"\x07" + sized(names(of_globals))
+
+
 def sections(functions, exported, base, data, pages=17):
     """The sections of a module with these functions, which exports those of these names, and whose
     stack ends at this address, where its data begins: each one's number and its contents, in their
     order."""
     address = code(("i64.const", base), END)
-    named = sized(b"name") + b"\x01" + sized(names(enumerate(it.name for it in functions)))
-    named += b"\x07" + sized(names([(0, "__stack_pointer"), (1, "in_call")]))
     exports = [sized(it.name.encode()) + b"\0" + unsigned(at) for at, it in enumerate(functions) if it.name in exported]
     exports += [sized(b"memory") + b"\x02\0", sized(b"__stack_pointer") + b"\x03\0"]
     return [
@@ -109,7 +114,7 @@ def sections(functions, exported, base, data, pages=17):
         (7, vector(exports)),
         (10, vector([it.contents() for it in functions])),
         (11, vector([b"\0" + address + sized(data)])),
-        (0, named),
+        (0, name_section(enumerate(it.name for it in functions), enumerate(GLOBALS))),
     ]
 
 

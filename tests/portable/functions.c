@@ -13,6 +13,11 @@ enum { MOST_ARGUMENTS = 8 };
 
 static struct machine machine;
 
+/* What a load of pieces could find. No address of a case leads there but by passing 2^64, which no
+ * address of WebAssembly does. */
+static const uint8_t byte;
+static const struct lms_piece piece = {&byte, sizeof byte};
+
 static void fail(const char *why) {
     fprintf(stderr, "functions: %s\n", why);
     exit(2);
@@ -64,6 +69,8 @@ static void run(char *line) {
     unsigned function = (unsigned)next(&line);
     machine.stack_pointer = next(&line);
     machine.in_call = (uint32_t)next(&line);
+    machine.pieces = &piece;
+    machine.piece_count = 1;
     uint32_t seed = (uint32_t)next(&line);
     size_t low = (size_t)next(&line), count = (size_t)next(&line);
     fill_memory(seed, low);
