@@ -2,41 +2,32 @@
 
 By one processor, which `machine.c` has the program find, a hash of a tree takes less time than one of a
 message, since eight leaves are computed side by side; and a `sign` and a `batch` that compute a tree, or a
-bottom subtree, take no longer than the `keygen` of such a tree, so they compute it once. By all processors
-`keygen` of 15/2 takes more time of these than passes on the clock. And with no time taken it is seen that
-a thread with much left gives a part away where a processor is free."""
+bottom subtree, take no longer than the `keygen` of such a tree, so they compute it once. These times are
+taken in turn, of each the least counts, and more are taken while a ratio is too great, since other
+programs may have been in the way. By all processors `keygen` of 15/2 gets as much of them as programs do
+that only spin. And with no time taken it is seen that a thread with much left gives a part away where a
+processor is free."""
 
 import os
 import pathlib
+import subprocess
+import time
 
 from tests.harness import Skipped, Wrong, checks, holds, test
-from tests.program import BATCH, NODES, keygen, job_lines, measured, preload, put, read, run, sign, verify
+from tests.program import BATCH, NODES, job_lines, keygen, measured, preload, put, read, run, sign, taken, verify
 from tests.reference import CHAINS, SUBTREE, image
 
 WIDTH, LEAVES = 2, 2**10
 SMALL, TALL = ((10, WIDTH),), ((15, WIDTH),)
-# How often a time is taken, of which the least counts.
-TIMES = 3
 # How many bytes a message has whose hash is compared with.
 LENGTH = 2**26
-# How long a hash of a tree may take, and a call that computes a tree, as a part of what is compared.
-MOST_OF_A_HASH, MOST_OF_A_TREE = 0.85, 1.5
-# How many times as much of the processors all threads get, at least, as one thread does; and how often that
-# is tried, since other programs have a share of them.
-LEAST_TIMES, TRIES = 1.4, 5
+# How long a hash of a tree may take, and a call that computes a tree, as a part of what is compared; and
+# how much of the processors a `keygen` gets at least, as a part of what it could.
+MOST_OF_A_HASH, MOST_OF_A_TREE, LEAST_AT_WORK = 0.85, 1.5, 0.7
+# How often times are taken, at least and at most.
+LEAST_ROUNDS, MOST_ROUNDS = 3, 12
 # How late a thread begins, in milliseconds: all others are done by then.
 LATE = 500
-
-
-def least(arguments, prepare=lambda: None, lines=b"", status=0):
-    """How many seconds of one processor the program takes, at least."""
-    times = []
-    for _ in range(TIMES):
-        prepare()
-        ran, _, taken = measured(arguments, input=lines, text=False, env=preload("machine", PROCESSORS=1))
-        holds(ran.returncode == status, f"{arguments[0]} ended with {ran.returncode}: {ran.stderr!r}")
-        times.append(taken)
-    return min(times)
 
 
 def remove(*names):
@@ -45,11 +36,19 @@ def remove(*names):
         pathlib.Path(name).unlink(missing_ok=True)
 
 
-def begins_at(levels, index, has_nodes=False):
-    """The state gives this index next, and no nodes are kept, or those that are."""
+def begins_at(levels, index, nodes=None):
+    """The state gives this index next, and these nodes are kept, or none."""
     put("key.state", image(levels, index))
-    if not has_nodes:
-        remove(NODES)
+    remove(NODES)
+    if nodes:
+        put(NODES, nodes)
+
+
+def time_of(arguments, lines=b"", status=0):
+    """How many seconds of one processor the program takes."""
+    ran, _, seconds = measured(arguments, input=lines, text=False, env=preload("machine", PROCESSORS=1))
+    holds(ran.returncode == status, f"{arguments[0]} ended with {ran.returncode}: {ran.stderr!r}")
+    return seconds
 
 
 def hashes_of_a_leaf():
@@ -59,19 +58,42 @@ def hashes_of_a_leaf():
     return chains * 2**WIDTH + (22 + 32 * chains + 9 + 63) // 64 + 3
 
 
-def hashes_side_by_side(tree):
-    """One by one they would take twice as long as they do, and leaf by leaf as long as a message."""
-    put("long", b"")
-    os.truncate("long", LENGTH)
-    message = least(verify("long"), status=1) / (LENGTH / 64)
-    part = tree / (LEAVES * hashes_of_a_leaf()) / message
-    holds(part < MOST_OF_A_HASH, f"a hash of a tree takes {part:.2f} of the time of one of a message")
+class Times:
+    """The least seconds of each call so far. A tree of SMALL is computed by each but the first, which
+    hashes a message."""
 
+    def __init__(self, nodes):
+        self.nodes, self.seconds, self.rounds = nodes, {}, 0
 
-def computes_once(what, seconds, tree):
-    """It took as long as such a tree."""
-    times = seconds / tree
-    holds(times < MOST_OF_A_TREE, f"{what} took {times:.2f} times as long as a tree")
+    def take(self):
+        """Takes each time once more."""
+        self.rounds += 1
+        begins_at(SMALL, 5)
+        self.add("sign", time_of(sign()))
+        begins_at(SMALL, 5)
+        self.add("batch", time_of(BATCH, job_lines(b"abc")))
+        begins_at(TALL, self.rounds << SUBTREE, self.nodes)
+        self.add("moved", time_of(sign()))
+        remove("key.state")
+        self.add("tree", time_of(keygen("10/2")))
+        self.add("message", time_of(verify("long", "long.sig", "long.pub"), status=1))
+
+    def add(self, what, seconds):
+        """Notes a time."""
+        self.seconds[what] = min(seconds, self.seconds.get(what, seconds))
+
+    def part(self, what):
+        """How long a call takes, as a part of a tree's time; of the tree itself, a hash as a part of one of
+        the message."""
+        if what == "tree":
+            return self.seconds["tree"] / (LEAVES * hashes_of_a_leaf()) / (self.seconds["message"] / (LENGTH / 64))
+        return self.seconds[what] / self.seconds["tree"]
+
+    def check(self, what, most):
+        """It is less than this. Times are taken while it is not."""
+        while self.rounds < LEAST_ROUNDS or self.part(what) >= most and self.rounds < MOST_ROUNDS:
+            self.take()
+        holds(self.part(what) < most, f"{self.part(what):.2f} times as long, and not less than {most}")
 
 
 def processors():
@@ -84,40 +106,43 @@ def processors():
     return min(len(os.sched_getaffinity(0)), quota)
 
 
-def at_work(level, **how):
-    """How many processors are at work while the key of a level is made."""
-    remove("key.state")
-    ran, seconds, taken = measured(keygen(level), **how)
-    holds((ran.returncode, ran.stdout[:8]) == (0, "capacity"), f"keygen {level}: {ran.returncode} {ran.stdout!r}")
-    return taken / seconds
+def spinning(count):
+    """How many processors so many programs get that only spin."""
+    begun, before = time.monotonic(), taken()
+    running = [subprocess.Popen(["sh", "-c", "while :; do :; done"]) for _ in range(count)]
+    time.sleep(0.5)
+    for it in running:
+        it.kill()
+        it.wait()
+    return (taken() - before) / (time.monotonic() - begun)
 
 
 def makes_a_tall_key():
     """By all processors."""
     count, found = processors(), []
-    for _ in range(TRIES):
-        one = at_work("10/8", env=preload("machine", PROCESSORS=1))
-        found.append(at_work("15/2") / one)
-        if found[-1] >= LEAST_TIMES or count == 1:
-            break
+    while len(found) < MOST_ROUNDS and max(found, default=0) < LEAST_AT_WORK:
+        remove("key.state")
+        possible = spinning(count)
+        ran, seconds, used = measured(keygen("15/2"))
+        holds(ran.returncode == 0, f"keygen ended with {ran.returncode}: {ran.stderr!r}")
+        found.append(used / seconds / possible)
     if count == 1:
         raise Skipped("there is one processor here")
-    holds(found[-1] >= LEAST_TIMES, f"{count} processors were at work {max(found):.2f} times as much as one")
+    holds(max(found) >= LEAST_AT_WORK, f"it had {max(found):.2f} of what {count} processors could give")
 
 
 @checks
 def trees(counter):
-    tree = least(keygen("10/2"), lambda: remove("key.state"))
-    run(sign())
-    counter.check("hashes of eight leaves side by side", hashes_side_by_side, tree)
-    anew = least(sign(), lambda: begins_at(SMALL, 5))
-    counter.check("a tree is computed once by a signature", computes_once, "sign", anew, tree)
-    batch = least(BATCH, lambda: begins_at(SMALL, 5), job_lines(b"abc"))
-    counter.check("a tree is computed once by a batch", computes_once, "batch", batch, tree)
-    counter.check("a tree is computed by several processors", makes_a_tall_key)
-    subtrees = iter(range(1, TIMES + 1))
-    moved = least(sign(), lambda: begins_at(TALL, next(subtrees) << SUBTREE, has_nodes=True))
-    counter.check("a bottom subtree is computed once by a signature", computes_once, "sign", moved, tree)
+    counter.check("a tree is computed by all processors", makes_a_tall_key)
+    times = Times(read(NODES))
+    put("long", b"")
+    os.truncate("long", LENGTH)
+    run(keygen(state="long.state", public="long.pub"))
+    run(sign(out="long.sig", state="long.state"))
+    counter.check("a hash of a tree takes less than one of a message", times.check, "tree", MOST_OF_A_HASH)
+    for what, name in [("sign", "a tree is computed once by a signature"), ("batch", "and once by a batch")]:
+        counter.check(name, times.check, what, MOST_OF_A_TREE)
+    counter.check("a bottom subtree is computed once by a signature", times.check, "moved", MOST_OF_A_TREE)
 
 
 @test
