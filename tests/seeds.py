@@ -4,6 +4,7 @@ of the program wrote or printed."""
 import functools
 import os
 import pathlib
+import stat
 
 from tests.harness import holds
 from tests.reference import IDENTIFIER, SEED, derived
@@ -52,19 +53,12 @@ def seeds_in(words):
     return {SEED, named} if len(named) == len(SEED) else {SEED}
 
 
-def plain_files(folders):
-    """The paths of the plain files in these folders, but for long ones."""
-    for folder in folders:
-        with os.scandir(folder) as found:
-            for it in found:
-                if it.is_file(follow_symlinks=False) and it.stat(follow_symlinks=False).st_size <= MOST_LENGTH:
-                    yield os.path.join(folder, it.name)
-
-
 def contents_of(path):
-    """The bytes of a file, or none where it is gone or may not be read."""
+    """The bytes of a plain file, or none where it is long, gone or may not be read."""
     try:
-        return pathlib.Path(path).read_bytes()
+        found = os.lstat(path)
+        is_read = stat.S_ISREG(found.st_mode) and found.st_size <= MOST_LENGTH
+        return pathlib.Path(path).read_bytes() if is_read else b""
     except OSError:
         return b""
 
@@ -86,7 +80,7 @@ def keeps_secret(arguments, printed, folder=".", seeds=(), record=None):
             if option == "--state":
                 STATES.update((path, f"{path}.new"))
     others = {os.path.realpath(os.path.join(folder, record))} if record else set()
-    for path in plain_files(folders):
+    for path in (os.path.join(it, name) for it in folders for name in os.listdir(it)):
         if path not in STATES and path not in others:
             contents = contents_of(path)
             holds(not any(tells(contents, it) for it in seeds), f"{words[:1]}: the seed is in {path}")

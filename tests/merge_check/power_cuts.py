@@ -223,7 +223,7 @@ APART = Key("5/4,5/4 in another folder", TWO, ["keygen", "sign", "sign", 29, "si
 # Version 1 wrote this state, and a crash left drafts beside it.
 OLD = image(TWO, 31, version=1)
 CRASHED = Key("5/4,5/4 by a link", TWO, ["sign", "sign", 2], "keys/state", "key.state", {
-    "keys/state": OLD, "keys/state.new": OLD[:50], "keys/state.nodes": kept(TWO, 0), "keys/state.nodes.new": OLD, "text.sig": bytes(30000),
+    "keys/state": OLD, "keys/state.new": OLD[:50], "keys/state.nodes": kept(TWO, 0), "keys/state.nodes.new": kept(TWO, 0)[:100], "text.sig": bytes(30000),
 })
 CRASHED.numbers[OLD] = 31, 0
 KEYS = [PLAIN, APART, CRASHED]

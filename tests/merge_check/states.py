@@ -145,13 +145,13 @@ def reads_until(terminal, what):
             raise Wrong(f"it ended, and reported {printed!r}") from why
 
 
-def begins_trees_of_height_25(words, jobs, leaves):
+def begins_trees_of_height_25(words, jobs, leaves, **how):
     """The program reports some of so many leaves, so it has the memory for the first tree. All of
     them would take some minutes: it is killed then."""
     put("jobs", job_lines(*[b"abc"] * jobs))
     terminal, errors = os.openpty()
     with open("jobs", "rb") as lines:
-        running = subprocess.Popen([PROGRAM, *words], stdin=lines, stdout=subprocess.DEVNULL, stderr=errors)
+        running = subprocess.Popen([PROGRAM, *words], stdin=lines, stdout=subprocess.DEVNULL, stderr=errors, **how)
     os.close(errors)
     with running, os.fdopen(terminal, "rb", 0):
         try:
@@ -164,7 +164,8 @@ def begins_trees_of_height_25(words, jobs, leaves):
 def begins_the_tallest_trees():
     """A key of one, a signature by its last leaf, and two jobs on both sides of the edge between two
     bottom subtrees; then of two levels, and of the most indices that there may be. The indices are
-    stored as used before."""
+    stored as used before. On a clock on which seconds pass between two looks the first report comes at
+    once."""
     begins_trees_of_height_25(keygen("25/1"), 0, 2**25)
     holds(not os.path.exists("key.state"), "the state was stored before the public key was made")
     one, two, three = ((25, 1),), ((25, 1), (25, 1)), ((25, 1), (25, 1), (10, 1))
@@ -177,7 +178,7 @@ def begins_the_tallest_trees():
         (BATCH, three, 2**60 - 2, 2, 2 * 2**25 + 2**10),
     ]:
         put("key.state", image(levels, index))
-        begins_trees_of_height_25(words, jobs, leaves)
+        begins_trees_of_height_25(words, jobs, leaves, env=preload("machine", TICK=10**9))
         has("key.state", image(levels, index + jobs, 1))
 
 

@@ -58,13 +58,13 @@ def signs_at_the_edge_of_two_bottom_subtrees():
 
 @test
 def signs_by_the_longest_nodes():
-    """By the last leaf of a tree of height 10 and by the first one of the next tree."""
+    """By the last leaf of a tree of height 10 and by the first one of the next tree, which is computed."""
     levels = ((25, 1), (25, 1), (10, 1))
     top = MadeUpTree(*levels[0], IDENTIFIER, SEED, {ABOVE >> SUBTREE: [ABOVE]})
     middle = MadeUpTree(*levels[1], *below(ABOVE, top), {ABOVE >> SUBTREE: [ABOVE, ABOVE + 1]})
     ways = {}
     for leaf, last, writes in [(ABOVE, 2**10 - 1, False), (ABOVE + 1, 0, True)]:
-        bottom = tree(*levels[2], *below(leaf, middle))
+        bottom = tree(*levels[2], *below(leaf, middle)) if writes else MadeUpTree(*levels[2], *below(leaf, middle), {0: [last]})
         way = [(top, ABOVE, b""), (middle, leaf, top.signed_key(ABOVE, middle)), (bottom, last, middle.signed_key(leaf, bottom))]
         ways[(ABOVE << 25 | leaf) << 10 | last] = way, writes
     goes_on(levels, ways)
