@@ -1,5 +1,5 @@
-"""The places of the product where a one-time key signs, for `misuse`: each comes after its index was
-reserved, and no other signs by that index."""
+"""The places in the product's code where a one-time key signs, for `misuse`: each comes after its index was
+reserved, and a further one is seen."""
 
 import re
 

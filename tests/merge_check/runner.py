@@ -35,6 +35,14 @@ add_test("passes", passes)
 """
 FAILS = f'{PASSES}add_test("fails", fails)\n'
 SKIPS = f'{PASSES}add_test("skips", skips)\n'
+CHECKS_BREAK_OFF = f"""{PASSES}
+from tests.harness import checks
+
+@checks
+def break_off(counter):
+    counter.check("passes", lambda: None)
+    raise OSError("they do")
+"""
 BREAKS_OFF = f'{PASSES}import os\nadd_test("breaks off", os._exit, 0)\n'
 NO_MODULE = "This is no module.\n"
 
@@ -199,6 +207,7 @@ def there_is_no_rt():
 MODULES = {
     "fails": (FAILS, "1 passed, 1 failed", 1),
     "is skipped": (SKIPS, "1 passed, 0 failed", 0),
+    "has checks that break off": (CHECKS_BREAK_OFF, "2 passed, 1 failed", 1),
     "breaks off": (BREAKS_OFF, "0 passed, 1 failed", 1),
     "has no test": ("", "0 passed, 1 failed", 1),
 }

@@ -109,11 +109,15 @@ def processors():
 def spinning(count):
     """How many processors so many programs get that only spin."""
     begun, before = time.monotonic(), taken()
-    running = [subprocess.Popen(["sh", "-c", "while :; do :; done"]) for _ in range(count)]
-    time.sleep(0.5)
-    for it in running:
-        it.kill()
-        it.wait()
+    running = []
+    try:
+        for _ in range(count):
+            running.append(subprocess.Popen(["sh", "-c", "while :; do :; done"]))
+        time.sleep(0.5)
+    finally:
+        for it in running:
+            it.kill()
+            it.wait()
     return (taken() - before) / (time.monotonic() - begun)
 
 

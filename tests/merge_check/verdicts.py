@@ -49,6 +49,11 @@ def a_dash_is_a_name():
         put("-", given)
         ends(arguments, 0, "valid\n", input="another")
         os.remove("-")
+    ends(keygen(public="-"), 0, "capacity 32\n")
+    has("-", public_of(ONE))
+    put("text", b"abc")
+    ends(sign(out="-"), 0, "index 0\n")
+    has("-", signature_of(ONE, 0, b"abc"))
 
 
 @test
