@@ -37,8 +37,9 @@ def bodies():
     for type_name, (crate, part) in SECRETS.items():
         words, file = {"crate": crate, "Type": type_name}, f"printed_{type_name.lower()}"
         for number, (how, trait) in enumerate(WAYS.items()):
+            whole = {**words, "how": how, "what": "it"}
             says = f"`{type_name}` doesn't implement `{trait}`"
-            found.append((f"{type_name} printed by `{how}`", f"{file}_{number}", {**words, "how": how, "what": "it"}, "unsatisfied-bound", says))
+            found.append((f"{type_name} printed by `{how}`", f"{file}_{number}", whole, "unsatisfied-bound", says))
         found.append((f"a part of {type_name} printed", file, {**words, "how": "{:?}", "what": part}, None, None))
     return found
 
