@@ -238,7 +238,7 @@ for name_of_type, its_words in TYPES.items():
 
 @test
 def the_places_that_sign():
-    """Nothing else in the product signs, before its index is reserved or by the same index again."""
+    """No other place of the product signs by an index."""
     crates = sorted(it.name for it in (TOP / "crates").iterdir() if not misuse_signing.OTHERS.search(it.name))
     places = (f"{crate}: {head_at(code, it.start())[0]}" for crate, code in sources(crates) for it in misuse_signing.SIGNS.finditer(code))
     are_as_listed(collections.Counter(places), misuse_signing.PLACES)
@@ -246,7 +246,7 @@ def the_places_that_sign():
 
 @test
 def what_can_be_printed():
-    """No type of any crate that can be printed has a seed in it."""
+    """No type of any crate that can be printed has a seed in it, but the arguments."""
     found = collections.defaultdict(str)
     for crate, code in sources(sorted(it.name for it in (TOP / "crates").iterdir())):
         found[crate] += code
