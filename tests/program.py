@@ -16,7 +16,7 @@ import tty
 
 from tests.harness import TOP, Skipped, Wrong, holds
 from tests.reference import CHAINS, IDENTIFIER, RANDOMIZER, SEED, kept, signature_by, way_of
-from tests.seeds import keeps_secret
+from tests.seeds import input_of, keeps_secret
 
 PROGRAM = str(TOP / "crates/lms_tool/out/lms_tool")
 # Who may not do what the tests want refused, where the user of the tests may do all.
@@ -47,6 +47,11 @@ def sign(message="text", out="text.sig", randomizer=RANDOMIZER.hex(), state="key
 def verify(message="text", signature="text.sig", public="key.pub"):
     """The arguments of a `verify`."""
     return ["verify", "--public", public, "--message", message, "--signature", signature]
+
+
+def public(state="key.state", name="key.pub"):
+    """The arguments of a `public`."""
+    return ["public", "--state", state, "--public", name]
 
 
 def job_lines(*messages, randomizer=RANDOMIZER):
@@ -102,8 +107,8 @@ def run(arguments, program=PROGRAM, **how):
     if "input" not in how:
         how.setdefault("stdin", subprocess.DEVNULL)
     ran = subprocess.run([program, *arguments], check=False, **how)
-    record = (how.get("env") or {}).get("RECORD")
-    keeps_secret(arguments, (ran.stdout, ran.stderr), how.get("cwd") or ".", record=record)
+    record, folder = (how.get("env") or {}).get("RECORD"), how.get("cwd") or "."
+    keeps_secret(arguments, (ran.stdout, ran.stderr), folder, record=record, given_input=input_of(how))
     return ran
 
 

@@ -1,5 +1,5 @@
-"""Where a key's seed may stand: in the state's file and in its draft, and in nothing else that a run
-of the program wrote or printed."""
+"""Where a key's seed may stand: in the state's file, in its draft, and in a file that was a run's input,
+and in nothing else that a run of the program wrote or printed."""
 
 import functools
 import os
@@ -13,8 +13,9 @@ from tests.reference import IDENTIFIER, SEED, derived
 TELLING = 8
 # A longer file is a message.
 MOST_LENGTH = 2**23
-# The paths of all states that runs were given, and of their drafts; and how tests name one.
-STATES, STATE = set(), "key.state"
+# The paths of all states that runs were given, and of their drafts; how tests name one; and the paths of
+# all files that were a run's input.
+STATES, STATE, INPUTS = set(), "key.state", set()
 
 
 @functools.lru_cache(maxsize=None)
@@ -43,9 +44,20 @@ def given(words, option):
     return None
 
 
-def seeds_in(words):
-    """The seed of most tests, and the one that these words give, if any."""
+def input_of(how):
+    """The bytes of a run's input, if they are a text or in a file with a name."""
+    text, file = how.get("input") or b"", getattr(how.get("stdin"), "name", None)
+    if isinstance(file, str):
+        INPUTS.add(os.path.realpath(file))
+        return contents_of(file)
+    return text.encode() if isinstance(text, str) else text
+
+
+def seeds_in(words, given_input):
+    """The seed of most tests, and the one that these words give, or this input where they say so, if any."""
     digits = given(words, "--seed") or ""
+    if digits == "-":
+        digits = given_input[: 2 * len(SEED)].decode(errors="replace")
     try:
         named = bytes.fromhex(digits)
     except ValueError:
@@ -63,12 +75,12 @@ def contents_of(path):
         return b""
 
 
-def keeps_secret(arguments, printed, folder=".", seeds=(), record=None):
-    """A run of the program with these arguments, in this folder, printed this. Neither that nor a file
-    beside what it was given tells its seed, that of most tests, or one of these, but for states, their
-    drafts, and the record of what was written."""
+def keeps_secret(arguments, printed, folder=".", seeds=(), record=None, given_input=b""):
+    """A run of the program with these arguments, in this folder, and with this input printed this. Neither
+    that nor a file beside what it was given tells its seed, that of most tests, or one of these, but for
+    states, their drafts, inputs, and the record of what was written."""
     words = [os.fsdecode(it) if isinstance(it, bytes) else str(it) for it in arguments]
-    seeds = {*seeds_in(words), *seeds}
+    seeds = {*seeds_in(words, given_input), *seeds}
     for text in printed:
         contents = text.encode(errors="replace") if isinstance(text, str) else text or b""
         holds(not any(tells(contents, it) for it in seeds), f"{words[:1]}: the seed is printed")
@@ -80,7 +92,8 @@ def keeps_secret(arguments, printed, folder=".", seeds=(), record=None):
             if option == "--state":
                 STATES.update((path, f"{path}.new"))
     others = {os.path.realpath(os.path.join(folder, record))} if record else set()
+    others |= STATES | INPUTS
     for path in (os.path.join(it, name) for it in folders for name in os.listdir(it)):
-        if path not in STATES and path not in others:
+        if path not in others:
             contents = contents_of(path)
             holds(not any(tells(contents, it) for it in seeds), f"{words[:1]}: the seed is in {path}")

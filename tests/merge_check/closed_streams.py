@@ -5,8 +5,8 @@ import os
 import subprocess
 
 from tests.harness import TOP, Skipped, add_test, holds, test
-from tests.program import BATCH, INFO, PROGRAM, ends, fails, has, index_in, job_lines, keygen, preload, put, read, run, sign, verify
-from tests.reference import image
+from tests.program import BATCH, INFO, PROGRAM, ends, fails, has, index_in, job_lines, keygen, preload, public, put, read, run, sign, verify
+from tests.reference import SEED, image, public_of
 
 LEVELS = ((5, 8),)
 SETS = ["", "0", "1", "2", "01", "02", "12", "012"]
@@ -62,6 +62,21 @@ def answers(ran, *indices):
         put(f"{number}.sig", bytes.fromhex(digits))
 
 
+def makes_a_key_of_an_input(closed):
+    """`keygen` that reads its seed, with the streams of these numbers closed: a closed input is
+    empty."""
+    words = keygen(seed="-")
+    if "0" in closed:
+        expect(closed, run_closed(closed, words, input=SEED.hex()), 2, errors="error: bad seed\n")
+        holds(os.listdir() == ["text"], "something was written")
+        return
+    ran = run_closed(closed, words, input=SEED.hex())
+    is_closed = "1" in closed
+    expect(closed, ran, 6 if is_closed else 0, "capacity 32\n", "error: cannot write output\n" if is_closed else "")
+    has("key.pub", public_of(LEVELS))
+    files_are(0, 0)
+
+
 def works_without(closed):
     """Every command, with the streams of these numbers closed."""
     shown = run(["--help"]).stdout
@@ -70,6 +85,9 @@ def works_without(closed):
     files_are(1, 1, "0.sig")
     prints(closed, sign(out="1.sig"), 0, "index 1\n")
     prints(closed, INFO, 0, "levels 5/8\ncounter 2\ncapacity 32\nleft 30\nopenings 2\nburnt 0\n")
+    prints(closed, public(name="1.pub"), 0, "capacity 32\n")
+    has("1.pub", read("key.pub"))
+    os.remove("1.pub")
     prints(closed, verify("text", "1.sig"), 0, "valid\n")
     prints(closed, verify("text", "key.pub"), 1, "invalid\n")
     prints(closed, ["--help"], 0, shown)
@@ -92,6 +110,7 @@ def works_without(closed):
 
 for numbers in SETS:
     add_test(f"closed streams: {' '.join(numbers) or 'none'}", works_without, numbers)
+    add_test(f"a seed with closed streams: {' '.join(numbers) or 'none'}", makes_a_key_of_an_input, numbers)
 
 
 def lacks_dev_null(closed):

@@ -1,8 +1,8 @@
 """The program killed at each of its operations on files and streams in turn, or with this operation
 failing, alone or with all after it.
 
-This is done to a `keygen`, to a `sign` by trees that it computes and keeps, to one by kept trees,
-and to a `batch` of three jobs. Then a `sign` and a `batch` follow. No index may be given twice, the
+This is done to a `keygen`, to a `public`, to a `sign` by trees that it computes and keeps, to one by
+kept trees, and to a `batch` of three jobs. Then a `sign` and a `batch` follow. No index may be given twice, the
 next one is what the old state counts or what the new one does, the new signature must be valid, and
 no draft of a file may be left."""
 
@@ -13,21 +13,23 @@ import shutil
 import signal
 
 from tests.harness import add_test, holds
-from tests.program import ends, index_in, job_lines, keygen, preload, run, sign, verify
+from tests.program import ends, index_in, job_lines, keygen, preload, public, run, sign, verify
 
 LEVELS = ((5, 2),)
 # How many operations each command has; if the program changes, these change with it. Each opens
 # /dev/null (1), acquires the lock (3, or 4 where there is no state) and stores the state by way of
-# a draft (7). It may keep nodes by way of another one (5), write a file (2) and print a line (1).
-# `keygen` looks whether there is a state (1). `sign` reads the message (4), the kept nodes (4, or 1
+# a draft (7). It may keep nodes by way of another one (5), write a file (3) and print a line (1).
+# `keygen` looks whether there is a state (1). It and `public`, which reads the state (3) and stores
+# none, flush their file and its folder (4). `sign` reads the message (4), the kept nodes (4, or 1
 # where there are none) and the state (3). `batch` reads the state (3) and the lines (2), and prints
 # each answer by 8 writes.
-OPERATIONS = {"keygen": 21, "sign by trees": 27, "sign by kept trees": 25, "batch": 40}
+OPERATIONS = {"keygen": 26, "public": 15, "sign by trees": 28, "sign by kept trees": 26, "batch": 40}
 # What each command is run with, which of the made files it finds, and the next index before it and
 # after it.
 KEYGEN = keygen("5/2")
 COMMANDS = {
     "keygen": (KEYGEN, [], 0, 0),
+    "public": (public(name="again.pub"), ["key.pub", "key.state", "key.state.nodes"], 1, 1),
     "sign by trees": (sign(out="first.sig"), ["key.pub", "key.state"], 1, 2),
     "sign by kept trees": (sign(out="first.sig"), ["key.pub", "key.state", "key.state.nodes"], 1, 2),
     "batch": (["batch", "--state", "key.state", "--workers", "2"], ["key.pub", "key.state", "key.state.nodes"], 1, 4),
@@ -98,6 +100,8 @@ class Crash:
         """What a command that ended well gives is there."""
         if self.what == "keygen":
             return self.is_as_made("key.pub")
+        if self.what == "public":
+            return self.bytes_of("again.pub") == (MADE / "key.pub").read_bytes()
         if self.what == "batch":
             return len(indices_in(self.printed)) == 3
         return self.run(verify(signature="first.sig")).returncode == 0
@@ -182,7 +186,7 @@ def crashes(what, how):
     operations = next(at for at, (_, is_met) in enumerate(ended) if not is_met)
     holds(operations == OPERATIONS[what], f"there are {operations} operations, and should be {OPERATIONS[what]}")
     indices = [index for index, _ in ended[: operations + 1]]
-    holds(indices[-1] == used, "the command used nothing")
+    holds(indices[-1] == used, f"the next index is {indices[-1]}, and should be {used}")
     # An operation that fails alone may be before the state is stored, or one after which the
     # command goes on.
     holds(how == "failed alone" or indices == sorted(indices), f"the next indices are {indices}, from {counter} on")

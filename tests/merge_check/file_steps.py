@@ -2,15 +2,15 @@
 operation alone fails.
 
 `stop.c`, which is loaded before the program, writes down each operation before it is done, and has
-one fail. All operations of `keygen`, of `sign` by trees that it computes and by kept ones, and of
-`info` are compared one by one."""
+one fail. All operations of `keygen`, of `public` over an older file, of `sign` by trees that it
+computes and by kept ones, and of `info` are compared one by one."""
 
 import errno
 import itertools
 import os
 
 from tests.harness import add_test, holds, test
-from tests.program import DRAFT, INFO, NODES, Lock, ends, has, keeps, keygen, preload, put, read, run, sign, signs
+from tests.program import DRAFT, INFO, NODES, Lock, ends, has, keeps, keygen, preload, public, put, read, run, sign, signs
 from tests.reference import image, kept, public_of, signature_of
 
 LEVELS = ((5, 1),)
@@ -30,14 +30,24 @@ IN_USE, NOT_READ, NOT_WRITTEN, NO_MEMORY = (3, "state in use"), (6, "cannot read
 class Part:
     """Operations that follow one another. Where one fails the program ends with a fault, which is
     another one at the places in `memory` where memory is refused; or it does without the part,
-    where that has no fault, and first cleans up from the place `cleaned` on."""
+    where that has no fault. At the places in `cleaned` it removes its draft then. It does without the
+    rest of the part where what it flushes at the place `special` is nothing that can be flushed."""
 
-    def __init__(self, steps, fault=None, memory=(), cleaned=None):
-        self.steps, self.fault, self.memory, self.cleaned = steps, fault, memory, cleaned
+    def __init__(self, steps, fault=None, memory=(), draft=None, cleaned=(), special=None):
+        self.steps, self.fault, self.memory, self.draft, self.cleaned = steps, fault, memory, draft, cleaned
+        self.special = special
 
     def fault_at(self, place, number):
-        """The fault where the operation at a place fails with the error of this number."""
+        """The fault where the operation at a place fails with the error of this number, or None."""
+        if number == errno.EINVAL and place == self.special:
+            return None
         return NO_MEMORY if number == errno.ENOMEM and place in self.memory else self.fault
+
+
+def given(name):
+    """The operations by which a file that is given away is written, flushed, and its folder
+    flushed."""
+    return [f"empty {name}", f"write {name}", f"flush {name}", f"resolve {name}", "open .", "flush ."]
 
 
 def replaced(name, draft):
@@ -45,7 +55,8 @@ def replaced(name, draft):
     return [f"remove {draft}", f"make {draft}", f"write {draft}", f"flush {draft}", f"rename {draft} to {name}"]
 
 
-STORE = ["open .", *replaced(STATE, f"{STATE}.new"), "flush ."]
+NEW = f"{STATE}.new"
+STORE = ["open .", *replaced(STATE, NEW), "flush ."]
 # How many of these are done once the new state is in its place.
 PLACED = 6
 LOCK = [f"open to write {STATE}.lock", f"lock {STATE}.lock"]
@@ -58,11 +69,12 @@ NONE_THERE = Part([f"look up {STATE}"], (3, "state exists"))
 NO_NODES = Part([f"look up {NODES}"])
 NODES_READ = Part([f"look up {NODES}", f"open {NODES}", f"read {NODES}", f"read {NODES}"])
 STATE_READ = Part([f"open {STATE}", f"read {STATE}", f"read {STATE}"], (3, "cannot read state"), range(3))
-STORED = Part(STORE, (3, f"cannot write state: {INDEX} to {INDEX} burnt"))
-STORED_FIRST = Part(STORE, (3, "cannot write state"))
-NODES_KEPT = Part(replaced(NODES, DRAFT), cleaned=2)
-SIGNATURE = Part(["empty text.sig", "write text.sig"], NOT_WRITTEN)
-PUBLIC_KEY = Part(["empty key.pub", "write key.pub"], NOT_WRITTEN, (0, 1))
+STORED = Part(STORE, (3, f"cannot write state: {INDEX} to {INDEX} burnt"), draft=NEW, cleaned=range(3, PLACED))
+STORED_FIRST = Part(STORE, (3, "cannot write state"), draft=NEW, cleaned=range(3, PLACED))
+NODES_KEPT = Part(replaced(NODES, DRAFT), draft=DRAFT, cleaned=range(2, 5))
+SIGNATURE = Part(["look up text.sig", "empty text.sig", "write text.sig"], NOT_WRITTEN)
+PUBLIC_KEY = Part(["look up key.pub", *given("key.pub")], NOT_WRITTEN, range(7), special=3)
+PUBLIC_KEY_AGAIN = Part(["look up key.pub", "open key.pub", "read key.pub", *given("key.pub")], NOT_WRITTEN, range(9), special=5)
 PRINTED = Part(["write standard output"], NOT_WRITTEN)
 DESCRIBED = Part(["write standard output"] * 6, NOT_WRITTEN)
 
@@ -74,10 +86,11 @@ def steps_in(parts):
 
 class Command:
     """A command with its parts, what it prints, the counter of the state before it, if any, and after
-    it, and whether it finds nodes."""
+    it, whether it finds nodes, and the name of an older file over which it writes."""
 
-    def __init__(self, arguments, parts, output, counters, has_nodes=False):
-        self.arguments, self.parts, self.output, self.counters, self.has_nodes = arguments, parts, output, counters, has_nodes
+    def __init__(self, arguments, parts, output, counters, has_nodes=False, older=None):
+        self.arguments, self.parts, self.output, self.counters = arguments, parts, output, counters
+        self.has_nodes, self.older = has_nodes, older
 
     def states(self):
         """The state before it, or none, and after it."""
@@ -93,6 +106,8 @@ class Command:
             put(STATE, before)
         if self.has_nodes:
             put(NODES, kept(LEVELS, KEPT))
+        if self.older:
+            put(self.older, bytes(60))
 
     def run(self, **settings):
         """The operations of a run, by paths from here, and how it ended."""
@@ -113,15 +128,15 @@ class Command:
         said = f"{self.arguments[0]}, {settings}: {ran.returncode} {ran.stdout!r} {ran.stderr!r}, by the operations {found}, not {steps}"
         holds((ran.returncode, ran.stdout, ran.stderr, found) == (status, output, errors, steps), said)
 
-    def after(self, at, place):
-        """The operations that follow where the one at a place of a part fails."""
+    def after(self, at, place, fault):
+        """The operations that follow where the one at a place of a part fails, with this fault or with none."""
         part = self.parts[at]
-        if part.fault:
-            return ["write standard error"]
+        cleaned = [f"remove {part.draft}"] if place in part.cleaned else []
+        if fault:
+            return [*cleaned, "write standard error"]
         if part is NODES_READ:
             return steps_in(BY_TREES[BY_TREES.index(STATE_READ) :])
-        is_cleaned = part.cleaned is not None and place >= part.cleaned
-        return [f"remove {DRAFT}"] * is_cleaned + steps_in(self.parts[at + 1 :])
+        return [*cleaned, *steps_in(self.parts[at + 1 :])]
 
     def meets(self, at, place, number):
         """The operation at a place of a part fails alone, with the error of this number: no others
@@ -129,7 +144,7 @@ class Command:
         done = steps_in(self.parts[:at]) + self.parts[at].steps[: place + 1]
         self.begin()
         fault = self.parts[at].fault_at(place, number)
-        self.ends(done + self.after(at, place), fault, FAIL=len(done), LAST=len(done), FAULT=number)
+        self.ends(done + self.after(at, place, fault), fault, FAIL=len(done), LAST=len(done), FAULT=number)
         return done[-1], fault
 
     def fails_at(self, at, place, number):
@@ -141,7 +156,8 @@ class Command:
         is_stored = not fault or (bool(stores) and (at, place) >= (stores[0], PLACED))
         left = self.states()[is_stored]
         holds((read(STATE) if os.path.exists(STATE) else None) == left, f"{last}: another state is left")
-        holds(not os.path.exists(DRAFT), f"{last}: a draft of the nodes is left")
+        for draft in (DRAFT, NEW):
+            holds(not os.path.exists(draft), f"{last}: the draft {draft} is left")
         holds(is_stored or not os.path.exists("text.sig"), f"{last}: a signature is written before the state")
         self.goes_on(left, self.counters[is_stored])
 
@@ -150,7 +166,7 @@ class Command:
         if not state:
             ends(keygen("5/1"), 0, "capacity 32\n")
         signs(LEVELS, counter or 0)
-        holds(not os.path.exists(f"{STATE}.new"), "a draft of the state is left")
+        holds(not os.path.exists(NEW), "a draft of the state is left")
 
 
 BY_TREES = [STREAMS, MESSAGE, LOCKED, NO_NODES, STATE_READ, STORED, NODES_KEPT, SIGNATURE, PRINTED]
@@ -158,10 +174,12 @@ BY_NODES = [STREAMS, MESSAGE, LOCKED, NODES_READ, STATE_READ, STORED, SIGNATURE,
 FIRST = [STREAMS, LOCKED_FIRST, NONE_THERE, STORED_FIRST, NODES_KEPT, PUBLIC_KEY, PRINTED]
 NUMBERS = f"levels 5/1\ncounter {INDEX}\ncapacity 32\nleft {32 - INDEX}\nopenings 0\nburnt 0\n"
 KEYGEN = Command(keygen("5/1"), FIRST, "capacity 32\n", (None, 0))
+AGAIN = [STREAMS, LOCKED, STATE_READ, PUBLIC_KEY_AGAIN, PRINTED]
+PUBLIC = Command(public(), AGAIN, "capacity 32\n", (INDEX, INDEX), has_nodes=True, older="key.pub")
 SIGN_BY_TREES = Command(sign(), BY_TREES, f"index {INDEX}\n", (INDEX, INDEX + 1))
 SIGN_BY_NODES = Command(sign(), BY_NODES, f"index {INDEX}\n", (INDEX, INDEX + 1), has_nodes=True)
 DESCRIBE = Command(INFO, [STREAMS, LOCKED, STATE_READ, DESCRIBED], NUMBERS, (INDEX, INDEX), has_nodes=True)
-COMMANDS = {"keygen": KEYGEN, "sign by trees": SIGN_BY_TREES, "sign by kept trees": SIGN_BY_NODES, "info": DESCRIBE}
+COMMANDS = {"keygen": KEYGEN, "public": PUBLIC, "sign by trees": SIGN_BY_TREES, "sign by kept trees": SIGN_BY_NODES, "info": DESCRIBE}
 
 
 def fails_at_each(command, number):
@@ -179,8 +197,8 @@ for what, one in COMMANDS.items():
 
 
 def meets_at_each(number):
-    """Each operation of each command fails alone with this error: the fault is that of any other,
-    and nothing is tried again. To remove what is not there is no fault."""
+    """Each operation of each command fails alone with this error: the fault is that of any other, but
+    where nothing can be flushed, and nothing is tried again. To remove what is not there is no fault."""
     for command in COMMANDS.values():
         for at, part in enumerate(command.parts):
             for place in range(len(part.steps)):
@@ -246,6 +264,9 @@ def reads_and_writes_byte_by_byte():
             has(STATE, image(LEVELS, 0))
             has("key.pub", public_of(LEVELS))
             keeps(LEVELS, 0)
+        elif command is PUBLIC:
+            has(STATE, image(LEVELS, INDEX))
+            has("key.pub", public_of(LEVELS))
         elif command is not DESCRIBE:
             has_signed()
             has(NODES, kept(LEVELS, KEPT if command.has_nodes else INDEX))
@@ -255,7 +276,7 @@ def reads_and_writes_byte_by_byte():
 def writes_through_no_link():
     """A link gets in the way of a draft after the older draft was removed. Of the state that is a
     fault; without new nodes it signs."""
-    for draft, fault in [(f"{STATE}.new", STORED.fault), (DRAFT, None)]:
+    for draft, fault in [(NEW, STORED.fault), (DRAFT, None)]:
         SIGN_BY_TREES.begin()
         put("others", b"as they were")
         os.symlink("others", draft)

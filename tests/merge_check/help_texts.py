@@ -18,6 +18,7 @@ Usage: lms_tool <COMMAND>
 Commands:
   keygen  Makes a key from a seed
   info    Describes a key
+  public  Writes a key's public key
   sign    Signs a message
   batch   Signs the job lines of standard input
   verify  Prints whether a signature is valid
@@ -34,15 +35,18 @@ Usage: lms_tool keygen --levels <LEVELS> --seed <HEX> --id <HEX> --state <FILE> 
 
 Options:
       --levels <LEVELS>  {LEVELS}
-      --seed <HEX>       64 hexadecimal digits, random and secret
+      --seed <HEX>       64 hexadecimal digits, random and secret, or - to read them from standard input
       --id <HEX>         32 hexadecimal digits, random
       --state <FILE>     The key's state, a new file
       --public <FILE>    Where the public key is written, 60 bytes, in place of any older file
   -h, --help             Print help
 
 Example:
-  lms_tool keygen --levels 10/8,10/8 --seed "$(openssl rand -hex 32)" --id "$(openssl rand -hex 16)" \\
+  openssl rand -hex 32 | lms_tool keygen --levels 10/8,10/8 --seed - --id "$(openssl rand -hex 16)" \\
       --state key.state --public key.pub
+
+With `-` the seed is read from standard input, 64 digits and perhaps the end of their line. On the command line every user of
+the machine can read it for as long as this runs.
 
 Never use a seed and identifier twice, whatever the levels: the same one-time keys would sign again, from index 0.
 """
@@ -61,6 +65,23 @@ Example:
 
 Prints the levels, how many indices are used (counter), how many there are (capacity) and how many are left (left), how many
 openings of the state stored something (openings), and how many indices were burnt before its last write (burnt).
+"""
+
+PUBLIC_HELP = """\
+Writes a key's public key
+
+Usage: lms_tool public --state <FILE> --public <FILE>
+
+Options:
+      --state <FILE>   The key's state
+      --public <FILE>  Where the public key is written, 60 bytes, in place of any older file
+  -h, --help           Print help
+
+Example:
+  lms_tool public --state key.state --public key.pub
+
+Makes the file that `keygen` wrote once more, in the same time, and prints how many indices there are (capacity). The state stays
+as it is, and can be used meanwhile.
 """
 
 SIGN_HELP = """\
@@ -133,6 +154,7 @@ TEXTS = [
     (PROGRAM_HELP, ["--help", "-h", "help"]),
     (KEYGEN_HELP, ["keygen --help"]),
     (INFO_HELP, ["info --help"]),
+    (PUBLIC_HELP, ["public --help"]),
     (SIGN_HELP, ["sign --help"]),
     (BATCH_HELP, ["batch --help"]),
     (VERIFY_HELP, ["verify --help", "verify -h", "help verify"]),
@@ -147,7 +169,7 @@ VERIFY_USAGE = f"Usage: lms_tool verify --public <FILE> --message <FILE> --signa
 MISTAKES = [
     (
         "",
-        "'lms_tool' requires a subcommand but one was not provided\n  [subcommands: keygen, info, sign, batch, verify, help]",
+        "'lms_tool' requires a subcommand but one was not provided\n  [subcommands: keygen, info, public, sign, batch, verify, help]",
         USAGE,
     ),
     ("stray", "unrecognized subcommand 'stray'", USAGE),
@@ -192,5 +214,6 @@ def takes_options_in_any_order_and_with_equals_signs():
     shows(f"keygen --public key.pub --state=key.state --id {'2' * 32} --seed {SEED.hex()} --levels 5/8", "capacity 32\n")
     shows(f"sign --out=text.sig --message text --random {RANDOMIZER.hex()} --state key.state", "index 0\n")
     shows("info --state=key.state", "levels 5/8\ncounter 1\ncapacity 32\nleft 31\nopenings 1\nburnt 0\n")
+    shows("public --public=key.pub --state key.state", "capacity 32\n")
     shows("batch --workers=1 --state key.state", "")
     shows("verify --signature text.sig --message=text --public key.pub", "valid\n")

@@ -1,13 +1,15 @@
-"""The lock on a state is held while the program computes trees and while it prints."""
+"""The lock on a state is held while the program computes trees and while it prints, but for
+`public`."""
 
 import fcntl
 import os
 import select
+import signal
 import subprocess
 import time
 
 from tests.harness import Skipped, holds, test
-from tests.program import BATCH, INFO, PROGRAM, Lock, has, is_lock_free, job_lines, keygen, put, sign
+from tests.program import BATCH, INFO, PROGRAM, Lock, ends, has, is_lock_free, job_lines, keygen, public, put, sign
 from tests.reference import image, public_of, signature_of
 
 # (in `fcntl` from Python 3.10 on)
@@ -59,8 +61,8 @@ def writes_under_the_lock(running, output):
 
 @test
 def holds_the_lock_until_all_is_printed():
-    """Each command that takes the lock holds it in each of its writes, and its files are complete
-    before the first."""
+    """Each command that takes the lock, but for `public`, holds it in each of its writes, and its
+    files are complete before the first."""
     levels = ((5, 2),)
     put("jobs", job_lines(b"abc"))
     signature = "text.sig", signature_of(levels, 0, b"abc")
@@ -139,3 +141,24 @@ def holds_the_lock_while_a_tree_is_computed():
     holds("key.pub" in files and has_printed, f"its lock was acquired, and not all was done: {files}")
     holds(tries >= LEAST_TRIES, f"its lock was tried {tries} times before there was a state, and not {LEAST_TRIES} times")
     has("key.state", image(((15, 4),), 0))
+
+
+@test
+def hands_the_lock_back_before_a_tree_is_computed_from_a_state():
+    """While `public` computes a tree, another program uses the state."""
+    levels = ((15, 4),)
+    put("key.state", image(levels, 5))
+    how = {"stdin": subprocess.DEVNULL, "stdout": subprocess.PIPE, "stderr": subprocess.PIPE, "text": True}
+    with subprocess.Popen([PROGRAM, *public()], **how) as running:
+        try:
+            waits_until_a_tree_is_begun(running)
+            holds(is_lock_free() and not os.path.exists("key.pub"), "it holds the lock, or has computed the tree already")
+            running.send_signal(signal.SIGSTOP)
+            ends(INFO, 0, "levels 15/4\ncounter 5\ncapacity 32768\nleft 32763\nopenings 0\nburnt 0\n")
+            running.send_signal(signal.SIGCONT)
+            output, errors = running.communicate(timeout=600)
+        except BaseException:
+            running.kill()
+            raise
+    holds((running.returncode, output) == (0, "capacity 32768\n"), f"public ended with {running.returncode}: {output!r} {errors!r}")
+    has("key.state", image(levels, 5))

@@ -26,8 +26,6 @@ BY_HAND = re.compile(r"\bimpl\b[^{};]*\b(?:Debug|Display|LowerHex|UpperHex)\b fo
 DECLARED = r"\b(?:struct|enum|union) {}\b"
 FIELDS = re.compile(r"[{(][^{}]*(?:\{[^{}]*\}[^{}]*)*[})]|;")
 SECRET_FIELD = re.compile(rf"\bseed:|[:(<&,]\s*(?:\w+::)*(?:{'|'.join(SECRETS)})\b(?!\s*[({{])")
-# (What the arguments say is no secret to whoever sees them on the command line.)
-ARGUMENTS = {"Command"}
 
 
 def bodies():
@@ -47,7 +45,7 @@ def bodies():
 def printed_with_a_seed(code):
     """The types in this code that can be printed, and have a seed in them or a type that has one."""
     found = []
-    for name in sorted({*DERIVED.findall(code), *BY_HAND.findall(code)} - ARGUMENTS):
+    for name in sorted({*DERIVED.findall(code), *BY_HAND.findall(code)}):
         ends = [it.end() for it in re.finditer(DECLARED.format(name), code)]
         fields = [FIELDS.search(code, it)[0] for it in ends]
         if name in SECRETS or any(SECRET_FIELD.search(it) for it in fields):

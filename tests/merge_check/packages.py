@@ -18,7 +18,7 @@ from tests.harness import TOP, holds, said_by
 VERSION = (TOP / "VERSION").read_text(encoding="utf-8").strip()
 NAME, DEBIAN = f"lms_tool-{VERSION}-x86_64", f"lms-tool_{VERSION}_amd64.deb"
 PACKED = [f"{NAME}.tar.gz", DEBIAN, "lms_verify.html", "SHA256SUMS"]
-COMMANDS = ["keygen", "sign", "batch", "verify", "info"]
+COMMANDS = ["keygen", "sign", "batch", "verify", "info", "public"]
 COMMON, FAST = "crates/lms_tool/out/lms_tool", "crates/lms_tool/out/avx2/lms_tool"
 LIBRARY, PAGE = "crates/lms_c/out/liblms_c.a", "examples/web/out/lms_verify.html"
 OUTPUTS = [COMMON, FAST, LIBRARY, PAGE]

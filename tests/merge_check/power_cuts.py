@@ -18,7 +18,8 @@ may leave then (`weak_disk.py`):
   reads.
 
 The state's file must be old and whole, or absent before a `keygen` stored it, or new and whole; and
-new once a byte of a public key, of a signature or of standard output was written. From some of the
+new once a byte of a public key, of a signature or of standard output was written. Once `keygen` has
+printed its line, its public key must be whole. From some of the
 states the program goes on, as if what is left were flushed: `info` prints what the state says, or
 `keygen` makes it where it is absent, and `sign` gives its next index, which was not given before,
 with the right signature. In this `keygen` and this `sign` power is lost again, after each
@@ -112,7 +113,15 @@ class Run:
             moment = disk.do(*operation, at) if operation else at
             for left, lost in disk.losses() if moment else ():
                 fault = fault_of(left.get(self.key.state, (0, None))[1], self.before, self.after, disk.has_left)
+                fault = fault or self.public_fault(left, disk)
                 yield left, self.indices[disk.has_left], fault, lambda: f"{self.key.name}, after {moment}; lost: {disk.said(lost)}"
+
+    def public_fault(self, left, disk):
+        """What is wrong with the public key, if anything, once this `keygen` has printed."""
+        found = left.get("key.pub", (0, None))[1]
+        if self.name != "keygen" or not disk.has_printed or found == public_of(self.key.levels):
+            return None
+        return ("older", "no public key") if found is None else ("torn", f"{len(found)} bytes that are not the public key")
 
     def faults(self):
         """Lines on the first faults that are found, where all was flushed before this run."""

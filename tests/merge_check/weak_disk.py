@@ -137,7 +137,7 @@ class Disk:
         self.folder, self.state, self.ignored = os.path.realpath(folder), state, ignored
         files = {number: File(contents) for number, contents in found.values()}
         self.names = {name: [(files[number], "")] for name, (number, _) in found.items()}
-        self.opened, self.has_left = {}, False
+        self.opened, self.has_left, self.has_printed = {}, False, False
 
     def file(self, name):
         """The file to which a name leads, or None."""
@@ -163,6 +163,7 @@ class Disk:
         if word == "write" and first not in self.opened:
             holds(first in (1, 2), f"{number} write: to a file that was not opened")
             self.has_left = self.has_left or first == 1
+            self.has_printed = self.has_printed or first == 1
             return f"{number} write to stream {first}"
         if word == "write":
             name, file = self.opened[first]
@@ -212,7 +213,7 @@ class Disk:
 
     def begin(self):
         """Begins another run: what the runs before gave away is flushed."""
-        self.opened, self.has_left = {}, False
+        self.opened, self.has_left, self.has_printed = {}, False, False
         for name in self.names:
             if not self.is_beside(name):
                 self.names[name] = self.names[name][-1:]

@@ -11,12 +11,14 @@ use Rattle.lms_commands.specs.BatchInMemory.{FailsToSignJobs}
 use Rattle.lms_commands.specs.InMemory.{SameFilesBut, SignsNone, Stays}
 use Rattle.lms_commands.specs.KeygenInMemory.{FailsToMakeKey}
 use Rattle.lms_commands.specs.Logs.{WorldCalls}
+use Rattle.lms_commands.specs.PublicInMemory.{FailsToPublishKey}
 use Rattle.lms_commands.specs.ReadingInMemory.{FailsToDescribe}
 use Rattle.lms_commands.specs.SignInMemory.{FailsToSign}
 use Rattle.lms_commands.specs.declared.fault.Fault.{Fault}
 use Rattle.lms_commands.specs.declared.status.Status.{Status}
 use Rattle.lms_commands.proofs.BatchInMemory.{fails_to_sign_jobs_in_memory, signs_jobs_in_memory}
 use Rattle.lms_commands.proofs.KeygenInMemory.{fails_to_make_key_in_memory, makes_key_in_memory}
+use Rattle.lms_commands.proofs.PublicInMemory.{fails_to_publish_key_in_memory, publishes_key_in_memory}
 use Rattle.lms_commands.proofs.ReadingInMemory.{describes_in_memory, fails_to_describe_in_memory, fails_to_judge_in_memory, judges_in_memory}
 use Rattle.lms_commands.proofs.SignInMemory.{fails_to_sign_in_memory, signs_in_memory}
 use Rattle.lms_commands.proofs.Telling.{nothing_done}
@@ -24,7 +26,7 @@ use Rattle.lms_cli.specs.Commands.{AreTakenAs}
 use Rattle.lms_cli.specs.RunLogs.{LogsFailed, LogsObeyed}
 use Rattle.lms_cli.specs.RunsInMemory.{ChangesAsked, ChangesAskedInMemory, KeepsSome, LocksState, StoresState, Writes}
 use Rattle.lms_cli.specs.declared.command.types.Command.{Command}
-use Rattle.lms_cli.specs.declared.command.types.Command.TheVariants.{Batch, Info, Keygen, Sign, Verify}
+use Rattle.lms_cli.specs.declared.command.types.Command.TheVariants.{Batch, Info, Keygen, Public, Sign, Verify}
 
 -- ---- which files and nodes stay
 
@@ -102,6 +104,22 @@ module _ (fault : Fault) (old new : Held) where
   info_stays before printed (inr (free, inl (why, stays))) = stays
   info_stays before printed (inr (free, inr (at, (finds, lines)))) = finds.stays
 
+  -- a file of the name is written, or nothing is
+  abbrev WritesAtMost : Bytes → Type 0
+  WritesAtMost written =
+      Others written old new × (new.state ≡ old.state) × (new.nodes ≡ old.nodes)
+
+  public_changes : (public : Bytes) (before printed : List ℕ) → FailsToPublishKey public before printed fault old new
+      → WritesAtMost public
+  public_changes public before printed (inl (why, same)) =
+      (λ name other. at_name name _ _ (files_of same), ap (λ (h : Held). h.state) same, nodes_of same)
+  public_changes public before printed (inr (free, inl (why, stays))) =
+      (λ name other. at_name name _ _ stays.files, stays.state, stays.nodes)
+  public_changes public before printed (inr (free, inr (inl (refused, finds)))) =
+      (λ name other. at_name name _ _ finds.stays.files, finds.stays.state, finds.stays.nodes)
+  public_changes public before printed (inr (free, inr (inr (at, (published, line))))) =
+      (published.file.others, published.state_stays, published.nodes)
+
 -- ---- what a command changes
 
 record ChangesOwn (command : Command) (old new : Held) : Type 0 where
@@ -137,6 +155,15 @@ module _ (input rest : Option (List ℕ)) (before printed : List ℕ) (old new :
     all = λ other. absurd (other tt);
   }
 
+  public_file_changes : (state public : String Global) → Others (string_bytes public) old new → new.state ≡ old.state
+      → new.nodes ≡ old.nodes → ChangesOwn (Public state public) old new
+  public_file_changes state public others state_stays nodes = record {
+    files = others;
+    state = λ other. state_stays;
+    nodes = λ other. nodes;
+    all = λ other. absurd (other tt);
+  }
+
   sign_changes : (state random message out : String Global) → Others (string_bytes out) old new
       → ChangesOwn (Sign state random message out) old new
   sign_changes state random message out others = record {
@@ -162,6 +189,9 @@ module _ (input rest : Option (List ℕ)) (before printed : List ℕ) (old new :
   obeyed (Info state) end (done, is) =
       let found = describes_in_memory _ before printed old new earlier now is follows in
       info_changes state found.1.0.stays
+  obeyed (Public state public) end (done, is) =
+      let made = (publishes_key_in_memory _ _ before printed old new earlier now is follows).1.0 in
+      public_file_changes state public made.file.others made.state_stays made.nodes
   obeyed (Sign state random message out) end (done, is) =
       let made = signs_in_memory _ _ _ _ before printed old new earlier now is follows in
       sign_changes state random message out made.1.others
@@ -182,6 +212,10 @@ module _ (input rest : Option (List ℕ)) (before printed : List ℕ) (old new :
   failed (Info state) fault is =
       let why = fails_to_describe_in_memory _ before printed fault old new earlier now is follows in
       info_changes state (info_stays fault old new before printed why)
+  failed (Public state public) fault is =
+      let why = fails_to_publish_key_in_memory _ _ before printed fault old new earlier now is follows in
+      let changes = public_changes fault old new _ before printed why in
+      public_file_changes state public changes.0 changes.1 changes.2
   failed (Sign state random message out) fault is =
       let why = fails_to_sign_in_memory _ _ _ _ before printed fault old new earlier now is follows in
       sign_changes state random message out (sign_files fault old new _ _ _ why.0)

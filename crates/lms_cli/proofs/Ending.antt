@@ -6,19 +6,22 @@ use Rattle.lms_lines.specs.AnswerLines.{AppendsFront}
 use Rattle.lms_hss.specs.declared.key.HssKey.{HssKey as KeyOfCode}
 use Rattle.clap.specs.Words.{Text}
 use Rattle.lms_commands.specs.BatchLogs.{AreUnread, LogsUnanswered}
-use Rattle.lms_commands.specs.Faults.{status_number, status_of}
-use Rattle.lms_commands.specs.Keygen.{IsNoKey}
+use Rattle.lms_commands.specs.Faults.{of_seed, status_number, status_of}
+use Rattle.lms_commands.specs.Keygen.{AreNoLevels, IsNoKey}
 use Rattle.lms_commands.specs.KeygenLogs.{LogsUnmade}
 use Rattle.lms_commands.specs.Logs.{IsLockRefused, IsReadRefused, IsWriteRefused, KeyState, LogsUnopened, LogsUnsigned, WorldCalls}
+use Rattle.lms_commands.specs.PublicLogs.{FailsToPublishOf, LogsUnread}
 use Rattle.lms_commands.specs.SignLogs.{LogsSign, LogsSignFailed, LogsUndelivered}
 use Rattle.lms_commands.specs.Verdicts.{verdict_status}
 use Rattle.lms_cli.specs.RunLogs.{LogsFailed, LogsObeyed, LogsRefused, LogsRun}
-use Rattle.lms_cli.specs.Runs.{AsksToRead, ReadsInput, Runs, Setting}
+use Rattle.lms_cli.specs.Runs.{AsksForBatch, AsksToRead, IsBatch, Runs, Setting}
 use Rattle.lms_world.specs.Held.{Follows}
 use Rattle.lms_cli.specs.declared.command.types.Command.{Command}
-use Rattle.lms_cli.specs.declared.command.types.Command.TheVariants.{Batch, Info, Keygen, Sign, Verify}
+use Rattle.lms_cli.specs.declared.command.types.Command.TheVariants.{Batch, Info, Keygen, Public, Sign, Verify}
+use Rattle.lms_texts.specs.declared.fault.SeedFault.{SeedFault}
+use Rattle.lms_texts.specs.declared.fault.SeedFault.TheVariants as no_seed
 use Rattle.lms_commands.specs.declared.fault.Fault.{Fault}
-use Rattle.lms_commands.specs.declared.fault.Fault.TheVariants.{BadLevels, TooManyLevels, TooTall, BadSeed, BadId, BadRandom, BadWorkers, BadJob, TooManyJobs, StateExists, StateInUse, ReadState, BadState, WriteState, WriteStateBurnt, Exhausted, OutOfMemory, OutOfMemoryBurnt, ReadInput, WriteOutput}
+use Rattle.lms_commands.specs.declared.fault.Fault.TheVariants.{BadLevels, TooManyLevels, TooTall, BadId, BadRandom, BadWorkers, BadJob, TooManyJobs, StateExists, StateInUse, ReadState, BadState, WriteState, WriteStateBurnt, Exhausted, OutOfMemory, OutOfMemoryBurnt, ReadInput, WriteOutput}
 use Rattle.lms_commands.specs.declared.status.Status.{Status}
 use Rattle.lms_commands.specs.declared.status.Status.TheVariants.{Done, Negative}
 use Rattle.lms_commands.specs.declared.verdict.Verdict.{Verdict}
@@ -27,6 +30,10 @@ use Rattle.lms_commands.specs.declared.verdict.Verdict.TheVariants.{Valid, Inval
 -- the fault has a status of 2 at least
 abbrev IsHigh : Fault → Type 0
 IsHigh fault = 2 ≤ status_number (status_of fault)
+
+seed_high : (why : SeedFault) → IsHigh (of_seed why)
+seed_high no_seed.Bad = omega arith
+seed_high no_seed.Read = omega arith
 
 module _ (fault : Fault) where
   at : (other : Fault) → IsHigh other → fault ≡ other → IsHigh fault
@@ -44,13 +51,17 @@ module _ (fault : Fault) where
   at_write (inl is) = at WriteOutput (omega arith) is
   at_write (inr is) = at OutOfMemory (omega arith) is
 
-  at_no_key : (levels seed id : List ℕ) → IsNoKey levels seed id fault → IsHigh fault
-  at_no_key levels seed id (inl is) = at OutOfMemory (omega arith) is
-  at_no_key levels seed id (inr (inl (is, _))) = at BadLevels (omega arith) is
-  at_no_key levels seed id (inr (inr (inl (is, _)))) = at TooManyLevels (omega arith) is
-  at_no_key levels seed id (inr (inr (inr (inl (is, _))))) = at TooTall (omega arith) is
-  at_no_key levels seed id (inr (inr (inr (inr (_, inl (is, _)))))) = at BadSeed (omega arith) is
-  at_no_key levels seed id (inr (inr (inr (inr (_, inr (is, _, _)))))) = at BadId (omega arith) is
+  at_no_levels : (levels : List ℕ) → AreNoLevels levels fault → IsHigh fault
+  at_no_levels levels (inl is) = at OutOfMemory (omega arith) is
+  at_no_levels levels (inr (inl (is, _))) = at BadLevels (omega arith) is
+  at_no_levels levels (inr (inr (inl (is, _)))) = at TooManyLevels (omega arith) is
+  at_no_levels levels (inr (inr (inr (is, _)))) = at TooTall (omega arith) is
+
+  at_no_key : (levels seed id : List ℕ) (input rest : Option (List ℕ)) → IsNoKey levels seed id input rest fault
+      → IsHigh fault
+  at_no_key levels seed id input rest (inl (is, _)) = at_no_levels levels is
+  at_no_key levels seed id input rest (inr (_, inl (why, is, _))) = at (of_seed why) (seed_high why) is
+  at_no_key levels seed id input rest (inr (_, inr (is, _, _))) = at BadId (omega arith) is
 
   at_unread : (input : Option (List ℕ)) → AreUnread input fault → IsHigh fault
   at_unread input (inl refused) = at_read refused
@@ -99,14 +110,27 @@ module _ (fault : Fault) where
     undelivered random message out old new (inl (_, inr (state, is), same)) = inl (same, at_unsigned 1 state _ new is)
     undelivered random message out old new (inr (is, _)) = inr (inl is)
 
+    at_unread_state : (state : List ℕ) (old new : WorldCalls) → LogsUnread state fault old new → IsHigh fault
+    at_unread_state state old new (inl (refused, _)) = at_lock refused
+    at_unread_state state old new (inr (last, is, _)) = at_unopened _ last is
+
+    unpublished : (key : KeyOfCode) (public : List ℕ) (old new : WorldCalls)
+        → FailsToPublishOf key public before printed fault old new → Fails ⊥ before printed
+    unpublished key public old new (inl (refused, _, same)) = inl (same, at_write refused)
+    unpublished key public old new (inr (is, _, _)) = inr (inl is)
+
     failed : (command : Command) (input rest : Option (List ℕ)) (old new : WorldCalls)
-        → LogsFailed command fault input rest before printed old new → Fails (ReadsInput command) before printed
-    failed (Keygen _ _ _ _ _) input rest old new (inl (is, _, same)) = inl (same, at_no_key _ _ _ is)
+        → LogsFailed command fault input rest before printed old new → Fails (IsBatch command) before printed
+    failed (Keygen _ _ _ _ _) input rest old new (inl (is, _, same)) = inl (same, at_no_key _ _ _ input rest is)
     failed (Keygen _ _ _ _ _) input rest old new (inr (_, _, inl (refused, _, same))) = inl (same, at_lock refused)
     failed (Keygen _ _ _ _ _) input rest old new (inr (key, _, inr (last, is, _))) = unmade key _ _ last is
     failed (Info _) input rest old new (inl (refused, _, same)) = inl (same, at_lock refused)
     failed (Info _) input rest old new (inr (last, inl (is, same), _)) = inl (same, at_unopened _ last is)
     failed (Info _) input rest old new (inr (_, inr (is, _), _)) = inr (inl is)
+    failed (Public _ _) input rest old new (inl (is, same)) = inl (same, at_unread_state _ old new is)
+    failed (Public _ _) input rest old new (inr (read, last, _, inl (is, _, same))) =
+        inl (same, at OutOfMemory (omega arith) is)
+    failed (Public _ _) input rest old new (inr (read, last, _, inr is)) = unpublished read.key _ last new is
     failed (Sign _ _ _ _) input rest old new (inl (is, _, same, _)) = inl (same, at BadRandom (omega arith) is)
     failed (Sign _ _ _ _) input rest old new (inr (inl (refused, _, same, _))) = inl (same, at_read refused)
     failed (Sign _ _ _ _) input rest old new (inr (inr (inl (_, refused, _, same, _)))) = inl (same, at_lock refused)
@@ -119,7 +143,7 @@ module _ (fault : Fault) where
     failed (Verify _ _ _) input rest old new (inr (is, _)) = inr (inl is)
 
     refused : (words : List Text) (input rest : Option (List ℕ)) (old new : WorldCalls)
-        → LogsRefused words fault input rest before printed old new → Fails (AsksToRead words) before printed
+        → LogsRefused words fault input rest before printed old new → Fails (AsksForBatch words) before printed
     refused words input rest old new (inl (_, inl (is, same))) = inl (same, at OutOfMemory (omega arith) is)
     refused words input rest old new (inl (_, inr (_, is))) = inr (inl is)
     refused words input rest old new (inr (command, taken, is)) =
@@ -129,11 +153,11 @@ module _ (fault : Fault) where
 -- a fault with a line on the errors and a status below 2 is that of `batch`
 pub speaks : (words : List Text) (fault : Fault) (input rest : Option (List ℕ)) (before printed : List ℕ)
     (old new : WorldCalls) → status_number (status_of fault) < 2
-    → LogsRefused words fault input rest before printed old new → (status_of fault ≡ Negative) × AsksToRead words
+    → LogsRefused words fault input rest before printed old new → (status_of fault ≡ Negative) × AsksForBatch words
 speaks words fault input rest before printed old new low is =
     by_fails (refused fault before printed words input rest old new is)
   where
-    by_fails : Fails fault (AsksToRead words) before printed → (status_of fault ≡ Negative) × AsksToRead words
+    by_fails : Fails fault (AsksForBatch words) before printed → (status_of fault ≡ Negative) × AsksForBatch words
     by_fails (inl (same, high)) = absurd (omega (arith, low, high))
     by_fails (inr (inl is)) = let high = at fault WriteOutput (omega arith) is in absurd (omega (arith, low, high))
     by_fails (inr (inr (asks, negative))) = (negative, asks)
@@ -152,6 +176,7 @@ pub obeyed_low : (command : Command) (end : Status) (input rest : Option (List �
     (old new : WorldCalls) → 2 ≤ status_number end → LogsObeyed command end input rest before printed old new → ⊥
 obeyed_low (Keygen _ _ _ _ _) end input rest before printed old new high is = too_low end _ is.0 (omega arith) high
 obeyed_low (Info _) end input rest before printed old new high is = too_low end _ is.0 (omega arith) high
+obeyed_low (Public _ _) end input rest before printed old new high is = too_low end _ is.0 (omega arith) high
 obeyed_low (Sign _ _ _ _) end input rest before printed old new high is = too_low end _ is.0 (omega arith) high
 obeyed_low (Batch _ _) end input rest before printed old new high is = too_low end _ is.0 (omega arith) high
 obeyed_low (Verify _ _ _) end input rest before printed old new high is = too_low end _ is.1 (answers is.0) high
@@ -169,7 +194,7 @@ silent_at words end input rest before printed eb ea old new (inl (inr (command, 
 silent_at words end input rest before printed eb ea old new (inr (fault, end_is, _, is)) high below =
     by_fails (refused fault before printed words input rest old new is)
   where
-    by_fails : Fails fault (AsksToRead words) before printed → printed ≡ before
+    by_fails : Fails fault (AsksForBatch words) before printed → printed ≡ before
     by_fails (inl (same, _)) = same
     by_fails (inr (inl is)) =
         let six : status_number end ≡ 6 = ap status_number (end_is ∙ ap status_of is) in
@@ -181,7 +206,7 @@ pub runs : {I E : Type 0} (old new : Setting I E) (words : List Text) (end : Sta
     → LogsRun words end old.remaining new.remaining old.output new.output old.error_text new.error_text
     old.calls new.calls
     → Follows old.memory old.calls new.memory new.calls
-    → (status_number end < 2 → (new.errors ≡ old.errors) ⊎ ((end ≡ Negative) × AsksToRead words))
+    → (status_number end < 2 → (new.errors ≡ old.errors) ⊎ ((end ≡ Negative) × AsksForBatch words))
     → (new.input ≡ old.input) ⊎ AsksToRead words → Runs old new words end
 runs old new words end logged follows quiet unread = record {
   logged = logged;

@@ -7,11 +7,13 @@ use Rattle.lms_world.specs.Held.{Follows, Held}
 use Rattle.lms_commands.specs.Faults.{status_number, status_of}
 use Rattle.lms_commands.specs.KeygenInMemory.{FailsToMakeKey}
 use Rattle.lms_commands.specs.Logs.{WorldCalls}
+use Rattle.lms_commands.specs.PublicInMemory.{FailsToPublishKey}
 use Rattle.lms_commands.specs.declared.fault.Fault.{Fault}
 use Rattle.lms_commands.specs.declared.fault.Fault.TheVariants.{WriteOutput}
 use Rattle.lms_commands.specs.declared.status.Status.{Status}
 use Rattle.lms_commands.proofs.BatchInMemory.{fails_to_sign_jobs_in_memory}
 use Rattle.lms_commands.proofs.KeygenInMemory.{fails_to_make_key_in_memory}
+use Rattle.lms_commands.proofs.PublicInMemory.{fails_to_publish_key_in_memory}
 use Rattle.lms_commands.proofs.ReadingInMemory.{fails_to_describe_in_memory, fails_to_judge_in_memory}
 use Rattle.lms_commands.proofs.SignInMemory.{fails_to_sign_in_memory}
 use Rattle.lms_commands.proofs.Telling.{nothing_done}
@@ -20,7 +22,7 @@ use Rattle.lms_cli.proofs.Ending.{obeyed_low}
 use Rattle.lms_cli.specs.RunLogs.{LogsFailed}
 use Rattle.lms_cli.specs.RunsInMemory.{FilesStay}
 use Rattle.lms_cli.specs.declared.command.types.Command.{Command}
-use Rattle.lms_cli.specs.declared.command.types.Command.TheVariants.{Batch, Info, Keygen, Sign, Verify}
+use Rattle.lms_cli.specs.declared.command.types.Command.TheVariants.{Batch, Info, Keygen, Public, Sign, Verify}
 
 not_output : (fault : Fault) → status_number (status_of fault) < 6 → fault ≢ WriteOutput
 not_output fault low is =
@@ -37,6 +39,13 @@ module _ (fault : Fault) (other : fault ≢ WriteOutput) (old new : Held) where
   keygen_files key public (inr (inr (inr (inr (made, inl (refused, why, same)))))) = same
   keygen_files key public (inr (inr (inr (inr (made, inr (at, published)))))) = absurd (other at)
 
+  public_files : (public : Bytes) (before printed : List ℕ) → FailsToPublishKey public before printed fault old new
+      → new.files ≡ old.files
+  public_files public before printed (inl (why, same)) = files_of same
+  public_files public before printed (inr (free, inl (why, stays))) = stays.files
+  public_files public before printed (inr (free, inr (inl (refused, finds)))) = finds.stays.files
+  public_files public before printed (inr (free, inr (inr (at, published)))) = absurd (other at)
+
   failed : (command : Command) (input rest : Option (List ℕ)) (before printed : List ℕ) (earlier now : WorldCalls)
       → Follows (Some old) earlier (Some new) now
       → LogsFailed command fault input rest before printed earlier now → new.files ≡ old.files
@@ -47,6 +56,9 @@ module _ (fault : Fault) (other : fault ≢ WriteOutput) (old new : Held) where
   failed (Info state) input rest before printed earlier now follows is =
       let why = fails_to_describe_in_memory _ before printed fault old new earlier now is follows in
       (info_stays fault old new before printed why).files
+  failed (Public state public) input rest before printed earlier now follows is =
+      let why = fails_to_publish_key_in_memory _ _ before printed fault old new earlier now is follows in
+      public_files _ before printed why
   failed (Sign state random message out) input rest before printed earlier now follows is =
       (fails_to_sign_in_memory _ _ _ _ before printed fault old new earlier now is follows).1 other
   failed (Batch state workers) input rest before printed earlier now follows is =

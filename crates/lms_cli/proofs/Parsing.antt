@@ -1,7 +1,9 @@
 -- What a parse of the program's words gives its caller.
-use Rattle.std.proofs.Common.{◌≡◌, ◌∙◌, refl, sym, ap, subst, true, List, [], ◌∷◌, Option, Some, None, IsSome, is_some, inl, inr}
+use Rattle.std.proofs.Common.{◌≡◌, ◌∙◌, refl, sym, ap, subst, Bool, true, false, List, [], ◌∷◌, Option, Some, None, IsSome, is_some, inl, inr}
 use Rattle.std.specs.List.{AllByRecursion}
-use Rattle.std.specs.Prelude.{Box}
+use Rattle.std.specs.Prelude.{Box, cond}
+use Rattle.std.specs.Str.{bytes_eq}
+use Rattle.std.proofs.lemmas.Slice.Eq.{bytes_eq-Decides}
 use Rattle.std.specs.Option.{option_map, unwrap_or}
 use Rattle.clap.specs.Walk.{Row, Text, first_of, rows_of}
 use Rattle.clap.specs.Simple.{App, HasMatchesOf, subcommand_of, subcommand_rows, subcommand_rows_of}
@@ -19,7 +21,7 @@ use Rattle.clap.specs.declared.parser.matches.Found.{Found}
 use Rattle.clap.specs.declared.parser.matches.SubCommand.{SubCommand}
 use Rattle.std.specs.Box.{box_value}
 use Rattle.clap.proofs.WalkLemmas.{first_value-rows}
-use Rattle.lms_cli.specs.Application.{Subcommand, subcommand_called, lms_app}
+use Rattle.lms_cli.specs.Application.{Subcommand, subcommand_called, subcommand_called_in, lms_app}
 use Rattle.lms_cli.specs.Commands.{AreWordsOf, FaultAt, FaultOf, HasOptions, IsMadeOf}
 use Rattle.lms_cli.specs.declared.command.types.Command.{Command}
 use Rattle.lms_cli.specs.declared.fault.CommandFault.{CommandFault}
@@ -114,3 +116,12 @@ pub has_text : (found : Found) (option text : Text) {others texts : List (Option
     → (first_of option (rows_of found) ∷ others) ≡ (Some text ∷ texts)
 has_text found option text {others} is rest =
     ap (λ (o : Option Text). o ∷ others) (sym (first_value-rows found option) ∙ is) ∙ ap (λ (t : List (Option Text)). Some text ∷ t) rest
+
+-- no subcommand is called by a name that is none of theirs
+pub none_called : (among : List Subcommand) (name : Text) → AllByRecursion (λ s. name ≡ s.name → ⊥) among → subcommand_called_in among name ≡ None
+none_called [] name others = refl
+none_called (s ∷ among) name (other, others) = go (bytes_eq s.name name) (bytes_eq-Decides s.name name).0 (none_called among name others)
+  where
+    go : (t : Bool) → (t ≡ true → s.name ≡ name) → subcommand_called_in among name ≡ None → cond t (Some s) (subcommand_called_in among name) ≡ None
+    go true is none = absurd (other (sym (is refl)))
+    go false is none = none

@@ -6,13 +6,14 @@ use Rattle.lms_commands.specs.Logs.{WorldCalls}
 use Rattle.lms_commands.specs.declared.fault.Fault.{Fault}
 use Rattle.lms_commands.specs.declared.status.Status.{Status}
 use Rattle.lms_commands.proofs.Histories.{IsHistory, no_index_twice}
+use Rattle.lms_commands.proofs.PublicTurns.{public_failed_turn, public_turn}
 use Rattle.lms_commands.proofs.SigningTurns.{jobs_failed_turn, jobs_turn, sign_failed_turn, sign_turn}
 use Rattle.lms_commands.proofs.Turns.{idle_as, info_failed_turn, info_turn, keygen_failed_turn, keygen_turn, verify_failed_turn, verify_turn}
 use Rattle.lms_cli.specs.Commands.{AreTakenAs, AsksForHelp}
 use Rattle.lms_cli.specs.RunLogs.{LogsFailed, LogsObeyed, LogsRun}
 use Rattle.lms_cli.specs.RunTurns.{HandsOut, HandsOutAll, ProgramRun, TakesTurn, TakeTurns}
 use Rattle.lms_cli.specs.declared.command.types.Command.{Command}
-use Rattle.lms_cli.specs.declared.command.types.Command.TheVariants.{Batch, Info, Keygen, Sign, Verify}
+use Rattle.lms_cli.specs.declared.command.types.Command.TheVariants.{Batch, Info, Keygen, Public, Sign, Verify}
 
 -- a command in its turn
 abbrev Obeyed : Command → WorldCalls → List ℕ → List ℕ → Type 0
@@ -24,6 +25,8 @@ obeyed : (command : Command) (end : Status) (input rest : Option (List ℕ)) (be
 obeyed (Keygen levels seed id state public) end input rest before printed whole (done, (key, is_key, is)) =
     let turn = keygen_turn key _ _ before printed whole is in (turn.0, [], turn.1, (refl, turn.2))
 obeyed (Info state) end input rest before printed whole (done, is) = let turn = info_turn _ before printed whole is in (turn.0, [], turn.1, (refl, turn.2))
+obeyed (Public state public) end input rest before printed whole (done, is) =
+    let turn = public_turn _ _ before printed whole is in (turn.0, [], turn.1, (refl, turn.2))
 obeyed (Sign state random message out) end input rest before printed whole (done, is) = sign_turn _ _ _ _ before printed whole is
 obeyed (Batch state workers) end input rest before printed whole (done, is) = jobs_turn _ _ input rest before printed whole is
 obeyed (Verify public message signature) end input rest before printed whole (verdict, at, is) =
@@ -38,6 +41,8 @@ failed (Keygen levels seed id state public) fault input rest before printed whol
     let turn = keygen_failed_turn key _ _ before printed fault whole is in (turn.0, [], turn.1, (refl, turn.2))
 failed (Info state) fault input rest before printed whole is =
     let turn = info_failed_turn _ before printed fault whole is in (turn.0, [], turn.1, (refl, turn.2))
+failed (Public state public) fault input rest before printed whole is =
+    let turn = public_failed_turn _ _ before printed fault whole is in (turn.0, [], turn.1, (refl, turn.2))
 failed (Sign state random message out) fault input rest before printed whole is = sign_failed_turn _ _ _ _ before printed fault whole is
 failed (Batch state workers) fault input rest before printed whole is = jobs_failed_turn _ _ input rest before printed fault whole is
 failed (Verify public message signature) fault input rest before printed whole is =

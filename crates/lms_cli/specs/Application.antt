@@ -32,6 +32,10 @@ keygen = record {
 abbrev pub info : Subcommand
 info = record { name = codes "info"; options = codes "state" ∷ [] }
 
+-- `public --state FILE --public FILE`
+abbrev pub public_key : Subcommand
+public_key = record { name = codes "public"; options = codes "state" ∷ codes "public" ∷ [] }
+
 -- `sign --state FILE --random HEX --message FILE --out FILE`
 abbrev pub sign : Subcommand
 sign = record {
@@ -53,7 +57,7 @@ verify = record {
 }
 
 abbrev pub subcommands : List Subcommand
-subcommands = keygen ∷ info ∷ sign ∷ batch ∷ verify ∷ []
+subcommands = keygen ∷ info ∷ public_key ∷ sign ∷ batch ∷ verify ∷ []
 
 -- the subcommand of this name, of some
 abbrev pub subcommand_called_in : List Subcommand → Text → Option Subcommand

@@ -5,9 +5,9 @@ use Rattle.clap.specs.Words.{Kinds, IsAmong, Row, Text, first_of, first_value, s
 use Rattle.clap.specs.declared.error.kind.ErrorKind.{ErrorKind}
 use Rattle.clap.specs.declared.error.kind.ErrorKind.TheVariants as kind
 use Rattle.clap.specs.declared.parser.matches.Found.{Found}
-use Rattle.lms_cli.specs.Application.{Subcommand, batch, info, keygen, lms_app, sign, verify}
+use Rattle.lms_cli.specs.Application.{Subcommand, batch, info, keygen, lms_app, public_key, sign, verify}
 use Rattle.lms_cli.specs.declared.command.types.Command.{Command}
-use Rattle.lms_cli.specs.declared.command.types.Command.TheVariants.{Batch, Info, Keygen, Sign, Verify}
+use Rattle.lms_cli.specs.declared.command.types.Command.TheVariants.{Batch, Info, Keygen, Public, Sign, Verify}
 use Rattle.lms_cli.specs.declared.fault.CommandFault.{CommandFault}
 use Rattle.lms_cli.specs.declared.fault.CommandFault.TheVariants.{Help, Usage, OutOfMemory}
 
@@ -25,6 +25,7 @@ AsksFor s texts words =
 abbrev pub subcommand_for : Command → Subcommand
 subcommand_for (Keygen levels seed id state public) = keygen
 subcommand_for (Info state) = info
+subcommand_for (Public state public) = public_key
 subcommand_for (Sign state random message out) = sign
 subcommand_for (Batch state workers) = batch
 subcommand_for (Verify public message signature) = verify
@@ -35,6 +36,7 @@ option_texts (Keygen levels seed id state public) =
     string_bytes levels ∷ string_bytes seed ∷ string_bytes id ∷ string_bytes state
     ∷ string_bytes public ∷ []
 option_texts (Info state) = string_bytes state ∷ []
+option_texts (Public state public) = string_bytes state ∷ string_bytes public ∷ []
 option_texts (Sign state random message out) =
     string_bytes state ∷ string_bytes random ∷ string_bytes message ∷ string_bytes out ∷ []
 option_texts (Batch state workers) = string_bytes state ∷ string_bytes workers ∷ []

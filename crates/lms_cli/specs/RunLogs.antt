@@ -9,11 +9,12 @@ use Rattle.lms_lines.specs.AnswerLines.{AppendsFront}
 use Rattle.lms_commands.specs.Keygen.{IsKeyOf, IsNoKey}
 use Rattle.lms_commands.specs.KeygenLogs.{LogsKeygen, LogsKeygenFailed}
 use Rattle.lms_commands.specs.Logs.{WorldCalls}
+use Rattle.lms_commands.specs.PublicLogs.{LogsPublic, LogsPublicFailed}
 use Rattle.lms_commands.specs.ReadingLogs.{LogsInfo, LogsInfoFailed, LogsVerify, LogsVerifyFailed}
 use Rattle.lms_commands.specs.SignLogs.{LogsSign, LogsSignFailed}
 use Rattle.lms_commands.specs.Verdicts.{verdict_status}
 use Rattle.lms_cli.specs.declared.command.types.Command.{Command}
-use Rattle.lms_cli.specs.declared.command.types.Command.TheVariants.{Batch, Info, Keygen, Sign, Verify}
+use Rattle.lms_cli.specs.declared.command.types.Command.TheVariants.{Batch, Info, Keygen, Public, Sign, Verify}
 use Rattle.lms_commands.specs.declared.fault.Fault.{Fault}
 use Rattle.lms_commands.specs.declared.fault.Fault.TheVariants.{OutOfMemory, WriteOutput}
 use Rattle.lms_commands.specs.declared.status.Status.{Status}
@@ -24,10 +25,13 @@ use Rattle.lms_commands.specs.declared.verdict.Verdict.{Verdict}
 abbrev pub LogsObeyed : Command → Status → Option (List ℕ) → Option (List ℕ) → List ℕ → List ℕ
     → WorldCalls → WorldCalls → Type 0
 LogsObeyed (Keygen levels seed id state public) end input rest before printed old new = (end ≡ Done)
-    × ((key : KeyOfCode) × IsKeyOf (string_bytes levels) (string_bytes seed) (string_bytes id) key
+    × ((key : KeyOfCode)
+    × IsKeyOf (string_bytes levels) (string_bytes seed) (string_bytes id) input rest key
     × LogsKeygen key (string_bytes state) (string_bytes public) before printed old new)
 LogsObeyed (Info state) end input rest before printed old new =
     (end ≡ Done) × LogsInfo (string_bytes state) before printed old new
+LogsObeyed (Public state public) end input rest before printed old new = (end ≡ Done)
+    × LogsPublic (string_bytes state) (string_bytes public) before printed old new
 LogsObeyed (Sign state random message out) end input rest before printed old new = (end ≡ Done)
     × LogsSign (string_bytes random) (string_bytes message) (string_bytes state)
     (string_bytes out) before printed old new
@@ -43,12 +47,15 @@ LogsObeyed (Verify public message signature) end input rest before printed old n
 abbrev pub LogsFailed : Command → Fault → Option (List ℕ) → Option (List ℕ) → List ℕ → List ℕ
     → WorldCalls → WorldCalls → Type 0
 LogsFailed (Keygen levels seed id state public) fault input rest before printed old new =
-    (IsNoKey (string_bytes levels) (string_bytes seed) (string_bytes id) fault × (new ≡ old)
-    × (printed ≡ before))
-    ⊎ ((key : KeyOfCode) × IsKeyOf (string_bytes levels) (string_bytes seed) (string_bytes id) key
+    (IsNoKey (string_bytes levels) (string_bytes seed) (string_bytes id) input rest fault
+    × (new ≡ old) × (printed ≡ before))
+    ⊎ ((key : KeyOfCode)
+    × IsKeyOf (string_bytes levels) (string_bytes seed) (string_bytes id) input rest key
     × LogsKeygenFailed key (string_bytes state) (string_bytes public) before printed fault old new)
 LogsFailed (Info state) fault input rest before printed old new =
     LogsInfoFailed (string_bytes state) before printed fault old new
+LogsFailed (Public state public) fault input rest before printed old new =
+    LogsPublicFailed (string_bytes state) (string_bytes public) before printed fault old new
 LogsFailed (Sign state random message out) fault input rest before printed old new =
     LogsSignFailed (string_bytes random) (string_bytes message) (string_bytes state)
     (string_bytes out) before printed fault old new

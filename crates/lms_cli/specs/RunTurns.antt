@@ -7,7 +7,7 @@ use Rattle.lms_commands.specs.declared.status.Status.{Status}
 use Rattle.lms_cli.specs.Commands.{AreTakenAs, AsksForHelp}
 use Rattle.lms_cli.specs.RunLogs.{LogsRun}
 use Rattle.lms_cli.specs.declared.command.types.Command.{Command}
-use Rattle.lms_cli.specs.declared.command.types.Command.TheVariants.{Batch, Info, Keygen, Sign, Verify}
+use Rattle.lms_cli.specs.declared.command.types.Command.TheVariants.{Batch, Info, Keygen, Public, Sign, Verify}
 
 -- what a command hands out: `sign` writes signatures to its file, `batch` prints their lines, and
 -- no other has any
@@ -16,6 +16,8 @@ HandsOut (Keygen levels seed id state public) signatures whole before printed =
     (signatures ≡ []) × (HandsNothing whole before printed ⊎ HandsKey whole before printed)
 HandsOut (Info state) signatures whole before printed =
     (signatures ≡ []) × HandsState whole before printed
+HandsOut (Public state public) signatures whole before printed =
+    (signatures ≡ []) × (HandsNothing whole before printed ⊎ HandsKey whole before printed)
 HandsOut (Sign state random message out) signatures whole before printed =
     AreDelivered signatures whole before printed
 HandsOut (Batch state workers) signatures whole before printed =

@@ -8,7 +8,7 @@ use Rattle.lms_world.specs.Held.{Follows, Held, answer_in}
 use Rattle.lms_cli.specs.Commands.{AreTakenAs}
 use Rattle.lms_cli.specs.RunLogs.{LogsRun}
 use Rattle.lms_cli.specs.declared.command.types.Command.{Command}
-use Rattle.lms_cli.specs.declared.command.types.Command.TheVariants.{Info, Keygen, Sign, Verify}
+use Rattle.lms_cli.specs.declared.command.types.Command.TheVariants.{Info, Keygen, Public, Sign, Verify}
 
 -- of a world in memory, at statuses 2 to 5 no file is changed
 abbrev pub FilesStay : Type 0
@@ -22,12 +22,14 @@ FilesStay = (words : List Text) (end : Status) (input rest : Option (List ℕ))
 -- the command writes the file of this name
 abbrev pub Writes : Text → Command → Type 0
 Writes name (Keygen levels seed id state public) = name ≡ string_bytes public
+Writes name (Public state public) = name ≡ string_bytes public
 Writes name (Sign state random message out) = name ≡ string_bytes out
 Writes name _ = ⊥
 
 -- it stores a state
 abbrev pub StoresState : Command → Type 0
 StoresState (Info state) = ⊥
+StoresState (Public state public) = ⊥
 StoresState (Verify public message signature) = ⊥
 StoresState _ = Unit {0}
 

@@ -1,7 +1,7 @@
 -- The arguments that the usage lines show.
 use Rattle.std.specs.Prelude.{◌≡◌, ◌++◌, List, ◌∷◌, [], codes, true}
 use Rattle.clap.specs.Words.{Text, takes}
-use Rattle.lms_cli.specs.Application.{Subcommand, batch, info, keygen, lms_app, sign, verify}
+use Rattle.lms_cli.specs.Application.{Subcommand, batch, info, keygen, lms_app, public_key, sign, verify}
 use Rattle.lms_cli.specs.Commands.{AsksFor}
 
 -- `--NAME=TEXT` for each name and the text in its place
@@ -27,6 +27,9 @@ KeygenIsTaken =
 
 abbrev pub InfoIsTaken : Type 0
 InfoIsTaken = (state : Text) → TakesTexts info (state ∷ [])
+
+abbrev pub PublicIsTaken : Type 0
+PublicIsTaken = (state public : Text) → TakesTexts public_key (state ∷ public ∷ [])
 
 abbrev pub SignIsTaken : Type 0
 SignIsTaken =

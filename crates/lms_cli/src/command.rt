@@ -2,7 +2,7 @@
 ghost use Rattle.std.specs.Prelude.{◌≡◌, [], codes, IfOk, IfErr, IsSome, Some, MatchResult, map, true, false, string_bytes};
 ghost use Rattle.clap.specs.Words.{app_of, fault_of, first_value, found_of, kind_of, rows_of, rule_of, takes};
 ghost use Rattle.clap.specs.declared.builder.command.Command.TheViews.{out-Command as fields_of};
-ghost use Rattle.lms_cli.specs.Application.{app_for, batch, subcommand_called, info, keygen, lms_app, required_option, sign, verify};
+ghost use Rattle.lms_cli.specs.Application.{app_for, batch, subcommand_called, info, keygen, lms_app, public_key, required_option, sign, verify};
 ghost use Rattle.lms_cli.specs.Commands.{AreWordsOf, FaultAt, FaultOf, HasOptions, IsMadeOf};
 
 pub mod laws;
@@ -19,8 +19,11 @@ const LEVELS_HELP: &str =
     "Height/width of each level, top first, as 10/8,10/8: 1 to 8 levels; heights 5, 10, 15, 20 or 25, together at most 60; widths 1, 2, 4 or 8";
 
 const KEYGEN_NOTE: &str = "Example:
-  lms_tool keygen --levels 10/8,10/8 --seed \"$(openssl rand -hex 32)\" --id \"$(openssl rand -hex 16)\" \\
+  openssl rand -hex 32 | lms_tool keygen --levels 10/8,10/8 --seed - --id \"$(openssl rand -hex 16)\" \\
       --state key.state --public key.pub
+
+With `-` the seed is read from standard input, 64 digits and perhaps the end of their line. On the command line every user of
+the machine can read it for as long as this runs.
 
 Never use a seed and identifier twice, whatever the levels: the same one-time keys would sign again, from index 0.";
 
@@ -29,6 +32,12 @@ const INFO_NOTE: &str = "Example:
 
 Prints the levels, how many indices are used (counter), how many there are (capacity) and how many are left (left), how many
 openings of the state stored something (openings), and how many indices were burnt before its last write (burnt).";
+
+const PUBLIC_NOTE: &str = "Example:
+  lms_tool public --state key.state --public key.pub
+
+Makes the file that `keygen` wrote once more, in the same time, and prints how many indices there are (capacity). The state stays
+as it is, and can be used meanwhile.";
 
 const SIGN_NOTE: &str = "Example:
   lms_tool sign --state key.state --random \"$(openssl rand -hex 32)\" --message firmware.bin --out firmware.sig
@@ -80,6 +89,7 @@ fn application<'a>(alloc: Global) -> Result<clap::Command<'a>, AllocError>
         .subcommand_required(true)
         .subcommand(keygen_application(alloc)?)?
         .subcommand(info_application(alloc)?)?
+        .subcommand(public_application(alloc)?)?
         .subcommand(sign_application(alloc)?)?
         .subcommand(batch_application(alloc)?)?
         .subcommand(verify_application(alloc)?)
@@ -97,7 +107,7 @@ fn keygen_application<'a>(alloc: Global) -> Result<clap::Command<'a>, AllocError
             alloc,
             "seed",
             "HEX",
-            "64 hexadecimal digits, random and secret",
+            "64 hexadecimal digits, random and secret, or - to read them from standard input",
         ))?
         .arg(option(alloc, "id", "HEX", "32 hexadecimal digits, random"))?
         .arg(option(alloc, "state", "FILE", "The key's state, a new file"))?
@@ -117,6 +127,22 @@ fn info_application<'a>(alloc: Global) -> Result<clap::Command<'a>, AllocError>
         .about("Describes a key")
         .after_help(INFO_NOTE)
         .arg(option(alloc, "state", "FILE", "The key's state"))
+}
+
+fn public_application<'a>(alloc: Global) -> Result<clap::Command<'a>, AllocError>
+    ensures app { IfOk result (λ c. app_of c ≡ app_for public_key) }
+    ensures local { IfOk result (λ c. (fields_of c).has_globals ≡ false) }
+{
+    clap::Command::new(alloc, "public")
+        .about("Writes a key's public key")
+        .after_help(PUBLIC_NOTE)
+        .arg(option(alloc, "state", "FILE", "The key's state"))?
+        .arg(option(
+            alloc,
+            "public",
+            "FILE",
+            "Where the public key is written, 60 bytes, in place of any older file",
+        ))
 }
 
 fn sign_application<'a>(alloc: Global) -> Result<clap::Command<'a>, AllocError>
@@ -190,6 +216,7 @@ fn read(alloc: Global, name: &str, options: &ArgMatches<'_>) -> Result<Command, 
     match name {
         "keygen" => read_keygen(alloc, options),
         "info" => read_info(alloc, options),
+        "public" => read_public(alloc, options),
         "sign" => read_sign(alloc, options),
         "batch" => read_batch(alloc, options),
         "verify" => read_verify(alloc, options),
@@ -216,6 +243,16 @@ fn read_info(alloc: Global, options: &ArgMatches<'_>) -> Result<Command, AllocEr
 {
     Ok(Command::Info {
         state: option_text(alloc, options, "state")?,
+    })
+}
+
+fn read_public(alloc: Global, options: &ArgMatches<'_>) -> Result<Command, AllocError>
+    requires { HasOptions (Some public_key) (found_of options.now) }
+    ensures { IfOk result (IsMadeOf (codes "public") (rows_of (found_of options.now))) }
+{
+    Ok(Command::Public {
+        state: option_text(alloc, options, "state")?,
+        public: option_text(alloc, options, "public")?,
     })
 }
 

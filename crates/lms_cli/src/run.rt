@@ -9,8 +9,8 @@ ghost use Rattle.lms_cli.specs.Runs.{AsksToRead, ReadsInput, Runs, setting};
 
 use crate::command::{Command, CommandFault, command};
 use lms_commands::{
-    Fault, Resources, SignRequest, Status, describe, key_from, make_key, print_fault, sign_file,
-    sign_jobs, verify_files,
+    Fault, Resources, SignRequest, Status, describe, key_from, make_key, print_fault, publish_key,
+    sign_file, sign_jobs, verify_files,
 };
 use lms_hss::Progress;
 use lms_world::{Printer, World};
@@ -24,11 +24,11 @@ use std::thread::Threads;
 /// files and its three streams. Answers how it ends; the exit status is that answer's code.
 ///
 /// A fault is one line on `errors`, `error: ` and its text. Help is printed to `output` and a
-/// mistake in the arguments to `errors`, both in clap's wording. Nothing but `keygen`,
-/// `sign` and `batch` changes files or states, and of the files only the one that `--public` or
-/// `--out` names. `keygen` and `sign` alone keep nodes of trees beside the state. `input` is read
-/// by `batch` alone. `resources.progress` gets how far `keygen`, `sign` and `batch` are while they
-/// compute trees.
+/// mistake in the arguments to `errors`, both in clap's wording. Nothing but `keygen`, `sign` and
+/// `batch` changes states, and of the files only the one that `--public` or `--out` names is
+/// changed. `keygen` and `sign` alone keep nodes of trees beside the state. `input` is read by
+/// `batch`, and by `keygen` where its seed is `-`. `resources.progress` gets how far `keygen`,
+/// `public`, `sign` and `batch` are while they compute trees.
 pub fn run<S: AsStr, W: World, I: Read, O: Write, E: Write>(
     resources: &Resources<impl Threads + Wait + Sync, impl Progress>,
     words: &[S],
@@ -130,12 +130,16 @@ fn obey<W: World, I: Read, O: Write>(
             state,
             public,
         } => {
-            let key = key_from(resources.alloc, &levels, &seed, &id)?;
+            let key = key_from(resources.alloc, &levels, &seed, &id, input)?;
             make_key(resources, world, key, &state, &public, output)?;
             Ok(Status::Done)
         }
         Command::Info { state } => {
             describe(resources.alloc, world, &state, output)?;
+            Ok(Status::Done)
+        }
+        Command::Public { state, public } => {
+            publish_key(resources, world, &state, &public, output)?;
             Ok(Status::Done)
         }
         Command::Sign {

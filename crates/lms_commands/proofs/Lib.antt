@@ -5,10 +5,12 @@ pub mod Logged
 pub mod Signings
 pub mod Turns
 pub mod SigningTurns
+pub mod PublicTurns
 pub mod Telling
 pub mod AtState
 pub mod KeygenInMemory
 pub mod BatchInMemory
 pub mod ReadingInMemory
+pub mod PublicInMemory
 pub mod SignInMemory
 pub mod NodesStaying

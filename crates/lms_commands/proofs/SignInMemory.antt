@@ -7,7 +7,7 @@ use Rattle.lms_world.specs.Events.{Acquired, Event, Locked, NodesRead, PutBack, 
 use Rattle.lms_world.specs.Held.{Answers, Held}
 use Rattle.lms_world.specs.Outcomes.{files_after}
 use Rattle.lms_commands.specs.InMemory.{KeepsNodes}
-use Rattle.lms_commands.specs.Keygen.{IsHexOf}
+use Rattle.lms_texts.specs.Options.{IsHexOf}
 use Rattle.lms_commands.specs.Logs.{WorldCalls, image_using, lock_answer, read_cause}
 use Rattle.lms_commands.specs.SignInMemory.{FailsToSignInMemory, SignsInMemory, SignsMessage}
 use Rattle.lms_commands.specs.SignLogs.{IsRandomizer, WritesSignature}

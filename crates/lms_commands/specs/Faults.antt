@@ -19,9 +19,11 @@ use Rattle.lms_lines.specs.declared.fault.LinesFault.{LinesFault}
 use Rattle.lms_lines.specs.declared.fault.LinesFault.TheVariants as lines
 use Rattle.lms_commands.specs.declared.fault.Fault.{Fault}
 use Rattle.lms_commands.specs.declared.fault.Fault.TheVariants.{BadLevels, TooManyLevels, TooTall, BadSeed, BadId, BadRandom, BadWorkers, BadJob, TooManyJobs, StateExists, StateInUse, ReadState, BadState, WriteState, WriteStateBurnt, Exhausted, OutOfMemory, OutOfMemoryBurnt, Partial, ReadInput, WriteOutput}
-use Rattle.lms_texts.specs.Faults.{levels_fault_text}
+use Rattle.lms_texts.specs.Faults.{levels_fault_text, seed_fault_text}
 use Rattle.lms_texts.specs.declared.fault.LevelsTextFault.{LevelsTextFault}
 use Rattle.lms_texts.specs.declared.fault.LevelsTextFault.TheVariants as unread
+use Rattle.lms_texts.specs.declared.fault.SeedFault.{SeedFault}
+use Rattle.lms_texts.specs.declared.fault.SeedFault.TheVariants as seed
 use Rattle.lms_commands.specs.declared.sign.NextFault.{NextFault}
 use Rattle.lms_commands.specs.declared.sign.NextFault.TheVariants as signing
 use Rattle.lms_commands.specs.declared.status.Status.{Status}
@@ -31,7 +33,7 @@ abbrev pub command_fault_text : Fault → List ℕ
 command_fault_text BadLevels = levels_fault_text unread.Bad
 command_fault_text TooManyLevels = key_text key.TooManyLevels
 command_fault_text TooTall = key_text key.TooTall
-command_fault_text BadSeed = codes "bad seed"
+command_fault_text BadSeed = seed_fault_text seed.Bad
 command_fault_text BadId = codes "bad id"
 command_fault_text BadRandom = codes "bad random"
 command_fault_text BadWorkers = codes "bad workers"
@@ -97,6 +99,11 @@ of_key key.TooTall = TooTall
 abbrev pub of_text : LevelsTextFault → Fault
 of_text unread.Bad = BadLevels
 of_text unread.OutOfMemory = OutOfMemory
+
+-- the fault that a seed not read is
+abbrev pub of_seed : SeedFault → Fault
+of_seed seed.Bad = BadSeed
+of_seed seed.Read = ReadInput
 
 -- the fault that a refused opening is
 abbrev pub of_opening : OpenFault → Fault

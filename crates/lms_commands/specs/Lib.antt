@@ -9,6 +9,7 @@ pub mod Logs
 pub mod KeygenLogs
 pub mod SignLogs
 pub mod ReadingLogs
+pub mod PublicLogs
 pub mod BatchLogs
 pub mod Histories
 pub mod InMemory
@@ -16,3 +17,4 @@ pub mod KeygenInMemory
 pub mod SignInMemory
 pub mod BatchInMemory
 pub mod ReadingInMemory
+pub mod PublicInMemory

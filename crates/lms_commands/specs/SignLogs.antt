@@ -9,7 +9,7 @@ use Rattle.lms_world.specs.declared.fault.WorldFault.{WorldFault}
 use Rattle.lms_world.specs.Events.{Acquired, Read, Written, Locked, Unlocked, NodesRead, Printing, Writing, after}
 use Rattle.lms_texts.specs.Descriptions.{number_line}
 use Rattle.lms_commands.specs.Logs.{IsLockRefused, IsReadRefused, KeyState, WorldCalls, LogsKeeping, LogsUnopened, LogsUnsigned, StoresUse, lock_answer, read_cause}
-use Rattle.lms_commands.specs.Keygen.{IsHexOf}
+use Rattle.lms_texts.specs.Options.{IsHexOf}
 use Rattle.lms_spec.specs.HashLength.{hash_length}
 use Rattle.lms_commands.specs.declared.fault.Fault.{Fault}
 use Rattle.lms_commands.specs.declared.fault.Fault.TheVariants.{BadRandom, WriteOutput}

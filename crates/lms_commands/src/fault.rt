@@ -2,7 +2,7 @@
 ghost use Rattle.std.specs.Prelude.{◌≡◌, OnErr, OnOk, Some};
 ghost use Rattle.std.specs.Io.KnownBytes.{Appends};
 ghost use Rattle.lms_lines.specs.AnswerLines.{AppendsFront};
-ghost use Rattle.lms_commands.specs.Faults.{command_fault_text, fault_line, of_batch, of_book, of_jobs, of_key, of_lines, of_opening, of_text, status_of};
+ghost use Rattle.lms_commands.specs.Faults.{command_fault_text, fault_line, of_batch, of_book, of_jobs, of_key, of_lines, of_opening, of_seed, of_text, status_of};
 ghost use Rattle.lms_commands.specs.Logs.{IsReadRefused, read_cause};
 ghost use Rattle.lms_commands.specs.declared.fault.Fault.TheVariants.{OutOfMemory as FaultOfMemory, WriteOutput};
 
@@ -13,7 +13,7 @@ use lms_hss::KeyFault;
 use lms_image::ImageFault;
 use lms_lines::{JobsFault, LinesFault, WriteFault};
 use lms_params::OutOfMemory;
-use lms_texts::{LevelsTextFault, print_line};
+use lms_texts::{LevelsTextFault, SeedFault, print_line};
 use lms_world::WorldFault;
 use std::io::Write;
 use std::{error, fmt};
@@ -27,7 +27,7 @@ pub enum Fault {
     TooManyLevels,
     /// The levels' heights sum to over 60.
     TooTall,
-    /// The seed is not 64 hexadecimal digits.
+    /// The seed, or the input that it is read from, is not 64 hexadecimal digits.
     BadSeed,
     /// The identifier is not 32 hexadecimal digits.
     BadId,
@@ -104,7 +104,7 @@ impl fmt::Display for Fault {
             Fault::BadLevels => write!(f, "{}", LevelsTextFault::Bad),
             Fault::TooManyLevels => write!(f, "{}", KeyFault::TooManyLevels),
             Fault::TooTall => write!(f, "{}", KeyFault::TooTall),
-            Fault::BadSeed => f.write_str("bad seed"),
+            Fault::BadSeed => write!(f, "{}", SeedFault::Bad),
             Fault::BadId => f.write_str("bad id"),
             Fault::BadRandom => f.write_str("bad random"),
             Fault::BadWorkers => f.write_str("bad workers"),
@@ -151,6 +151,17 @@ impl From<LevelsTextFault> for Fault {
         match fault {
             LevelsTextFault::Bad => Fault::BadLevels,
             LevelsTextFault::OutOfMemory => Fault::OutOfMemory,
+        }
+    }
+}
+
+impl From<SeedFault> for Fault {
+    ghost from_gives = { λ seed_fault fault. fault ≡ of_seed seed_fault };
+
+    fn from(fault: SeedFault) -> Self {
+        match fault {
+            SeedFault::Bad => Fault::BadSeed,
+            SeedFault::Read => Fault::ReadInput,
         }
     }
 }

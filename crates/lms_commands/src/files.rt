@@ -2,7 +2,7 @@
 ghost use Rattle.std.specs.Prelude.{[], ◌∷◌, ◌≡◌, ℕ, List, None, IfErr, IfOk, IfSome, OnOk};
 ghost use Rattle.lms_world.specs.Events.{Read, Opened, Written, Locked, opening_of, read_of};
 ghost use Rattle.lms_world.specs.Held.{Does, Follows};
-ghost use Rattle.lms_commands.specs.Logs.{IsLockRefused, IsReadRefused, IsWriteRefused, LogsUnopened, OpensState, caused, locked_so, written_so};
+ghost use Rattle.lms_commands.specs.Logs.{IsLockRefused, IsReadRefused, IsWriteRefused, LogsUnopened, OpensState, caused, locked_so, write_cause, written_so};
 
 use crate::fault::Fault;
 use lms_book::Book;
@@ -70,8 +70,37 @@ pub(crate) fn write_file<W: World>(world: &mut W, name: &str, bytes: &[u8]) -> R
 {
     match world.write(name, bytes) {
         Ok(()) => Ok(()),
-        Err(WorldFault::Device) => Err(Fault::WriteOutput),
-        Err(WorldFault::OutOfMemory) => Err(Fault::OutOfMemory),
+        Err(cause) => Err(unwritten(cause)),
+    }
+}
+
+/// The same, and flushes the file where that can be done.
+pub(crate) fn write_flushed<W: World>(
+    alloc: Global,
+    world: &mut W,
+    name: &str,
+    bytes: &[u8],
+) -> Result<(), Fault>
+    ensures logged { W.events world.new
+        ≡ Written name.now bytes.now (written_so result) ∷ W.events world.old }
+    ensures refused { IfErr result IsWriteRefused }
+    ensures acts { Does (Written name.now bytes.now (written_so result))
+        (W.memory world.old) (W.memory world.new) }
+{
+    match world.write_flushed(alloc, name, bytes) {
+        Ok(()) => Ok(()),
+        Err(cause) => Err(unwritten(cause)),
+    }
+}
+
+/// Why a file was not written.
+fn unwritten(cause: WorldFault) -> Fault
+    ensures refused { IsWriteRefused result }
+    ensures cause { write_cause result ≡ cause }
+{
+    match cause {
+        WorldFault::Device => Fault::WriteOutput,
+        WorldFault::OutOfMemory => Fault::OutOfMemory,
     }
 }
 

@@ -57,7 +57,11 @@ fn describe_locked<W: World, O: Write>(
 }
 
 /// The key of the state of a lock, and what is counted of it.
-fn read_state<W: World>(alloc: Global, world: &mut W, lock: &W::Lock) -> Result<Image, Fault>
+pub(crate) fn read_state<W: World>(
+    alloc: Global,
+    world: &mut W,
+    lock: &W::Lock,
+) -> Result<Image, Fault>
     ensures logged { IfOk result (λ image.
         LeavesState (state_in image) (W.events world.old) (W.events world.new)) }
     ensures unopened { IfErr result (λ fault.

@@ -1,15 +1,15 @@
 //! `keygen`: a new key's state, and its public key.
-ghost use Rattle.std.specs.Prelude.{◌++◌, ◌≡◌, IfErr, IfOk, OnOk, codes};
+ghost use Rattle.std.specs.Prelude.{◌++◌, ◌≡◌, ◌⊎◌, IfErr, IfOk, OnOk};
 ghost use Rattle.lms_image.specs.Image.{image_of};
 ghost use Rattle.lms_book.specs.Stops.{WritesStore};
 ghost use Rattle.lms_commands.specs.Keygen.{IsKeyOf, IsNoKey, IsTaken};
-ghost use Rattle.lms_texts.specs.Descriptions.{number_line};
+ghost use Rattle.lms_texts.specs.Seeds.{on_input};
 ghost use Rattle.lms_commands.specs.Logs.{FailsToPublish, Publishes};
 ghost use Rattle.lms_commands.specs.KeygenLogs.{capacity_line, LogsKeygen, LogsKeygenFailed, LogsUnmade, LogsUnstored, PublishesKey, StoresKey};
 ghost use Rattle.lms_world.specs.Held.{Follows};
 
 use crate::fault::Fault;
-use crate::files::{lock_state, write_file};
+use crate::files::{lock_state, write_flushed};
 use crate::keeping::keep_trees;
 use crate::resources::Resources;
 use lms_book::{StateStore, StoreFault};
@@ -17,23 +17,34 @@ use lms_hss::{HssKey, Levels, Progress};
 use lms_image::{Image, encode_image};
 use lms_kept::KeptTrees;
 use lms_params::HASH_LEN;
-use lms_texts::{print_capacity, read_bytes, read_levels};
+use lms_texts::{print_capacity, read_bytes, read_levels, read_seed};
 use lms_world::{Printer, World};
 use std::alloc::Global;
-use std::io::Write;
+use std::io::{Read, Write};
 use std::thread::Threads;
 
 /// The key of these levels, of this seed of 64 hexadecimal digits and of this identifier of 32.
+/// Where the seed is `-`, its digits are all that the input has, but for LF after them.
 ///
-/// The first of these faults: `BadLevels`, `TooManyLevels`, `TooTall`, `BadSeed`, `BadId`; or
-/// `OutOfMemory` where memory for the levels was refused.
-pub fn key_from(alloc: Global, levels: &str, seed: &str, id: &str) -> Result<HssKey, Fault>
-    ensures key { IfOk result (IsKeyOf levels.now seed.now id.now) }
-    ensures refused { IfErr result (IsNoKey levels.now seed.now id.now) }
+/// The first of these faults: `BadLevels`, `TooManyLevels`, `TooTall`, `BadSeed` or, where the
+/// input can't be read, `ReadInput`, `BadId`; or `OutOfMemory` where memory for the levels was
+/// refused. No more than 66 bytes of the input are read.
+pub fn key_from<I: Read>(
+    alloc: Global,
+    levels: &str,
+    seed: &str,
+    id: &str,
+    input: &mut I,
+) -> Result<HssKey, Fault>
+    ensures key { IfOk result (IsKeyOf levels.now seed.now id.now
+        (I.remaining input.old) (I.remaining input.new)) }
+    ensures refused { IfErr result (IsNoKey levels.now seed.now id.now
+        (I.remaining input.old) (I.remaining input.new)) }
+    ensures unread { (input.new ≡ input.old) ⊎ (seed.now ≡ on_input) }
 {
     let pairs = read_levels(alloc, levels)?;
     let levels = Levels::new(&pairs)?;
-    let seed = read_bytes(seed).ok_or(Fault::BadSeed)?;
+    let seed = read_seed(seed, input)?;
     let id = read_bytes(id).ok_or(Fault::BadId)?;
     Ok(key_of(levels, seed, id))
 }
@@ -106,30 +117,31 @@ fn make_locked<W: World, O: Write>(
     let trees = KeptTrees::top(resources.rt, resources.alloc, key, resources.progress)?;
     store_key(resources.alloc, world, lock, key)?;
     keep_trees(resources.alloc, world, lock, &trees);
-    publish(world, public, &trees.public(), key.capacity(), output)
+    let text = trees.public();
+    publish(resources.alloc, world, public, &text, &key, output)
 }
 
-/// Writes a public key to a file, and then prints its capacity. `OutOfMemory` where memory for the
-/// file was refused, `WriteOutput` where it can't be written, or the capacity not printed.
-fn publish<W: World, O: Write>(
+/// Writes a key's public key to a file, flushes that, and then prints the key's capacity.
+/// `OutOfMemory` where memory for the file was refused, `WriteOutput` where it can't be written or
+/// flushed, or the capacity not printed.
+pub(crate) fn publish<W: World, O: Write>(
+    alloc: Global,
     world: &mut W,
     name: &str,
     public_key: &[u8],
-    capacity: u64,
+    key: &HssKey,
     output: &mut Printer<O>,
 ) -> Result<(), Fault>
-    ensures published { OnOk result
-        (Publishes name.now public_key.now (number_line (codes "capacity") capacity)
+    ensures published { OnOk result (Publishes name.now public_key.now (capacity_line key.now)
         output.old output.new (W.events world.old) (W.events world.new)) }
-    ensures failed { IfErr result
-        (λ fault. FailsToPublish name.now public_key.now (number_line (codes "capacity") capacity)
-        output.old output.new fault (W.events world.old) (W.events world.new)) }
+    ensures failed { IfErr result (λ fault. FailsToPublish name.now public_key.now
+        (capacity_line key.now) output.old output.new fault (W.events world.old) (W.events world.new)) }
     ensures follows { Follows (W.memory world.old) (W.events world.old)
         (W.memory world.new) (W.events world.new) }
 {
-    write_file(world, name, public_key)?;
+    write_flushed(alloc, world, name, public_key)?;
     world.begin_printing(output);
-    Ok(print_capacity(output, capacity)?)
+    Ok(print_capacity(output, key.capacity())?)
 }
 
 /// Stores a key's state, that of the lock, with no index used. `OutOfMemory`, or `WriteState` where

@@ -1,59 +1,45 @@
-//! Laws of what commands leave in a world in memory, each as the contract of a function. No call
-//! of a product needs these functions.
+//! Laws of what commands leave in a world in memory, by their calls, where they are done and where
+//! they fail, each as the contract of a function. No call of a product needs these functions.
 ghost use Rattle.lms_commands.specs.BatchInMemory.{FailsToSignJobsInMemory, SignsJobsInMemory};
 ghost use Rattle.lms_commands.specs.KeygenInMemory.{FailsToMakeKeyInMemory, MakesKeyInMemory, NewNodesAreRight};
+ghost use Rattle.lms_commands.specs.PublicInMemory.{FailsToPublishKeyInMemory, PublishesKeyInMemory};
 ghost use Rattle.lms_commands.specs.ReadingInMemory.{DescribesInMemory, FailsToDescribeInMemory, FailsToJudgeInMemory, JudgesInMemory};
 ghost use Rattle.lms_commands.specs.SignInMemory.{FailsToSignInMemory, NodesStayRight, SignsInMemory};
 
-/// What `make_key` leaves in a world in memory where it is done, by its calls.
+/// What `make_key` leaves.
 pub fn makes_key_in_memory()
-    ensures { MakesKeyInMemory }
+    ensures done { MakesKeyInMemory }
+    ensures fails { FailsToMakeKeyInMemory }
 {}
 
-/// Where it fails.
-pub fn fails_to_make_key_in_memory()
-    ensures { FailsToMakeKeyInMemory }
+/// What `publish_key` leaves.
+pub fn publishes_key_in_memory()
+    ensures done { PublishesKeyInMemory }
+    ensures fails { FailsToPublishKeyInMemory }
 {}
 
-/// What `sign_file` leaves in a world in memory where it is done, by its calls.
+/// What `sign_file` leaves.
 pub fn signs_in_memory()
-    ensures { SignsInMemory }
+    ensures done { SignsInMemory }
+    ensures fails { FailsToSignInMemory }
 {}
 
-/// Where it fails.
-pub fn fails_to_sign_in_memory()
-    ensures { FailsToSignInMemory }
-{}
-
-/// What `sign_jobs` leaves in a world in memory where all jobs are signed and answered, by its
-/// calls.
+/// What `sign_jobs` leaves. It is done where all jobs are signed and answered.
 pub fn signs_jobs_in_memory()
-    ensures { SignsJobsInMemory }
+    ensures done { SignsJobsInMemory }
+    ensures fails { FailsToSignJobsInMemory }
 {}
 
-/// Where it fails.
-pub fn fails_to_sign_jobs_in_memory()
-    ensures { FailsToSignJobsInMemory }
-{}
-
-/// What `describe` finds in a world in memory where it is done, by its calls.
+/// What `describe` finds.
 pub fn describes_in_memory()
-    ensures { DescribesInMemory }
+    ensures done { DescribesInMemory }
+    ensures fails { FailsToDescribeInMemory }
 {}
 
-/// Where it fails.
-pub fn fails_to_describe_in_memory()
-    ensures { FailsToDescribeInMemory }
-{}
-
-/// What `verify_files` finds in a world in memory where it is done, by its calls.
+/// What `verify_files` finds.
 pub fn judges_in_memory()
-    ensures { JudgesInMemory }
-{}
-
-/// Where it fails.
-pub fn fails_to_judge_in_memory()
-    ensures { FailsToJudgeInMemory }
+    ensures done { JudgesInMemory }
+    ensures fails { FailsToJudgeInMemory }
 {}
 
 /// What is kept of the key's trees is right after a message was signed where it was before.

@@ -5,7 +5,7 @@ ghost use Rattle.lms_kept.specs.Signed.{IsSignedByText};
 ghost use Rattle.lms_book.specs.Books.{counter};
 ghost use Rattle.lms_commands.specs.Faults.{of_signing};
 ghost use Rattle.lms_texts.specs.Descriptions.{number_line};
-ghost use Rattle.lms_commands.specs.Keygen.{IsHexOf};
+ghost use Rattle.lms_texts.specs.Options.{IsHexOf};
 ghost use Rattle.lms_commands.specs.Logs.{FailsToPublish, LogsKeeping, Publishes};
 ghost use Rattle.lms_commands.specs.SignLogs.{index_line, DeliversSignature, IsRandomizer, LogsNotSigned, LogsSign, LogsSignFailed, LogsSigned, LogsUndelivered};
 ghost use Rattle.lms_world.specs.Held.{Follows};

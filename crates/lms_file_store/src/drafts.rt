@@ -21,8 +21,23 @@ pub(crate) fn make_draft<R: Files>(files: &R, draft: &str) -> io::Result<R::File
 }
 
 /// Writes the bytes to a draft, flushes and closes it, and renames it over the file of the other
-/// name. A crash before the rename leaves that file as it was.
+/// name. A crash before the rename leaves that file as it was, and the draft. Where a step fails
+/// the draft is removed if possible.
 pub(crate) fn place_draft<R: Files>(
+    files: &R,
+    file: R::File,
+    text: &[u8],
+    draft: &str,
+    name: &str,
+) -> io::Result<()> {
+    let placed = fill_and_rename(files, file, text, draft, name);
+    if placed.is_err() {
+        let _ = fs::remove_file(files, draft);
+    }
+    placed
+}
+
+fn fill_and_rename<R: Files>(
     files: &R,
     file: R::File,
     text: &[u8],

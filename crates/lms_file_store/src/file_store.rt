@@ -76,9 +76,10 @@ impl<'a, R: Files> FileStore<'a, R> {
     }
 
     /// Writes the bytes beside the state, flushes them, and renames them over the state. A crash
-    /// before the rename leaves the old state; between the rename and the flush of the folder it
-    /// leaves the old or the new one. The folder is opened first, so that nothing changes where it
-    /// can't be opened.
+    /// before the rename leaves the old state, and the draft; between the rename and the flush of
+    /// the folder it leaves the old or the new one. Where a step up to the rename fails no draft is
+    /// left if possible. The folder is opened first, so that nothing changes where it can't be
+    /// opened.
     fn put(&self, text: &[u8]) -> io::Result<()> {
         let folder = fs::open(self.files, self.folder.as_str())?;
         let (draft, state) = (self.draft.as_str(), self.state.as_str());
@@ -134,7 +135,8 @@ impl<R: Files + Sync> StateStore for FileStore<'_, R> {
     }
 
     /// Writes the bytes to `NAME.new`, which only the owner may read, flushes it, renames it over
-    /// the file and flushes the folder. `Err` where a step fails. More than 256 bytes are refused
+    /// the file and flushes the folder. `Err` where a step fails; `NAME.new`, which may have a seed
+    /// in it, is then removed where possible. More than 256 bytes are refused
     /// before any file is touched; a book burns the range all the same. A crash at any point leaves
     /// the file with the old bytes or with these. It takes no memory.
     fn replace(&mut self, text: &[u8]) -> Result<(), StoreFault>

@@ -1,4 +1,5 @@
-//! A key's state in a file, the lock on it, and the nodes of its trees that are kept beside it.
+//! A key's state in a file, the lock on it, the nodes of its trees that are kept beside it, and
+//! other files, which never take a state's place.
 //!
 //! A store is made from the lock on its file. Hold the lock as long as the store is used: two
 //! stores in one file give an index twice. So does an older copy of the file that is put back, or a
@@ -14,9 +15,11 @@ mod drafts;
 mod file_store;
 mod locking;
 mod nodes;
+mod outputs;
 mod paths;
 mod record;
 
 pub use crate::file_store::FileStore;
 pub use crate::locking::{StateLock, TryLock, lock};
+pub use crate::outputs::{write_flushed, write_output};
 pub use lms_params::OutOfMemory;

@@ -48,11 +48,7 @@ impl<F> StateLock<F> {
         let name = sibling(alloc, self.path(), NODES)?;
         let draft = sibling(alloc, self.path(), DRAFT)?;
         let file = make_draft(files, draft.as_str())?;
-        let placed = place_draft(files, file, text, draft.as_str(), name.as_str());
-        if placed.is_err() {
-            let _ = fs::remove_file(files, draft.as_str());
-        }
-        placed
+        place_draft(files, file, text, draft.as_str(), name.as_str())
     }
 }
 

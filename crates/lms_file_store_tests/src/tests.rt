@@ -1,4 +1,5 @@
 mod nodes;
+mod outputs;
 
 use lms_book::{ReadFault, StateStore, StoreFault};
 use lms_file_store::{FileStore, StateLock, lock};
@@ -153,6 +154,8 @@ fn can_be_locked(rt: &HostRuntime, name: &str) -> Result<bool, Fail> {
 fn what_can_not_be_reached_fails(rt: HostRuntime) -> Result<(), Fail> {
     make_obstacles(&rt)?;
     assert!(rt; is_out_of_reach(&rt, "file_store_faults/folder")?);
+    // (The draft is written, and can't replace the folder.)
+    assert!(rt; is_missing(&rt, "file_store_faults/folder.new"));
     assert!(rt;
         is_lost_with(
             &rt,

@@ -1,3 +1,4 @@
 pub mod LevelTexts
+pub mod Seeds
 pub mod SizedTexts
 pub mod Workers

@@ -1,3 +1,4 @@
 pub mod Descriptions
 pub mod Faults
 pub mod Options
+pub mod Seeds

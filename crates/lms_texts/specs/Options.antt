@@ -1,6 +1,7 @@
 -- The texts of options.
-use Rattle.std.specs.Prelude.{ℕ, ◌≡◌, ◌<◌, ◌≤◌, List, length}
+use Rattle.std.specs.Prelude.{ℕ, ◌≡◌, ◌<◌, ◌≤◌, List, Ok, length}
 use Rattle.std.specs.Fmt.{decimal}
+use Rattle.hex.specs.Hex.{decode_of}
 use Rattle.lms_params.specs.declared.lms_type.LmsType.{LmsType}
 use Rattle.lms_params.specs.declared.ots_type.OtsType.{OtsType}
 use Rattle.lms_hss.specs.Texts.{levels_text}
@@ -16,3 +17,7 @@ IsWorkers text workers = (1 ≤ workers) × (workers ≤ most_workers) × (text 
 
 abbrev pub AreWorkers : List ℕ → Type 0
 AreWorkers text = (workers : ℕ) × IsWorkers text workers
+
+-- the text is n bytes in hexadecimal
+abbrev pub IsHexOf : ℕ → List ℕ → Type 0
+IsHexOf n text = (bytes : List ℕ) × (length bytes ≡ n) × (decode_of text ≡ Ok bytes)

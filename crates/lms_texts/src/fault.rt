@@ -1,7 +1,8 @@
-//! Why levels are not read.
+//! Why levels or a seed are not read.
 ghost use Rattle.std.specs.Prelude.{Some};
-ghost use Rattle.lms_texts.specs.Faults.{levels_fault_text};
+ghost use Rattle.lms_texts.specs.Faults.{levels_fault_text, seed_fault_text};
 
+use lms_lines::JobsFault;
 use lms_params::OutOfMemory;
 use std::alloc::AllocError;
 use std::{error, fmt};
@@ -38,3 +39,25 @@ impl From<AllocError> for LevelsTextFault {
         LevelsTextFault::OutOfMemory
     }
 }
+
+/// Why there is no seed.
+#[derive(Clone, Copy, Debug, PartialEq, Eq)]
+pub enum SeedFault {
+    /// The option's text, or the input, is not 64 hexadecimal digits.
+    Bad,
+    /// The input can't be read.
+    Read,
+}
+
+impl fmt::Display for SeedFault {
+    ghost output = { λ fault. Some (seed_fault_text fault) };
+
+    fn fmt<W: fmt::Write>(&self, f: &mut fmt::Formatter<W>) -> fmt::Result {
+        match *self {
+            SeedFault::Bad => f.write_str("bad seed"),
+            SeedFault::Read => write!(f, "{}", JobsFault::Read),
+        }
+    }
+}
+
+impl error::Error for SeedFault {}

@@ -8,6 +8,7 @@ mod memory;
 mod meter;
 mod recorded;
 mod replays;
+mod seeds;
 mod states;
 
 use lms_cli::run::run;

@@ -1,6 +1,7 @@
 //! The files of the disk.
-ghost use Rattle.std.specs.Prelude.{[], ◌≡◌, ◌≢◌, ℕ, List, None, IfOk, IfSome, OnOk};
+ghost use Rattle.std.specs.Prelude.{[], ◌∷◌, ◌≡◌, ◌≢◌, ℕ, List, None, IfOk, IfSome, OnOk};
 ghost use Rattle.std.specs.IoError.{error_kind};
+ghost use Rattle.lms_world.specs.Events.{Written};
 
 use crate::contents::{Contents, Taker};
 use crate::fault::WorldFault;
@@ -8,7 +9,7 @@ use crate::log::{Call, Log, OpenedAs, PutIn, TakenOut};
 use crate::printer::{Beginning, Printer};
 use crate::world::World;
 use lms_blocks::read_block;
-use lms_file_store::{FileStore, StateLock, TryLock, lock};
+use lms_file_store::{FileStore, StateLock, TryLock, lock, write_flushed, write_output};
 use lms_params::OutOfMemory;
 use std::alloc::Global;
 use std::fs::OpenFile;
@@ -38,6 +39,24 @@ impl<'a, R: Files> DiskWorld<'a, R> {
             files,
             log: Log::new(),
         }
+    }
+
+    /// Logs a write of a file, which came to this.
+    fn written(
+        &mut self,
+        name: &str,
+        bytes: &[u8],
+        answer: io::Result<()>,
+    ) -> Result<(), WorldFault>
+        ensures { self.new.log ≡ Written name.now bytes.now result ∷ self.old.log }
+    {
+        let answer = answer.map_err(|error| fault_of(&error));
+        self.log = self.log.and(&Call::Written {
+            name,
+            bytes,
+            answer,
+        });
+        answer
     }
 }
 
@@ -91,13 +110,13 @@ where
     }
 
     fn write(&mut self, name: &str, bytes: &[u8]) -> Result<(), WorldFault> {
-        let answer = fs::write(self.files, name, bytes).map_err(|error| fault_of(&error));
-        self.log = self.log.and(&Call::Written {
-            name,
-            bytes,
-            answer,
-        });
-        answer
+        let answer = write_output(self.files, name, bytes);
+        self.written(name, bytes, answer)
+    }
+
+    fn write_flushed(&mut self, alloc: Global, name: &str, bytes: &[u8]) -> Result<(), WorldFault> {
+        let answer = write_flushed(self.files, alloc, name, bytes);
+        self.written(name, bytes, answer)
     }
 
     fn lock(

@@ -284,6 +284,15 @@ impl World for MemoryWorld {
         answer
     }
 
+    fn write_flushed(
+        &mut self,
+        _alloc: Global,
+        name: &str,
+        bytes: &[u8],
+    ) -> Result<(), WorldFault> {
+        self.write(name, bytes)
+    }
+
     fn lock(&mut self, _alloc: Global, name: &str) -> Result<Option<MemoryLock>, OutOfMemory> {
         if self.in_use {
             self.log = self.log.and(&Call::InUse { name });

@@ -59,6 +59,11 @@ pub trait World {
         ensures logged { events self.new ≡ Written name.now bytes.now result ∷ events self.old }
         ensures acts { Does (Written name.now bytes.now result) (memory self.old) (memory self.new) };
 
+    /// The same, and flushes the file where that can be done: a loss of power leaves it then.
+    fn write_flushed(&mut self, alloc: Global, name: &str, bytes: &[u8]) -> Result<(), WorldFault>
+        ensures logged { events self.new ≡ Written name.now bytes.now result ∷ events self.old }
+        ensures acts { Does (Written name.now bytes.now result) (memory self.old) (memory self.new) };
+
     /// Locks the state of this name, without waiting. `None` where the lock is not available,
     /// `OutOfMemory` where memory for it was refused.
     fn lock(&mut self, alloc: Global, name: &str) -> Result<Option<Self::Lock>, OutOfMemory>

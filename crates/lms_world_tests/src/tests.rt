@@ -15,7 +15,7 @@ use std::{fs, io};
 const MOST: usize = 1000;
 
 /// Files that give and take few bytes at once, whose reads are interrupted every second time, and
-/// that say nothing of a name.
+/// that say nothing of a name itself.
 #[derive(Drop)]
 struct PoorFiles<'a, R: Files> {
     files: &'a R,
@@ -99,8 +99,8 @@ impl<'a, R: Files> Files for PoorFiles<'a, R> {
         self.files.open_dir(path)
     }
 
-    fn metadata(&self, _path: &str) -> io::Result<Metadata> {
-        Err(io::Error::from(ErrorKind::PermissionDenied))
+    fn metadata(&self, path: &str) -> io::Result<Metadata> {
+        self.files.metadata(path)
     }
 
     fn symlink_metadata(&self, _path: &str) -> io::Result<Metadata> {
@@ -211,6 +211,11 @@ fn writes<W: World>(world: &mut W, name: &str, bytes: &[u8]) -> bool {
     world.write(name, bytes).is_ok()
 }
 
+/// The same, where the file is to be flushed.
+fn flushes<W: World>(alloc: Global, world: &mut W, name: &str, bytes: &[u8]) -> bool {
+    world.write_flushed(alloc, name, bytes).is_ok()
+}
+
 /// Whether the file of a name holds these bytes.
 fn holds(rt: &HostRuntime, name: &str, bytes: &[u8]) -> bool {
     match fs::read(rt, name) {
@@ -255,6 +260,15 @@ fn a_large_file_is_whole(rt: HostRuntime) -> Result<(), Fail> {
     fs::remove_file(&rt, LARGE)?;
     assert!(rt; writes(&mut DiskWorld::new(&poor), LARGE, text.as_bytes()));
     assert!(rt; holds(&rt, LARGE, text.as_bytes()));
+    assert!(rt;
+        flushes(
+            rt.alloc(),
+            &mut DiskWorld::new(&poor),
+            LARGE,
+            b"a public key"
+        )
+    );
+    assert!(rt; holds(&rt, LARGE, b"a public key"));
     fs::remove_dir_all(&rt, "disk_world_large")?;
     Ok(())
 }

@@ -1,6 +1,6 @@
 //! What the program's usage promises, over clap's definition of it.
 
-ghost use Rattle.lms_cli.specs.UsageArguments.{BatchIsTaken, InfoIsTaken, KeygenIsTaken, SignIsTaken, VerifyIsTaken};
+ghost use Rattle.lms_cli.specs.UsageArguments.{BatchIsTaken, InfoIsTaken, KeygenIsTaken, PublicIsTaken, SignIsTaken, VerifyIsTaken};
 
 /// `keygen --levels=L --seed=S --id=I --state=K --public=P` is taken for any five texts, as
 /// `keygen` with these.
@@ -11,6 +11,11 @@ pub fn keygen_is_taken()
 /// `info --state=K` is taken for any text, as `info` on K.
 pub fn info_is_taken()
     ensures { InfoIsTaken }
+{}
+
+/// `public --state=K --public=P` is taken for any two texts, as `public` with these.
+pub fn public_is_taken()
+    ensures { PublicIsTaken }
 {}
 
 /// `sign --state=K --random=R --message=M --out=S` is taken for any four texts, as `sign` with

@@ -1,10 +1,10 @@
 //! What the arguments may ask for.
 
 /// What the program is asked to do.
-#[derive(Debug, Drop)]
+#[derive(Drop)]
 pub enum Command {
     /// Make a key of these levels from a seed and an identifier, both in hexadecimal, and write its
-    /// state and its public key to two files.
+    /// state and its public key to two files. The seed `-` is on standard input.
     Keygen {
         levels: String,
         seed: String,
@@ -15,6 +15,11 @@ pub enum Command {
     /// Describe the key whose state is in this file.
     Info {
         state: String,
+    },
+    /// Write the public key of the key whose state is in a file to another file.
+    Public {
+        state: String,
+        public: String,
     },
     /// Sign the message in a file by the key whose state is in a file, with the randomizer `random`
     /// in hexadecimal, and write the signature to the file `out`. All but `random` name files.

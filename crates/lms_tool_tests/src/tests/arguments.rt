@@ -1,7 +1,7 @@
 //! The arguments of commands, and levels of keys.
 use lms_params::{LmsType, OtsType};
 
-const SEED: &str = "1111111111111111111111111111111111111111111111111111111111111111";
+pub(super) const SEED: &str = "1111111111111111111111111111111111111111111111111111111111111111";
 
 const ID: &str = "22222222222222222222222222222222";
 
@@ -22,6 +22,15 @@ pub(super) const CHEAP_TWICE: [(LmsType, OtsType); 2] = [
 
 pub(super) const INFO: [&str; 4] = ["lms_tool", "info", "--state", "key.state"];
 
+pub(super) const PUBLIC: [&str; 6] = [
+    "lms_tool",
+    "public",
+    "--state",
+    "key.state",
+    "--public",
+    "key.pub",
+];
+
 pub(super) const SIGN: [&str; 10] = [
     "lms_tool",
     "sign",
@@ -37,13 +46,18 @@ pub(super) const SIGN: [&str; 10] = [
 
 /// The arguments that make a key of these levels.
 pub(super) fn keygen(levels: &str) -> [&str; 12] {
+    keygen_by(levels, SEED)
+}
+
+/// The same, by this option for the seed.
+pub(super) fn keygen_by<'a>(levels: &'a str, seed: &'a str) -> [&'a str; 12] {
     [
         "lms_tool",
         "keygen",
         "--levels",
         levels,
         "--seed",
-        SEED,
+        seed,
         "--id",
         ID,
         "--state",

@@ -1,5 +1,5 @@
 //! States and files that fail, in memory.
-use super::arguments::{INFO, ONE, SIGN, keygen};
+use super::arguments::{INFO, ONE, PUBLIC, SIGN, keygen};
 use super::states::{is_with, keyed, store_at};
 use super::{fails_with, says};
 use lms_book::{Left, MemoryStore};
@@ -32,6 +32,7 @@ fn is_unread(
 fn cannot_read_the_state(rt: HostRuntime) -> Result<(), Fail> {
     assert!(rt; is_unread(&rt, &INFO)?);
     assert!(rt; is_unread(&rt, &SIGN)?);
+    assert!(rt; is_unread(&rt, &PUBLIC)?);
     Ok(())
 }
 
@@ -160,5 +161,29 @@ fn leaves_a_state(
 fn cannot_write_a_public_key(rt: HostRuntime) -> Result<(), Fail> {
     assert!(rt; leaves_a_state(&rt, WorldFault::Device, 6, UNWRITTEN)?);
     assert!(rt; leaves_a_state(&rt, WorldFault::OutOfMemory, 5, NO_MEMORY)?);
+    Ok(())
+}
+
+/// Whether a `public` from index 5 on that can't write its file ends with this status and this line,
+/// and leaves the state.
+fn fails_to_publish(
+    rt: &(impl Threads + Wait + AllocGlobal + Sync),
+    fault: WorldFault,
+    status: u8,
+    line: &str,
+) -> Result<bool, Fail> {
+    let mut world = keyed(rt.alloc(), &ONE, 5)?;
+    world.fail("key.pub", fault)?;
+    let failed = fails_with(rt, &PUBLIC, &mut world, status, line);
+    Ok(failed && is_with(&world, &ONE, 5, 0, 0))
+}
+
+#[test]
+fn cannot_write_a_public_key_again(rt: HostRuntime) -> Result<(), Fail> {
+    assert!(rt; fails_to_publish(&rt, WorldFault::Device, 6, UNWRITTEN)?);
+    assert!(rt; fails_to_publish(&rt, WorldFault::OutOfMemory, 5, NO_MEMORY)?);
+    let mut world = keyed(rt.alloc(), &ONE, 5)?;
+    assert!(rt; says(&rt, &PUBLIC, &mut world, 0, "capacity 32\n"));
+    assert!(rt; is_with(&world, &ONE, 5, 0, 0));
     Ok(())
 }

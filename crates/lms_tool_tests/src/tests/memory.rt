@@ -1,5 +1,5 @@
 //! Commands to which memory is refused once, where it is.
-use super::arguments::{CHEAP_TWICE, INFO, SIGN, keygen};
+use super::arguments::{CHEAP_TWICE, INFO, PUBLIC, SIGN, keygen};
 use super::states::is_with;
 use super::{ProgramEnd, VERIFY, end_of};
 use lms_world::{MemoryWorld, World};
@@ -112,6 +112,7 @@ fn refused_memory_is_said(rt: HostRuntime) -> Result<(), Fail> {
     assert!(rt; signs(&rt, &mut world)?);
     let before = used(&world)?;
     assert!(rt; ends_once(&rt, &INFO, &mut world, 0));
+    assert!(rt; ends_once(&rt, &PUBLIC, &mut world, 0));
     let status = verified(rt.alloc(), &mut world);
     assert!(rt; ends_once(&rt, &VERIFY, &mut world, status));
     assert!(rt; used(&world)? == before);

@@ -77,6 +77,14 @@ impl<W: World<Store = MemoryStore>> World for Recorded<W> {
         answer
     }
 
+    fn write_flushed(&mut self, alloc: Global, name: &str, bytes: &[u8]) -> Result<(), WorldFault> {
+        let answer = self.world.write_flushed(alloc, name, bytes);
+        if let (Ok(()), Ok(change)) = (answer, file_change(self.alloc, name, bytes)) {
+            let _ = self.changes.push(change);
+        }
+        answer
+    }
+
     fn lock(&mut self, alloc: Global, name: &str) -> Result<Option<W::Lock>, OutOfMemory> {
         self.world.lock(alloc, name)
     }

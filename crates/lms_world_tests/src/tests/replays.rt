@@ -59,8 +59,10 @@ fn look(alloc: Global, world: &mut MemoryWorld, lock: &MemoryLock, round: &Round
 
 /// Makes the calls of a round. The file of the name `broken` can't be written meanwhile.
 fn play(alloc: Global, world: &mut MemoryWorld, round: &Round) -> Result<bool, Fail> {
+    world.write_flushed(alloc, round.name, b"older")?;
     world.write(round.name, round.file)?;
-    let refused = world.write("broken", round.file).is_err();
+    let refused = world.write("broken", round.file).is_err()
+        && world.write_flushed(alloc, "broken", round.file).is_err();
     let Some(lock) = world.lock(alloc, "state")? else {
         return Ok(false);
     };

@@ -1,7 +1,7 @@
 use Rattle.std.proofs.Common.{◌≡◌, rules}
 use Rattle.std.proofs.lemmas.Result.{IfOk-weaker}
 use Rattle.clap.specs.Words.{app_of, with_subcommand}
-use Rattle.lms_cli.specs.Application.{bare_app, batch, info, keygen, shape_for, sign, verify}
+use Rattle.lms_cli.specs.Application.{bare_app, batch, info, keygen, public_key, shape_for, sign, verify}
 use Rattle.lms_cli.proofs.Building.{with_command}
 use Rattle.lms_cli.proofs.command.application.Goals as goal
 
@@ -10,16 +10,19 @@ returns c =
     let bare : app_of c.subcommand_required.result ≡ bare_app = search rules in
     let one = with_subcommand bare_app (shape_for keygen) in
     let two = with_subcommand one (shape_for info) in
-    let three = with_subcommand two (shape_for sign) in
-    let four = with_subcommand three (shape_for batch) in
+    let three = with_subcommand two (shape_for public_key) in
+    let four = with_subcommand three (shape_for sign) in
+    let five = with_subcommand four (shape_for batch) in
     let with_keygen = with_command bare_app keygen _ _ _ bare c.in_ok-keygen_application.ensures.app c.in_ok-keygen_application.ensures.local
     c.in_ok-subcommand.ensures in
     let with_info = with_command one info _ _ _ with_keygen c.in_ok-info_application.ensures.app c.in_ok-info_application.ensures.local
     c.in_ok-subcommand-2.ensures in
-    let with_sign = with_command two sign _ _ _ with_info c.in_ok-sign_application.ensures.app c.in_ok-sign_application.ensures.local
+    let with_public = with_command two public_key _ _ _ with_info c.in_ok-public_application.ensures.app c.in_ok-public_application.ensures.local
     c.in_ok-subcommand-3.ensures in
-    let with_batch = with_command three batch _ _ _ with_sign c.in_ok-batch_application.ensures.app c.in_ok-batch_application.ensures.local
+    let with_sign = with_command three sign _ _ _ with_public c.in_ok-sign_application.ensures.app c.in_ok-sign_application.ensures.local
     c.in_ok-subcommand-4.ensures in
-    IfOk-weaker c.subcommand-5.result _ _
-    (λ whole adds. with_command four verify _ _ whole with_batch c.in_ok-verify_application.ensures.app c.in_ok-verify_application.ensures.local adds)
-    c.subcommand-5.ensures
+    let with_batch = with_command four batch _ _ _ with_sign c.in_ok-batch_application.ensures.app c.in_ok-batch_application.ensures.local
+    c.in_ok-subcommand-5.ensures in
+    IfOk-weaker c.subcommand-6.result _ _
+    (λ whole adds. with_command five verify _ _ whole with_batch c.in_ok-verify_application.ensures.app c.in_ok-verify_application.ensures.local adds)
+    c.subcommand-6.ensures

@@ -1,4 +1,4 @@
-use Rattle.std.proofs.Common.{inl, inr, refl}
+use Rattle.std.proofs.Common.{inl, inr, refl, sym, ⊎_elim, ◌∙◌}
 use Rattle.clap.proofs.TakesLemmas.{passed_up}
 use Rattle.lms_cli.proofs.Ending.{failed_as, signed_as}
 use Rattle.lms_cli.proofs.run.obey.Goals as goal
@@ -47,7 +47,31 @@ returns-in_err-make_key-in-Keygen-clause-log_failed g c =
     rw c.in-Keygen.is (passed_up _ _ _ c.from_residual-in_err-make_key-in-Keygen.ensures.1
     (inr (c.in_ok-key-in-Keygen.key, key, failed)))
 
+pub returns-in_ok-publish_key-in-Public-clause-logged : goal.returns-in_ok-publish_key-in-Public-clause-logged
+returns-in_ok-publish_key-in-Public-clause-logged g c =
+    let logged = rw (c.deref-in-Public.ensures, c.deref-in-Public-2.ensures) at
+    c.in_ok-publish_key-in-Public.ensures.logged in
+    rw c.in-Public.is (refl, logged)
+
+pub returns-in_err-publish_key-in-Public-clause-log_failed : goal.returns-in_err-publish_key-in-Public-clause-log_failed
+returns-in_err-publish_key-in-Public-clause-log_failed g c =
+    let failed = rw (c.deref-in-Public.ensures, c.deref-in-Public-2.ensures) at
+    c.in_err-publish_key-in-Public.ensures.log_failed in
+    rw c.in-Public.is (passed_up _ _ _ c.from_residual-in_err-publish_key-in-Public.ensures.1 failed)
+
 pub returns-in_err-describe-in-Info-clause-log_failed : goal.returns-in_err-describe-in-Info-clause-log_failed
 returns-in_err-describe-in-Info-clause-log_failed g c =
     let failed = rw c.deref-in-Info.ensures at c.in_err-describe-in-Info.ensures.log_failed in
     rw c.in-Info.is (passed_up _ _ _ c.from_residual-in_err-describe-in-Info.ensures.1 failed)
+
+pub returns-in_err-key-in-Keygen-clause-unread : goal.returns-in_err-key-in-Keygen-clause-unread
+returns-in_err-key-in-Keygen-clause-unread g c =
+    ⊎_elim inl (λ asks. inr (rw c.in-Keygen.is (sym c.deref-in-Keygen.ensures ∙ asks))) c.key_from.ensures.unread
+
+pub returns-in_err-make_key-in-Keygen-clause-unread : goal.returns-in_err-make_key-in-Keygen-clause-unread
+returns-in_err-make_key-in-Keygen-clause-unread g c =
+    ⊎_elim inl (λ asks. inr (rw c.in-Keygen.is (sym c.deref-in-Keygen.ensures ∙ asks))) c.key_from.ensures.unread
+
+pub returns-in_ok-make_key-in-Keygen-clause-unread : goal.returns-in_ok-make_key-in-Keygen-clause-unread
+returns-in_ok-make_key-in-Keygen-clause-unread g c =
+    ⊎_elim inl (λ asks. inr (rw c.in-Keygen.is (sym c.deref-in-Keygen.ensures ∙ asks))) c.key_from.ensures.unread

@@ -1,4 +1,4 @@
-use Rattle.std.proofs.Common.{subst, subst₂, ap, codes, refl, List, ℕ, Some, Ok, false, ◌≡◌, ◌∷◌, ◌∙◌}
+use Rattle.std.proofs.Common.{subst, ap, refl, List, ℕ, Some, Ok, false, ◌≡◌, ◌∷◌, ◌∙◌}
 use Rattle.std.specs.Prelude.{IfErr, OnOk}
 use Rattle.std.proofs.lemmas.Result.{IfErr-weaker, on_ok_weaker}
 use Rattle.lms_spec.specs.Profile.{hss_public_key}
@@ -7,8 +7,7 @@ use Rattle.lms_hss.specs.declared.key.HssKey.{HssKey}
 use Rattle.lms_kept.specs.Ways.{Way}
 use Rattle.lms_world.specs.Events.{Asked, Writing, Written}
 use Rattle.lms_world.specs.Names.{Bytes}
-use Rattle.lms_texts.specs.Descriptions.{number_line}
-use Rattle.lms_commands.specs.KeygenLogs.{AreGenuineTrees, StoresKey, WritesKey}
+use Rattle.lms_commands.specs.KeygenLogs.{AreGenuineTrees, StoresKey, WritesKey, capacity_line}
 use Rattle.lms_commands.specs.Logs.{FailsToPublish, LogsKeeping, Publishes, WorldCalls}
 use Rattle.lms_commands.proofs.Logged.{unmade}
 use Rattle.lms_world.proofs.Following.{one_call, both_follow}
@@ -36,7 +35,7 @@ returns-clause-logged g c =
     let new = g.W.World.events c.publish.new.world in
     let public = hss_public_key (hss_key_of c.args.key) in
     let genuine : AreGenuineTrees c.args.key (Some c.in_ok-trees.trees) = (c.in_ok-trees.ensures.way, c.in_ok-trees.ensures.key, c.in_ok-trees.ensures.genuine) in
-    let is = c.public.ensures.right c.in_ok-trees.ensures.genuine ∙ ap (λ (key : HssKey). hss_public_key (hss_key_of key)) c.in_ok-trees.ensures.key in
+    let is = c.public-text.ensures.right c.in_ok-trees.ensures.genuine ∙ ap (λ (key : HssKey). hss_public_key (hss_key_of key)) c.in_ok-trees.ensures.key in
     on_ok_weaker c.publish.result
     (λ published. (
       record {
@@ -47,10 +46,10 @@ returns-clause-logged g c =
       },
       published.1,
     ))
-    (subst₂
-    (λ (bytes : List ℕ) (n : ℕ). OnOk c.publish.result
-    (Publishes c.args.public.now bytes (number_line (codes "capacity") n) before c.publish.new.output kept new))
-    is c.capacity.ensures.capacity c.publish.ensures.published)
+    (subst
+    (λ (bytes : List ℕ). OnOk c.publish.result
+    (Publishes c.args.public.now bytes (capacity_line c.args.key) before c.publish.new.output kept new))
+    is c.publish.ensures.published)
 
 pub returns-clause-log_failed : goal.returns-clause-log_failed
 returns-clause-log_failed g c =
@@ -61,15 +60,15 @@ returns-clause-log_failed g c =
     let kept = g.W.World.events c.keep_trees.new.world in
     let new = g.W.World.events c.publish.new.world in
     let genuine : AreGenuineTrees c.args.key (Some c.in_ok-trees.trees) = (c.in_ok-trees.ensures.way, c.in_ok-trees.ensures.key, c.in_ok-trees.ensures.genuine) in
-    let is = c.public.ensures.right c.in_ok-trees.ensures.genuine ∙ ap (λ (key : HssKey). hss_public_key (hss_key_of key)) c.in_ok-trees.ensures.key in
+    let is = c.public-text.ensures.right c.in_ok-trees.ensures.genuine ∙ ap (λ (key : HssKey). hss_public_key (hss_key_of key)) c.in_ok-trees.ensures.key in
     IfErr-weaker c.publish.result _ _
     (unmade c.args.key c.args.public.now before printed old kept new
     (writes_so c.args.key c.args.public.now c.in_ok-trees.trees old _ stored kept genuine
     c.if-exists.ensures.logged c.in_ok-store_key.ensures.logged c.keep_trees.ensures.logged))
-    (subst₂
-    (λ (bytes : List ℕ) (n : ℕ). IfErr c.publish.result
-    (λ fault. FailsToPublish c.args.public.now bytes (number_line (codes "capacity") n) before printed fault kept new))
-    is c.capacity.ensures.capacity c.publish.ensures.failed)
+    (subst
+    (λ (bytes : List ℕ). IfErr c.publish.result
+    (λ fault. FailsToPublish c.args.public.now bytes (capacity_line c.args.key) before printed fault kept new))
+    is c.publish.ensures.failed)
 
 pub returns-clause-follows : goal.returns-clause-follows
 returns-clause-follows g c =
