@@ -14,7 +14,7 @@ import re
 
 from tests.harness import Wrong, add_test, holds
 from tests.merge_check.made_up_trees import MadeUpTree
-from tests.program import BATCH, INFO, NODES, index_in, job_lines, keygen, preload, put, run, sign, verify
+from tests.program import BATCH, INFO, NODES, index_in, job_lines, keygen, preload, public, put, run, sign, verify
 from tests.reference import IDENTIFIER, SEED, SUBTREE, checked, image, kept, kept_parts, number, public_of, signature_of
 
 ONE, TWO, TALL = ((5, 1),), ((5, 1),) * 2, ((15, 1), *((5, 1),) * 4)
@@ -172,7 +172,8 @@ def refuses_each(command):
 
 
 COMMANDS = {
-    "keygen": Command(keygen("5/1,5/1"), TWO, {32: 4}, index=None, uses=0),
+    "keygen": Command(keygen("5/1,5/1"), TWO, {32: 5}, index=None, uses=0),
+    "public": Command(public(name="again.pub"), TWO, {32: 1}, uses=0),
     "info": Command(INFO, TWO, {}, uses=0),
     "verify": Command(verify(signature="old.sig"), TWO, {}, uses=0, files=with_signature),
     "sign by two trees": Command(sign(), TWO, {32: 3, 64: 1}),
