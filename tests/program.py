@@ -1,5 +1,5 @@
 """How tests run the program: its commands, what it is to print, its files, and what is loaded
-before it."""
+before it. Where EMULATED names a script that runs the program for aarch64, that is the program."""
 
 import fcntl
 import os
@@ -18,7 +18,11 @@ from tests.harness import TOP, Skipped, Wrong, holds
 from tests.reference import CHAINS, IDENTIFIER, RANDOMIZER, SEED, kept, signature_by, way_of
 from tests.seeds import input_of, keeps_secret
 
-PROGRAM = str(TOP / "crates/lms_tool/out/lms_tool")
+EMULATED = os.environ.get("EMULATED")
+PROGRAM = EMULATED or str(TOP / "crates/lms_tool/out/lms_tool")
+CROSS_COMPILER = (os.environ.get("CC_AARCH64") or "aarch64-linux-gnu-gcc").split()
+# What compiles a library that is loaded before the program.
+COMPILER = CROSS_COMPILER if EMULATED else ["cc"]
 # Who may not do what the tests want refused, where the user of the tests may do all.
 NOBODY = 65534
 NODES, DRAFT = "key.state.nodes", "key.state.nodes.new"
@@ -52,6 +56,21 @@ def verify(message="text", signature="text.sig", public="key.pub"):
 def public(state="key.state", name="key.pub"):
     """The arguments of a `public`."""
     return ["public", "--state", state, "--public", name]
+
+
+# The files that `join` reads, if no others are named.
+TO_JOIN = ["top.pub", "signer.end", "signer.pub", "signer.sig"]
+
+
+def join(public="top.pub", endorsement="signer.end", signer="signer.pub", signature="signer.sig", out="joined.sig"):
+    """The arguments of a `join`."""
+    read_so = ["--public", public, "--endorsement", endorsement, "--signer", signer, "--signature", signature]
+    return ["join", *read_so, "--out", out]
+
+
+def join_public(public="top.pub", signer="signer.pub", out="joined.pub"):
+    """The arguments of a `join-public`."""
+    return ["join-public", "--public", public, "--signer", signer, "--out", out]
 
 
 def job_lines(*messages, randomizer=RANDOMIZER):
@@ -238,8 +257,12 @@ def preload(*names, **settings):
     for name, library in zip(names, libraries):
         if os.path.exists(library):
             continue
-        if not shutil.which("cc"):
-            raise Wrong(f"tests/preload/{name}.c needs a C compiler, and there is no cc here")
-        command = ["cc", "-shared", "-fPIC", "-O1", "-o", library, TOP / f"tests/preload/{name}.c", "-ldl"]
+        if not shutil.which(COMPILER[0]):
+            raise Wrong(f"tests/preload/{name}.c needs a C compiler, and there is no {COMPILER[0]} here")
+        command = [*COMPILER, "-shared", "-fPIC", "-O1", "-o", library, TOP / f"tests/preload/{name}.c", "-ldl"]
         subprocess.run(command, check=True)
-    return {**os.environ, "LD_PRELOAD": " ".join(libraries), **{name: str(value) for name, value in settings.items()}}
+    loads = {"LD_PRELOAD": " ".join(libraries)}
+    if EMULATED:
+        # (The emulator is of this computer, and hands this on to the program.)
+        loads = {"QEMU_SET_ENV": f"LD_PRELOAD={' '.join(libraries)}"}
+    return {**os.environ, **loads, **{name: str(value) for name, value in settings.items()}}

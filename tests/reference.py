@@ -146,6 +146,22 @@ def signature_of(levels, index, message):
     return signature_by(way_of(levels, index), message)
 
 
+def joined(top, endorsement, signer, signature):
+    """The public key and the signature that are joined of a top public key, its endorsement of a
+    signer's key, that public key and a signature by it."""
+    levels = top[3] + signer[3]
+    return number(levels, 4) + top[4:], number(levels - 1, 4) + endorsement[4:] + signer[4:] + signature[4:]
+
+
+def parts_to_join(top_levels, signer_levels, message=b"abc"):
+    """A top key of these levels, its endorsement of a signer's key of those, that key, and its signature
+    of a message."""
+    above, below = b"\x44" * 32, b"\x55" * 32
+    signer = public_of(signer_levels, below)
+    endorsement = signature_by(way_of(top_levels, 7, seed=above), signer[4:])
+    return [public_of(top_levels, above), endorsement, signer, signature_by(way_of(signer_levels, 3, seed=below), message)]
+
+
 def sealed(contents):
     """These bytes and their hash."""
     return contents + digest(contents)
@@ -156,13 +172,13 @@ def typecodes(levels):
     return [code for height, width in levels for code in (HEIGHTS[height], CHAINS[width][0])]
 
 
-def image(levels, *numbers, version=2, types=None, seed=SEED):
+def image(levels, *numbers, version=2, types=None, seed=SEED, identifier=IDENTIFIER):
     """The state image of the key with these levels, and with its numbers: the counter, and in
     version 2 the openings and the burnt indices."""
     types = types or typecodes(levels)
     numbers = [*numbers, 0, 0][: 1 if version == 1 else 3]
     head = b"HSSK" + number(version, 4) + number(len(types) // 2, 4) + b"".join(number(it, 4) for it in types)
-    return sealed(head + seed + IDENTIFIER + b"".join(number(it, 8) for it in numbers))
+    return sealed(head + seed + identifier + b"".join(number(it, 8) for it in numbers))
 
 
 def kept_parts(index, way, version=1):

@@ -11,7 +11,7 @@ import subprocess
 from tests import harness
 from tests.harness import TOP, Wrong, checks, holds
 from tests.merge_check.crates import KIT, libraries_of, take_left
-from tests.program import PROGRAM, is_plain, keygen, put, read, sign, verify
+from tests.program import PROGRAM, is_plain, join, join_public, keygen, put, read, sign, verify
 
 EXAMPLES = TOP / "examples"
 PUBLIC, MESSAGE, SIGNATURE = EXAMPLES / "release.pub", EXAMPLES / "firmware.bin", EXAMPLES / "firmware.sig"
@@ -138,6 +138,19 @@ def judges_crosswise(counter, levels, head):
             os.remove(name)
 
 
+def judges_joined(counter):
+    """What is joined of a signer's signature and a top key's endorsement of its key."""
+    counter.check("a top key", make_key, "top", "5/2", "8", "9")
+    counter.check("a signer's key", make_key, "signer", "5/4", "a", "b")
+    put("signer.key", read("signer.pub")[4:])
+    counter.check("the top key signs the signer's", sign_by, "top", "signer.key")
+    counter.check("the signer signs", sign_by, "signer", MESSAGE)
+    counter.check("the signatures are joined", said_by, PROGRAM, *join("top.pub", "top.sig", "signer.pub", "signer.sig"))
+    counter.check("the keys are joined", said_by, PROGRAM, *join_public("top.pub", "signer.pub"))
+    counter.check("the joined signature", all_heads, "valid", "joined.pub", MESSAGE, "joined.sig", "head")
+    counter.check("the joined signature under the signer's key", all_heads, "invalid", "signer.pub", MESSAGE, "joined.sig", "none")
+
+
 def is_file(name, other):
     """Two files have the same bytes."""
     holds(read(name) == read(other), f"{name} has other bytes")
@@ -155,6 +168,7 @@ def judges_signed(counter):
         counter.check(f"two levels, {length} bytes, under a key of one", all_ways, "invalid", PUBLIC, "message", "key.sig")
     judges_crosswise(counter, "5/8", "head")
     judges_crosswise(counter, "5/4,5/8", "none")
+    judges_joined(counter)
     counter.check("the example's key of two levels", make_key, "two", "5/8,5/8", "5", "6")
     counter.check("the example of two levels is signed", sign_by, "two", MESSAGE)
     counter.check("the example's public key is that file", is_file, "two.pub", TWO_PUBLIC)

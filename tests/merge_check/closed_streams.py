@@ -5,8 +5,11 @@ import os
 import subprocess
 
 from tests.harness import TOP, Skipped, add_test, holds, test
-from tests.program import BATCH, INFO, PROGRAM, ends, fails, has, index_in, job_lines, keygen, preload, public, put, read, run, sign, verify
-from tests.reference import SEED, image, public_of
+from tests.program import (
+    BATCH, EMULATED, INFO, PROGRAM, ends, fails, has, index_in, job_lines, join, join_public, keygen, preload, public, put, read, run, sign,
+    verify,
+)
+from tests.reference import SEED, image, joined, public_of, signature_of
 
 LEVELS = ((5, 8),)
 SETS = ["", "0", "1", "2", "01", "02", "12", "012"]
@@ -77,6 +80,19 @@ def makes_a_key_of_an_input(closed):
     files_are(0, 0)
 
 
+def joins_two(closed):
+    """`join` and `join-public`, which print nothing: the key itself is a top key and a signer's."""
+    key = public_of(LEVELS)
+    put("key.end", signature_of(LEVELS, 9, key[4:]))
+    expect(closed, run_closed(closed, join("key.pub", "key.end", "key.pub", "1.sig")), 0)
+    expect(closed, run_closed(closed, join_public("key.pub", "key.pub")), 0)
+    public_key, signature = joined(key, read("key.end"), key, read("1.sig"))
+    has("joined.pub", public_key)
+    has("joined.sig", signature)
+    for name in ("key.end", "joined.pub", "joined.sig"):
+        os.remove(name)
+
+
 def works_without(closed):
     """Every command, with the streams of these numbers closed."""
     shown = run(["--help"]).stdout
@@ -88,6 +104,7 @@ def works_without(closed):
     prints(closed, public(name="1.pub"), 0, "capacity 32\n")
     has("1.pub", read("key.pub"))
     os.remove("1.pub")
+    joins_two(closed)
     prints(closed, verify("text", "1.sig"), 0, "valid\n")
     prints(closed, verify("text", "key.pub"), 1, "invalid\n")
     prints(closed, ["--help"], 0, shown)
@@ -125,7 +142,7 @@ def lacks_dev_null(closed):
     put("key.state", image(LEVELS, 5))
     files = {name: (read(name), os.stat(name).st_mtime_ns) for name in os.listdir()}
     new = keygen(state="other", public="other.pub")
-    for arguments in (new, sign(), INFO, BATCH, verify("text", "text", "text"), ["--help"], ["none"]):
+    for arguments in (new, sign(), INFO, BATCH, verify("text", "text", "text"), join(), join_public(), ["--help"], ["none"]):
         ran = run([*words, PROGRAM, *arguments], program="unshare")
         found = (ran.returncode, ran.stdout, ran.stderr)
         wanted = (6, "", "" if "2" in closed else "error: cannot read input\n")
@@ -140,6 +157,8 @@ for numbers in ("", "0", "1", "012"):
 
 @test
 def the_script_leaves_the_streams_as_they_are():
+    if EMULATED:
+        raise Skipped("it starts a program of this computer")
     ends(keygen(), 0, "capacity 32\n")
     for index in range(2):
         ends(sign(out=f"{index}.sig"), 0, f"index {index}\n")
@@ -156,11 +175,6 @@ def ends_with_each_status():
         ends(sign(out=f"{index}.sig"), 0, f"index {index}\n")
     ends(verify("text", "text"), 1, "invalid\n")
     fails(verify(".", "text"), 6, "cannot read input")
-    # A message of 256 MiB in 16 MiB of addresses, which have the program and its libraries in them.
-    put("long", b"")
-    os.truncate("long", 256 << 20)
-    limited = ["-c", 'ulimit -v 16384; exec "$0" "$@"', PROGRAM]
-    ends([*limited, *verify("long", "0.sig")], 1, "invalid\n", program="sh")
     fails(keygen("5/3", state="other", public="other"), 2, "bad levels")
     fails(["info", "--state", "none"], 3, "cannot read state")
     for index in range(3, 32):
@@ -169,3 +183,16 @@ def ends_with_each_status():
     fails(INFO, 5, "out of memory", env=preload("refuse", REFUSE=1))
     fails(verify("text", "none"), 6, "cannot read input")
     fails([b"\xff"], 6, "cannot read input")
+
+
+@test
+def verifies_256_mib_in_16_mib_of_addresses():
+    """Which have the program and its libraries in them."""
+    if EMULATED:
+        raise Skipped("an emulator takes more addresses")
+    ends(keygen(), 0, "capacity 32\n")
+    ends(sign(), 0, "index 0\n")
+    put("long", b"")
+    os.truncate("long", 256 << 20)
+    limited = ["-c", 'ulimit -v 16384; exec "$0" "$@"', PROGRAM]
+    ends([*limited, *verify("long", "text.sig")], 1, "invalid\n", program="sh")

@@ -3,15 +3,17 @@ operation alone fails.
 
 `stop.c`, which is loaded before the program, writes down each operation before it is done, and has
 one fail. All operations of `keygen`, of `public` over an older file, of `sign` by trees that it
-computes and by kept ones, and of `info` are compared one by one."""
+computes and by kept ones, of `info`, `join` and `join-public` are compared one by one."""
 
 import errno
 import itertools
 import os
 
 from tests.harness import add_test, holds, test
-from tests.program import DRAFT, INFO, NODES, Lock, ends, has, keeps, keygen, preload, public, put, read, run, sign, signs
-from tests.reference import image, kept, public_of, signature_of
+from tests.program import (
+    DRAFT, INFO, NODES, TO_JOIN, Lock, ends, has, join, join_public, keeps, keygen, preload, public, put, read, run, sign, signs,
+)
+from tests.reference import image, joined, kept, parts_to_join, public_of, signature_of
 
 LEVELS = ((5, 1),)
 STATE = "key.state"
@@ -50,6 +52,11 @@ def given(name):
     return [f"empty {name}", f"write {name}", f"flush {name}", f"resolve {name}", "open .", "flush ."]
 
 
+def taken(name, length=0):
+    """The operations by which a file of this length is read whole, 8 KiB at once."""
+    return [f"open {name}", f"look up {name}", *[f"read {name}"] * (2 + length // 8192)]
+
+
 def replaced(name, draft):
     """The operations by which a new file takes the place of another one."""
     return [f"remove {draft}", f"make {draft}", f"write {draft}", f"flush {draft}", f"rename {draft} to {name}"]
@@ -62,7 +69,7 @@ PLACED = 6
 LOCK = [f"open to write {STATE}.lock", f"lock {STATE}.lock"]
 
 STREAMS = Part(["open /dev/null"], NOT_READ)
-MESSAGE = Part(["open text", "look up text", "read text", "read text"], NOT_READ, range(4))
+MESSAGE = Part(taken("text"), NOT_READ, range(4))
 LOCKED = Part([f"resolve {STATE}", *LOCK], IN_USE, (0, 1))
 LOCKED_FIRST = Part([f"resolve {STATE}", f"look up {STATE}", *LOCK], IN_USE, (0, 2))
 NONE_THERE = Part([f"look up {STATE}"], (3, "state exists"))
@@ -77,6 +84,12 @@ PUBLIC_KEY = Part(["look up key.pub", *given("key.pub")], NOT_WRITTEN, range(7),
 PUBLIC_KEY_AGAIN = Part(["look up key.pub", "open key.pub", "read key.pub", *given("key.pub")], NOT_WRITTEN, range(9), special=5)
 PRINTED = Part(["write standard output"], NOT_WRITTEN)
 DESCRIBED = Part(["write standard output"] * 6, NOT_WRITTEN)
+# What is joined.
+PARTS = dict(zip(TO_JOIN, parts_to_join(LEVELS, LEVELS)))
+JOINED_KEY, JOINED = joined(*PARTS.values())
+READ_TO_JOIN = [Part(taken(name, len(part)), NOT_READ, range(5)) for name, part in PARTS.items()]
+JOINED_FILE = Part(["look up joined.sig", "empty joined.sig", "write joined.sig"], NOT_WRITTEN, range(3))
+JOINED_KEY_FILE = Part(["look up joined.pub", *given("joined.pub")], NOT_WRITTEN, range(7), special=3)
 
 
 def steps_in(parts):
@@ -86,11 +99,12 @@ def steps_in(parts):
 
 class Command:
     """A command with its parts, what it prints, the counter of the state before it, if any, and after
-    it, whether it finds nodes, and the name of an older file over which it writes."""
+    it, whether it finds nodes, the name of an older file over which it writes, and the other files
+    that it finds."""
 
-    def __init__(self, arguments, parts, output, counters, has_nodes=False, older=None):
+    def __init__(self, arguments, parts, output, counters, has_nodes=False, older=None, files=None):
         self.arguments, self.parts, self.output, self.counters = arguments, parts, output, counters
-        self.has_nodes, self.older = has_nodes, older
+        self.has_nodes, self.older, self.files = has_nodes, older, files or {}
 
     def states(self):
         """The state before it, or none, and after it."""
@@ -108,6 +122,8 @@ class Command:
             put(NODES, kept(LEVELS, KEPT))
         if self.older:
             put(self.older, bytes(60))
+        for name, contents in self.files.items():
+            put(name, contents)
 
     def run(self, **settings):
         """The operations of a run, by paths from here, and how it ended."""
@@ -179,7 +195,10 @@ PUBLIC = Command(public(), AGAIN, "capacity 32\n", (INDEX, INDEX), has_nodes=Tru
 SIGN_BY_TREES = Command(sign(), BY_TREES, f"index {INDEX}\n", (INDEX, INDEX + 1))
 SIGN_BY_NODES = Command(sign(), BY_NODES, f"index {INDEX}\n", (INDEX, INDEX + 1), has_nodes=True)
 DESCRIBE = Command(INFO, [STREAMS, LOCKED, STATE_READ, DESCRIBED], NUMBERS, (INDEX, INDEX), has_nodes=True)
-COMMANDS = {"keygen": KEYGEN, "public": PUBLIC, "sign by trees": SIGN_BY_TREES, "sign by kept trees": SIGN_BY_NODES, "info": DESCRIBE}
+LOCKING = {"keygen": KEYGEN, "public": PUBLIC, "sign by trees": SIGN_BY_TREES, "sign by kept trees": SIGN_BY_NODES, "info": DESCRIBE}
+JOIN = Command(join(), [STREAMS, *READ_TO_JOIN, JOINED_FILE], "", (INDEX, INDEX), files=PARTS)
+JOIN_KEYS = Command(join_public(), [STREAMS, *READ_TO_JOIN[::2], JOINED_KEY_FILE], "", (INDEX, INDEX), files=PARTS)
+COMMANDS = {**LOCKING, "join": JOIN, "join-public": JOIN_KEYS}
 
 
 def fails_at_each(command, number):
@@ -227,7 +246,7 @@ add_test("a public key failing with each other error", meets_each_error, KEYGEN,
 
 @test
 def asks_once_for_a_lock_that_another_has():
-    for command in COMMANDS.values():
+    for command in LOCKING.values():
         command.begin()
         at = command.parts.index(LOCKED_FIRST if command is KEYGEN else LOCKED)
         with Lock():
@@ -267,6 +286,10 @@ def reads_and_writes_byte_by_byte():
         elif command is PUBLIC:
             has(STATE, image(LEVELS, INDEX))
             has("key.pub", public_of(LEVELS))
+        elif command is JOIN:
+            has("joined.sig", JOINED)
+        elif command is JOIN_KEYS:
+            has("joined.pub", JOINED_KEY)
         elif command is not DESCRIBE:
             has_signed()
             has(NODES, kept(LEVELS, KEPT if command.has_nodes else INDEX))

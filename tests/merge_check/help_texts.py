@@ -16,13 +16,15 @@ Makes keys, signs and verifies with HSS/LMS (RFC 8554)
 Usage: lms_tool <COMMAND>
 
 Commands:
-  keygen  Makes a key from a seed
-  info    Describes a key
-  public  Writes a key's public key
-  sign    Signs a message
-  batch   Signs the job lines of standard input
-  verify  Prints whether a signature is valid
-  help    Print this message or the help of the given subcommand(s)
+  keygen       Makes a key from a seed
+  info         Describes a key
+  public       Writes a key's public key
+  sign         Signs a message
+  batch        Signs the job lines of standard input
+  verify       Prints whether a signature is valid
+  join         Joins a signature with a top key's endorsement of its key
+  join-public  Writes the public key of joined signatures
+  help         Print this message or the help of the given subcommand(s)
 
 Options:
   -h, --help  Print help
@@ -140,6 +142,46 @@ Example:
 Ends with status 0 for `valid`, 1 for `invalid`, and another where a file can't be read.
 """
 
+JOIN_HELP = """\
+Joins a signature with a top key's endorsement of its key
+
+Usage: lms_tool join --public <FILE> --endorsement <FILE> --signer <FILE> --signature <FILE> --out <FILE>
+
+Options:
+      --public <FILE>       The top public key, 60 bytes
+      --endorsement <FILE>  The top key's signature of the signer's key
+      --signer <FILE>       The signer's public key, 60 bytes
+      --signature <FILE>    A signature by the signer's key
+      --out <FILE>          Where the joined signature is written, in place of any older file
+  -h, --help                Print help
+
+Example:
+  tail -c 56 signer.pub > signer.key
+  lms_tool sign --state top.state --random "$(openssl rand -hex 32)" --message signer.key --out signer.endorsement
+  lms_tool join --public top.pub --endorsement signer.endorsement --signer signer.pub --signature firmware.sig --out joined.sig
+
+The endorsement is the top key's signature of the last 56 bytes of the signer's public key. Under the key that `join-public`
+makes, the joined signature is valid for the messages for which the signer's is. The top key must sign such keys and nothing
+else: 56 bytes that are one endorse it, whatever they were meant to be. Both keys have together at most 8 levels.
+"""
+
+JOIN_PUBLIC_HELP = """\
+Writes the public key of joined signatures
+
+Usage: lms_tool join-public --public <FILE> --signer <FILE> --out <FILE>
+
+Options:
+      --public <FILE>  The top public key, 60 bytes
+      --signer <FILE>  A signer's public key, 60 bytes
+      --out <FILE>     Where the public key is written, 60 bytes, in place of any older file
+  -h, --help           Print help
+
+Example:
+  lms_tool join-public --public top.pub --signer signer.pub --out joined.pub
+
+The key is the same for all signers' keys with as many levels.
+"""
+
 HELP_HELP = """\
 Print this message or the help of the given subcommand(s)
 
@@ -158,6 +200,8 @@ TEXTS = [
     (SIGN_HELP, ["sign --help"]),
     (BATCH_HELP, ["batch --help"]),
     (VERIFY_HELP, ["verify --help", "verify -h", "help verify"]),
+    (JOIN_HELP, ["join --help"]),
+    (JOIN_PUBLIC_HELP, ["join-public --help", "help join-public"]),
     (HELP_HELP, ["help help"]),
 ]
 
@@ -169,7 +213,7 @@ VERIFY_USAGE = f"Usage: lms_tool verify --public <FILE> --message <FILE> --signa
 MISTAKES = [
     (
         "",
-        "'lms_tool' requires a subcommand but one was not provided\n  [subcommands: keygen, info, public, sign, batch, verify, help]",
+        "'lms_tool' requires a subcommand but one was not provided\n  [subcommands: keygen, info, public, sign, batch, verify, join, join-public, help]",
         USAGE,
     ),
     ("stray", "unrecognized subcommand 'stray'", USAGE),

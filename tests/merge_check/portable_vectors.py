@@ -7,7 +7,7 @@ import random
 
 from tests.harness import TOP
 from tests.program import read
-from tests.reference import CHAINS, HEIGHTS, RANDOMIZER, Tree, digest, number
+from tests.reference import CHAINS, HEIGHTS, RANDOMIZER, Tree, digest, joined, number
 
 EXAMPLES = TOP / "examples"
 LENGTHS = [0, 1, 54, 55, 56, 63, 64, 65, 119, 120, 128, 200]
@@ -61,11 +61,20 @@ def named(levels):
     return ",".join(f"{height}/{width}" for height, width in levels)
 
 
+def joined_vector():
+    """What is joined of two keys of two levels each."""
+    signer, message, signature = signed([(5, 4), (10, 2)], [31, 700], b"joined")
+    top, _, endorsement = signed([(5, 2), (5, 8)], [0, 17], signer[4:])
+    public, whole = joined(top, endorsement, signer, signature)
+    return public, message, whole
+
+
 def all_vectors():
     """Names, each with public key, message and signature: the examples, every set of parameters with
     its first, last or another leaf, and several levels."""
     found = {"example": tuple(read(EXAMPLES / it) for it in ("release.pub", "firmware.bin", "firmware.sig"))}
     found["example of two levels"] = tuple(read(EXAMPLES / it) for it in ("c/two_levels.pub", "firmware.bin", "c/two_levels.sig"))
+    found["joined"] = joined_vector()
     keys = [[(height, width)] for height in HEIGHTS for width in CHAINS] + LEVELS
     for at, levels in enumerate(keys):
         leaves = [[0, 2**height - 1, 2**height // 3][(at + level) % 3] for level, (height, _) in enumerate(levels)]

@@ -14,8 +14,8 @@ import re
 
 from tests.harness import Wrong, add_test, holds
 from tests.merge_check.made_up_trees import MadeUpTree
-from tests.program import BATCH, INFO, NODES, index_in, job_lines, keygen, preload, public, put, run, sign, verify
-from tests.reference import IDENTIFIER, SEED, SUBTREE, checked, image, kept, kept_parts, number, public_of, signature_of
+from tests.program import BATCH, INFO, NODES, TO_JOIN, index_in, job_lines, join, join_public, keygen, preload, public, put, run, sign, verify
+from tests.reference import IDENTIFIER, SEED, SUBTREE, checked, image, kept, kept_parts, number, parts_to_join, public_of, signature_of
 
 ONE, TWO, TALL = ((5, 1),), ((5, 1),) * 2, ((15, 1), *((5, 1),) * 4)
 # The last index of a tree of height 5, and the first one of the second bottom subtree of TALL's top tree.
@@ -43,6 +43,11 @@ def with_nodes():
 def with_signature():
     """And a signature."""
     return {**key_of(TWO), "old.sig": signature_of(TWO, 0, b"abc")}
+
+
+def with_parts():
+    """And what is to be joined."""
+    return {**key_of(TWO), **dict(zip(TO_JOIN, parts_to_join(ONE, TWO)))}
 
 
 def with_tall_nodes():
@@ -176,6 +181,8 @@ COMMANDS = {
     "public": Command(public(name="again.pub"), TWO, {32: 1}, uses=0),
     "info": Command(INFO, TWO, {}, uses=0),
     "verify": Command(verify(signature="old.sig"), TWO, {}, uses=0, files=with_signature),
+    "join": Command(join(), TWO, {}, uses=0, files=with_parts),
+    "join-public": Command(join_public(), TWO, {}, uses=0, files=with_parts),
     "sign by two trees": Command(sign(), TWO, {32: 3, 64: 1}),
     "sign by one tree": Command(sign(), ONE, {32: 1}, index=LAST - 1, burns=True),
     "sign by kept trees": Command(sign(), TWO, {}, files=with_nodes, burns=True),

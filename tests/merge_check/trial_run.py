@@ -168,6 +168,7 @@ HELP = [
     "info --help",
     "public --help",
     "sign --help",
+    "join-public --help",
     "batch -h",
 ]
 
@@ -200,7 +201,7 @@ def texts_of_help():
 def commands_that_sign_or_read_a_state_and_others_beside_their_help():
     with Trial() as it:
         it.tries_well(0, "capacity 32\n")
-        for line in ("keygen", "info", "public", "sign", "batch", "sign --help --state", "batch --state --help"):
+        for line in ("keygen", "info", "public", "sign", "batch", "join", "join-public", "sign --help --state", "batch --state --help"):
             it.starts(*line.split())
             it.only_ran(*line.split())
 

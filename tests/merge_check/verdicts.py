@@ -4,7 +4,7 @@ import os
 
 from tests.harness import TOP, holds, test
 from tests.merge_check.weak_disk import operations
-from tests.program import INFO, VERIFY, ends, fails, has, keygen, preload, public, put, read, run, sign, verify
+from tests.program import INFO, VERIFY, ends, fails, has, join, keygen, preload, public, put, read, run, sign, verify
 from tests.reference import image, public_of, signature_of
 
 ONE = ((5, 8),)
@@ -85,6 +85,7 @@ def each_line_is_one_write():
     prints(sign(), ["index 0"])
     prints(INFO, ["levels 5/8", "counter 1", "capacity 32", "left 31", "openings 1", "burnt 0"])
     prints(public(), ["capacity 32"])
+    prints(join(*["none"] * 4), errors=["error: cannot read input"])
     prints(VERIFY, ["valid"])
     put("text", b"another")
     prints(VERIFY, ["invalid"])

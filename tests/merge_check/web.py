@@ -16,7 +16,7 @@ import time
 
 from tests.harness import ARGUMENTS, TOP, Skipped, checks, holds
 from tests.program import is_plain, put
-from tests.reference import public_of, signature_of
+from tests.reference import joined, public_of, signature_of
 
 EXAMPLES = TOP / "examples"
 BROWSERS = ["chromium", "chromium-browser", "google-chrome", "google-chrome-stable"]
@@ -189,6 +189,11 @@ def judges(browser, check, picture):
     check("a key of another kind is invalid, and said to be", verdict == "invalid" and "no HSS public key" in outcome)
     verdict, outcome = browser.verdict_on(EXAMPLES / "c/two_levels.pub", message, EXAMPLES / "c/two_levels.sig")
     check("a key of two levels", verdict == "valid" and "The key has 2 levels." in outcome)
+    key = public_of(LEVELS)
+    parts = joined(key, signature_of(LEVELS, 0, key[4:]), key, signature_of(LEVELS, 1, message.read_bytes()))
+    for name, contents in zip(("joined.pub", "joined.sig"), parts):
+        put(name, contents)
+    check("a joined signature", browser.verdict_on("joined.pub", message, "joined.sig")[0] == "valid")
     put("empty", b"")
     check("an empty message is invalid", browser.verdict_on(public, "empty", signature)[0] == "invalid")
     large = bytes(range(256)) * (1 << 18)

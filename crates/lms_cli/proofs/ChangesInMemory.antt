@@ -1,5 +1,5 @@
 -- What a run changes in a world in memory.
-use Rattle.std.proofs.Common.{◌≡◌, ℕ, List, Option, Some, ap, inl, inr}
+use Rattle.std.proofs.Common.{◌≡◌, ◌∙◌, ℕ, List, Option, Some, ap, inl, inr, refl, sym}
 use Rattle.std.specs.Prelude.{String, string_bytes}
 use Rattle.std.specs.Global.{Global}
 use Rattle.clap.specs.Words.{Text}
@@ -8,7 +8,7 @@ use Rattle.lms_world.specs.Names.{Bytes}
 use Rattle.lms_world.specs.Held.{Answers, Follows, Held, answer_in}
 use Rattle.lms_world.proofs.Outcomes.{holds_what_is_logged}
 use Rattle.lms_commands.specs.BatchInMemory.{FailsToSignJobs}
-use Rattle.lms_commands.specs.InMemory.{SameFilesBut, SignsNone, Stays}
+use Rattle.lms_commands.specs.InMemory.{OnlyFiles, SameFilesBut, SignsNone, Stays}
 use Rattle.lms_commands.specs.KeygenInMemory.{FailsToMakeKey}
 use Rattle.lms_commands.specs.Logs.{WorldCalls}
 use Rattle.lms_commands.specs.PublicInMemory.{FailsToPublishKey}
@@ -22,11 +22,12 @@ use Rattle.lms_commands.proofs.PublicInMemory.{fails_to_publish_key_in_memory, p
 use Rattle.lms_commands.proofs.ReadingInMemory.{describes_in_memory, fails_to_describe_in_memory, fails_to_judge_in_memory, judges_in_memory}
 use Rattle.lms_commands.proofs.SignInMemory.{fails_to_sign_in_memory, signs_in_memory}
 use Rattle.lms_commands.proofs.Telling.{nothing_done}
+use Rattle.lms_join_commands.proofs.JoinInMemory.{fails_to_join_in_memory, fails_to_join_keys_in_memory, joins_in_memory, joins_keys_in_memory}
 use Rattle.lms_cli.specs.Commands.{AreTakenAs}
 use Rattle.lms_cli.specs.RunLogs.{LogsFailed, LogsObeyed}
-use Rattle.lms_cli.specs.RunsInMemory.{ChangesAsked, ChangesAskedInMemory, KeepsSome, LocksState, StoresState, Writes}
+use Rattle.lms_cli.specs.RunsInMemory.{ChangesAsked, ChangesAskedInMemory, KeepsSome, LocksState, StoresState, Writes, WritesSome}
 use Rattle.lms_cli.specs.declared.command.types.Command.{Command}
-use Rattle.lms_cli.specs.declared.command.types.Command.TheVariants.{Batch, Info, Keygen, Public, Sign, Verify}
+use Rattle.lms_cli.specs.declared.command.types.Command.TheVariants.{Batch, Info, Join, JoinPublic, Keygen, Public, Sign, Verify}
 
 -- ---- which files and nodes stay
 
@@ -38,6 +39,9 @@ files_of same = ap (λ (h : Held). h.files) same
 
 nodes_of : {old new : Held} → new ≡ old → new.nodes ≡ old.nodes
 nodes_of same = ap (λ (h : Held). h.nodes) same
+
+only_files : {old new : Held} → new ≡ old → OnlyFiles old new
+only_files {old} {new} same = same ∙ ap (λ (h : Held). record old { files = h.files }) (sym same)
 
 -- neither files nor nodes are changed
 abbrev pub Unwritten : Held → Held → Type 0
@@ -126,14 +130,16 @@ record ChangesOwn (command : Command) (old new : Held) : Type 0 where
   files : (name : Text) → ¬ Writes name command → answer_in new.files name ≡ answer_in old.files name
   state : ¬ StoresState command → new.state ≡ old.state
   nodes : ¬ KeepsSome command → new.nodes ≡ old.nodes
-  all : ¬ LocksState command → new ≡ old
+  only : ¬ LocksState command → OnlyFiles old new
+  all : ¬ LocksState command → ¬ WritesSome command → new ≡ old
 
 none_changed : (command : Command) (old new : Held) → new ≡ old → ChangesOwn command old new
 none_changed command old new same = record {
   files = λ name other. at_name name _ _ (files_of same);
   state = λ other. ap (λ (h : Held). h.state) same;
   nodes = λ other. nodes_of same;
-  all = λ other. same;
+  only = λ other. only_files same;
+  all = λ other none. same;
 }
 
 module _ (input rest : Option (List ℕ)) (before printed : List ℕ) (old new : Held) (earlier now : WorldCalls)
@@ -144,7 +150,8 @@ module _ (input rest : Option (List ℕ)) (before printed : List ℕ) (old new :
     files = others;
     state = λ other. absurd (other tt);
     nodes = λ other. absurd (other tt);
-    all = λ other. absurd (other tt);
+    only = λ other. absurd (other tt);
+    all = λ other none. absurd (other tt);
   }
 
   info_changes : (state : String Global) → Stays old new → ChangesOwn (Info state) old new
@@ -152,7 +159,8 @@ module _ (input rest : Option (List ℕ)) (before printed : List ℕ) (old new :
     files = λ name other. at_name name _ _ stays.files;
     state = λ other. stays.state;
     nodes = λ other. stays.nodes;
-    all = λ other. absurd (other tt);
+    only = λ other. absurd (other tt);
+    all = λ other none. absurd (other tt);
   }
 
   public_file_changes : (state public : String Global) → Others (string_bytes public) old new → new.state ≡ old.state
@@ -161,7 +169,8 @@ module _ (input rest : Option (List ℕ)) (before printed : List ℕ) (old new :
     files = others;
     state = λ other. state_stays;
     nodes = λ other. nodes;
-    all = λ other. absurd (other tt);
+    only = λ other. absurd (other tt);
+    all = λ other none. absurd (other tt);
   }
 
   sign_changes : (state random message out : String Global) → Others (string_bytes out) old new
@@ -170,7 +179,8 @@ module _ (input rest : Option (List ℕ)) (before printed : List ℕ) (old new :
     files = others;
     state = λ other. absurd (other tt);
     nodes = λ other. absurd (other tt);
-    all = λ other. absurd (other tt);
+    only = λ other. absurd (other tt);
+    all = λ other none. absurd (other tt);
   }
 
   batch_changes : (state workers : String Global) → Unwritten old new → ChangesOwn (Batch state workers) old new
@@ -178,7 +188,28 @@ module _ (input rest : Option (List ℕ)) (before printed : List ℕ) (old new :
     files = λ name other. at_name name _ _ unwritten.0;
     state = λ other. absurd (other tt);
     nodes = λ other. unwritten.1;
-    all = λ other. absurd (other tt);
+    only = λ other. absurd (other tt);
+    all = λ other none. absurd (other tt);
+  }
+
+  join_changes : (public endorsement signer signature out : String Global) → Others (string_bytes out) old new
+      → OnlyFiles old new → ChangesOwn (Join public endorsement signer signature out) old new
+  join_changes public endorsement signer signature out others only = record {
+    files = others;
+    state = λ other. ap (λ (h : Held). h.state) only;
+    nodes = λ other. nodes_of only;
+    only = λ other. only;
+    all = λ other none. absurd (none (string_bytes out, refl));
+  }
+
+  join_keys_changes : (public signer out : String Global) → Others (string_bytes out) old new → OnlyFiles old new
+      → ChangesOwn (JoinPublic public signer out) old new
+  join_keys_changes public signer out others only = record {
+    files = others;
+    state = λ other. ap (λ (h : Held). h.state) only;
+    nodes = λ other. nodes_of only;
+    only = λ other. only;
+    all = λ other none. absurd (none (string_bytes out, refl));
   }
 
   obeyed : (command : Command) (end : Status) → LogsObeyed command end input rest before printed earlier now
@@ -201,6 +232,12 @@ module _ (input rest : Option (List ℕ)) (before printed : List ℕ) (old new :
   obeyed (Verify public message signature) end (verdict, at, is) =
       let judged = judges_in_memory _ _ _ verdict before printed old new earlier now is follows in
       none_changed _ old new judged.1
+  obeyed (Join public endorsement signer signature out) end (done, quiet, is) =
+      let made = joins_in_memory _ old new earlier now is follows in
+      join_changes public endorsement signer signature out made.file.others made.only
+  obeyed (JoinPublic public signer out) end (done, quiet, is) =
+      let made = joins_keys_in_memory _ _ _ old new earlier now is follows in
+      join_keys_changes public signer out made.file.others made.only
 
   failed : (command : Command) (fault : Fault) → LogsFailed command fault input rest before printed earlier now
       → ChangesOwn command old new
@@ -225,6 +262,10 @@ module _ (input rest : Option (List ℕ)) (before printed : List ℕ) (old new :
   failed (Verify public message signature) fault is =
       let why = fails_to_judge_in_memory _ _ _ before printed fault old new earlier now is follows in
       none_changed _ old new why.1
+  failed (Join public endorsement signer signature out) fault (quiet, is) =
+      none_changed _ old new (fails_to_join_in_memory _ fault old new earlier now is follows).1
+  failed (JoinPublic public signer out) fault (quiet, is) =
+      none_changed _ old new (fails_to_join_keys_in_memory _ _ _ fault old new earlier now is follows).1
 
 -- ---- what a run changes
 
@@ -238,7 +279,8 @@ module _ (words : List Text) (old new : Held) (earlier now : WorldCalls)
         state = λ other. ap (λ (h : Held). h.state) same;
         nodes = λ other. nodes_of same;
         in_use = ap (λ (h : Held). h.in_use) same;
-        all = λ other. same;
+        only = λ other. only_files same;
+        all = λ other none. same;
       }
 
   changes_own : (command : Command) → AreTakenAs words command → ChangesOwn command old new
@@ -248,7 +290,9 @@ module _ (words : List Text) (old new : Held) (earlier now : WorldCalls)
     state = λ other. own.state (λ such. other (command, taken, such));
     nodes = λ other. own.nodes (λ such. other (command, taken, such));
     in_use = (holds_what_is_logged old new earlier now follows).2.3;
-    all = λ other. own.all (λ such. other (command, taken, such));
+    only = λ other. own.only (λ such. other (command, taken, such));
+    all =
+        λ other none. own.all (λ such. other (command, taken, such)) (λ such. none (command, taken, such));
   }
 
 pub changes_what_is_asked : ChangesAskedInMemory

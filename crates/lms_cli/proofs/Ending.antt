@@ -13,15 +13,16 @@ use Rattle.lms_commands.specs.Logs.{IsLockRefused, IsReadRefused, IsWriteRefused
 use Rattle.lms_commands.specs.PublicLogs.{FailsToPublishOf, LogsUnread}
 use Rattle.lms_commands.specs.SignLogs.{LogsSign, LogsSignFailed, LogsUndelivered}
 use Rattle.lms_commands.specs.Verdicts.{verdict_status}
+use Rattle.lms_join_commands.specs.JoinLogs.{AreUnjoined, FailsToReadParts, FailsToReadTwo, JoinNames, JoinParts, LogsJoin, LogsJoinFailed, LogsJoinKeysFailed}
 use Rattle.lms_cli.specs.RunLogs.{LogsFailed, LogsObeyed, LogsRefused, LogsRun}
 use Rattle.lms_cli.specs.Runs.{AsksForBatch, AsksToRead, IsBatch, Runs, Setting}
 use Rattle.lms_world.specs.Held.{Follows}
 use Rattle.lms_cli.specs.declared.command.types.Command.{Command}
-use Rattle.lms_cli.specs.declared.command.types.Command.TheVariants.{Batch, Info, Keygen, Public, Sign, Verify}
+use Rattle.lms_cli.specs.declared.command.types.Command.TheVariants.{Batch, Info, Join, JoinPublic, Keygen, Public, Sign, Verify}
 use Rattle.lms_texts.specs.declared.fault.SeedFault.{SeedFault}
 use Rattle.lms_texts.specs.declared.fault.SeedFault.TheVariants as no_seed
 use Rattle.lms_commands.specs.declared.fault.Fault.{Fault}
-use Rattle.lms_commands.specs.declared.fault.Fault.TheVariants.{BadLevels, TooManyLevels, TooTall, BadId, BadRandom, BadWorkers, BadJob, TooManyJobs, StateExists, StateInUse, ReadState, BadState, WriteState, WriteStateBurnt, Exhausted, OutOfMemory, OutOfMemoryBurnt, ReadInput, WriteOutput}
+use Rattle.lms_commands.specs.declared.fault.Fault.TheVariants.{BadLevels, TooManyLevels, TooTall, BadId, BadRandom, BadWorkers, BadPublicKey, BadEndorsement, BadSignature, BadJob, TooManyJobs, StateExists, StateInUse, ReadState, BadState, WriteState, WriteStateBurnt, Exhausted, OutOfMemory, OutOfMemoryBurnt, ReadInput, WriteOutput}
 use Rattle.lms_commands.specs.declared.status.Status.{Status}
 use Rattle.lms_commands.specs.declared.status.Status.TheVariants.{Done, Negative}
 use Rattle.lms_commands.specs.declared.verdict.Verdict.{Verdict}
@@ -79,6 +80,30 @@ module _ (fault : Fault) where
   at_unsigned n state old new (inr (inl (is, _))) = at OutOfMemory (omega arith) is
   at_unsigned n state old new (inr (inr (inl (is, _)))) = at (WriteStateBurnt _ _) (omega arith) is
   at_unsigned n state old new (inr (inr (inr (is, _)))) = at (OutOfMemoryBurnt _) (omega arith) is
+
+  at_two : (first second : List ℕ) (old new : WorldCalls) → FailsToReadTwo first second fault old new → IsHigh fault
+  at_two first second old new (refused, _) = at_read refused
+
+  at_parts : (names : JoinNames) (old new : WorldCalls) → FailsToReadParts names fault old new → IsHigh fault
+  at_parts names old new (inl is) = at_two _ _ old new is
+  at_parts names old new (inr (one, two, last, _, is)) = at_two _ _ last new is
+
+  at_unjoined : (parts : JoinParts) → AreUnjoined parts fault → IsHigh fault
+  at_unjoined parts (inl (inl (is, _))) = at BadPublicKey (omega arith) is
+  at_unjoined parts (inl (inr (is, _, _))) = at BadEndorsement (omega arith) is
+  at_unjoined parts (inr (_, inl (is, _))) = at BadSignature (omega arith) is
+  at_unjoined parts (inr (_, inr is)) = at OutOfMemory (omega arith) is
+
+  at_not_joined : (names : JoinNames) (old new : WorldCalls) → LogsJoinFailed names fault old new → IsHigh fault
+  at_not_joined names old new (inl is) = at_parts names old new is
+  at_not_joined names old new (inr (parts, last, _, inl (is, _))) = at_unjoined parts is
+  at_not_joined names old new (inr (parts, last, _, inr (joined, _, refused, _))) = at_write refused
+
+  at_keys : (public signer out : List ℕ) (old new : WorldCalls) → LogsJoinKeysFailed public signer out fault old new
+      → IsHigh fault
+  at_keys public signer out old new (inl is) = at_two _ _ old new is
+  at_keys public signer out old new (inr (top, lower, last, _, inl (is, _, _))) = at BadPublicKey (omega arith) is
+  at_keys public signer out old new (inr (top, lower, last, _, inr (_, refused, _))) = at_write refused
 
   -- nothing is printed, at a status of 2 at least; or the output fails; or a batch is partly done
   abbrev Fails : Type 0 → List ℕ → List ℕ → Type 0
@@ -141,6 +166,8 @@ module _ (fault : Fault) where
     failed (Batch _ _) input rest old new (inr (inr (last, is, _, _))) = unanswered input rest _ last is
     failed (Verify _ _ _) input rest old new (inl (refused, same, _)) = inl (same, at_read refused)
     failed (Verify _ _ _) input rest old new (inr (is, _)) = inr (inl is)
+    failed (Join _ _ _ _ _) input rest old new (same, is) = inl (same, at_not_joined _ old new is)
+    failed (JoinPublic _ _ _) input rest old new (same, is) = inl (same, at_keys _ _ _ old new is)
 
     refused : (words : List Text) (input rest : Option (List ℕ)) (old new : WorldCalls)
         → LogsRefused words fault input rest before printed old new → Fails (AsksForBatch words) before printed
@@ -180,6 +207,8 @@ obeyed_low (Public _ _) end input rest before printed old new high is = too_low 
 obeyed_low (Sign _ _ _ _) end input rest before printed old new high is = too_low end _ is.0 (omega arith) high
 obeyed_low (Batch _ _) end input rest before printed old new high is = too_low end _ is.0 (omega arith) high
 obeyed_low (Verify _ _ _) end input rest before printed old new high is = too_low end _ is.1 (answers is.0) high
+obeyed_low (Join _ _ _ _ _) end input rest before printed old new high is = too_low end _ is.0 (omega arith) high
+obeyed_low (JoinPublic _ _ _) end input rest before printed old new high is = too_low end _ is.0 (omega arith) high
 
 -- at a status from 2 to 5 nothing is printed
 silent_at : (words : List Text) (end : Status) (input rest : Option (List ℕ)) (before printed : List ℕ)
@@ -239,3 +268,27 @@ failed_as {random} {c} {message} {m} {state} {s} {out} {o} {before} {printed} {f
     (subst (λ (t : List ℕ). LogsSignFailed c m t out before printed fault old new) state_is
     (subst (λ (t : List ℕ). LogsSignFailed c t state out before printed fault old new) message_is
     (subst (λ (t : List ℕ). LogsSignFailed t message state out before printed fault old new) random_is is)))
+
+abbrev names : List ℕ → List ℕ → List ℕ → List ℕ → List ℕ → JoinNames
+names public endorsement signer signature out = record {
+  public = public;
+  endorsement = endorsement;
+  signer = signer;
+  signature = signature;
+  out = out;
+}
+
+-- the same names, text by text
+pub same_names : {public p endorsement e signer k signature s out o : List ℕ} → public ≡ p → endorsement ≡ e → signer ≡ k
+    → signature ≡ s → out ≡ o → names public endorsement signer signature out ≡ names p e k s o
+same_names public_is endorsement_is signer_is signature_is out_is = λ i.
+    names (public_is i) (endorsement_is i) (signer_is i) (signature_is i) (out_is i)
+
+-- the calls of `join`, by texts that are equal
+pub joined_as : {one two : JoinNames} {old new : WorldCalls} → one ≡ two → LogsJoin one old new → LogsJoin two old new
+joined_as {one} {two} {old} {new} same is = subst (λ (n : JoinNames). LogsJoin n old new) same is
+
+-- the same, where it fails
+pub not_joined_as : {one two : JoinNames} {fault : Fault} {old new : WorldCalls} → one ≡ two
+    → LogsJoinFailed one fault old new → LogsJoinFailed two fault old new
+not_joined_as {one} {two} {fault} {old} {new} same is = subst (λ (n : JoinNames). LogsJoinFailed n fault old new) same is

@@ -17,12 +17,13 @@ use Rattle.lms_commands.proofs.PublicInMemory.{fails_to_publish_key_in_memory}
 use Rattle.lms_commands.proofs.ReadingInMemory.{fails_to_describe_in_memory, fails_to_judge_in_memory}
 use Rattle.lms_commands.proofs.SignInMemory.{fails_to_sign_in_memory}
 use Rattle.lms_commands.proofs.Telling.{nothing_done}
+use Rattle.lms_join_commands.proofs.JoinInMemory.{fails_to_join_in_memory, fails_to_join_keys_in_memory}
 use Rattle.lms_cli.proofs.ChangesInMemory.{batch_unwritten, files_of, info_stays}
 use Rattle.lms_cli.proofs.Ending.{obeyed_low}
 use Rattle.lms_cli.specs.RunLogs.{LogsFailed}
 use Rattle.lms_cli.specs.RunsInMemory.{FilesStay}
 use Rattle.lms_cli.specs.declared.command.types.Command.{Command}
-use Rattle.lms_cli.specs.declared.command.types.Command.TheVariants.{Batch, Info, Keygen, Public, Sign, Verify}
+use Rattle.lms_cli.specs.declared.command.types.Command.TheVariants.{Batch, Info, Join, JoinPublic, Keygen, Public, Sign, Verify}
 
 not_output : (fault : Fault) → status_number (status_of fault) < 6 → fault ≢ WriteOutput
 not_output fault low is =
@@ -66,6 +67,10 @@ module _ (fault : Fault) (other : fault ≢ WriteOutput) (old new : Held) where
       (batch_unwritten fault old new _ input rest before printed why).0
   failed (Verify public message signature) input rest before printed earlier now follows is =
       files_of (fails_to_judge_in_memory _ _ _ before printed fault old new earlier now is follows).1
+  failed (Join public endorsement signer signature out) input rest before printed earlier now follows (quiet, is) =
+      files_of (fails_to_join_in_memory _ fault old new earlier now is follows).1
+  failed (JoinPublic public signer out) input rest before printed earlier now follows (quiet, is) =
+      files_of (fails_to_join_keys_in_memory _ _ _ fault old new earlier now is follows).1
 
 pub files_stay_at : FilesStay
 files_stay_at words end input rest before printed eb ea old new earlier now (inl (inl (none, is))) follows high low =

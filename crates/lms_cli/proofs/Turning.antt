@@ -9,11 +9,12 @@ use Rattle.lms_commands.proofs.Histories.{IsHistory, no_index_twice}
 use Rattle.lms_commands.proofs.PublicTurns.{public_failed_turn, public_turn}
 use Rattle.lms_commands.proofs.SigningTurns.{jobs_failed_turn, jobs_turn, sign_failed_turn, sign_turn}
 use Rattle.lms_commands.proofs.Turns.{idle_as, info_failed_turn, info_turn, keygen_failed_turn, keygen_turn, verify_failed_turn, verify_turn}
+use Rattle.lms_join_commands.proofs.JoinTurns.{join_failed_turn, join_keys_failed_turn, join_keys_turn, join_turn}
 use Rattle.lms_cli.specs.Commands.{AreTakenAs, AsksForHelp}
 use Rattle.lms_cli.specs.RunLogs.{LogsFailed, LogsObeyed, LogsRun}
 use Rattle.lms_cli.specs.RunTurns.{HandsOut, HandsOutAll, ProgramRun, TakesTurn, TakeTurns}
 use Rattle.lms_cli.specs.declared.command.types.Command.{Command}
-use Rattle.lms_cli.specs.declared.command.types.Command.TheVariants.{Batch, Info, Keygen, Public, Sign, Verify}
+use Rattle.lms_cli.specs.declared.command.types.Command.TheVariants.{Batch, Info, Join, JoinPublic, Keygen, Public, Sign, Verify}
 
 -- a command in its turn
 abbrev Obeyed : Command → WorldCalls → List ℕ → List ℕ → Type 0
@@ -31,6 +32,10 @@ obeyed (Sign state random message out) end input rest before printed whole (done
 obeyed (Batch state workers) end input rest before printed whole (done, is) = jobs_turn _ _ input rest before printed whole is
 obeyed (Verify public message signature) end input rest before printed whole (verdict, at, is) =
     let turn = verify_turn _ _ _ verdict before printed whole is in (turn.0, [], turn.1, (refl, turn.2))
+obeyed (Join public endorsement signer signature out) end input rest before printed whole (done, same, is) =
+    let turn = join_turn _ before printed same whole is in (turn.0, [], turn.1, (refl, turn.2))
+obeyed (JoinPublic public signer out) end input rest before printed whole (done, same, is) =
+    let turn = join_keys_turn _ _ _ before printed same whole is in (turn.0, [], turn.1, (refl, turn.2))
 
 -- one that fails
 failed : (command : Command) (fault : Fault) (input rest : Option (List ℕ)) (before printed : List ℕ) (whole : WorldCalls)
@@ -47,6 +52,10 @@ failed (Sign state random message out) fault input rest before printed whole is 
 failed (Batch state workers) fault input rest before printed whole is = jobs_failed_turn _ _ input rest before printed fault whole is
 failed (Verify public message signature) fault input rest before printed whole is =
     let turn = verify_failed_turn _ _ _ before printed fault whole is in (turn.0, [], turn.1, (refl, turn.2))
+failed (Join public endorsement signer signature out) fault input rest before printed whole (same, is) =
+    let turn = join_failed_turn _ before printed same fault whole is in (turn.0, [], turn.1, (refl, turn.2))
+failed (JoinPublic public signer out) fault input rest before printed whole (same, is) =
+    let turn = join_keys_failed_turn _ _ _ before printed same fault whole is in (turn.0, [], turn.1, (refl, turn.2))
 
 -- the turn of a run
 abbrev TurnOf : ProgramRun → Type 0

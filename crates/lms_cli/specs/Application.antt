@@ -56,8 +56,24 @@ verify = record {
       ∷ codes "signature" ∷ [];
 }
 
+-- `join --public FILE --endorsement FILE --signer FILE --signature FILE --out FILE`
+abbrev pub join : Subcommand
+join = record {
+  name = codes "join";
+  options = codes "public" ∷ codes "endorsement" ∷ codes "signer"
+      ∷ codes "signature" ∷ codes "out" ∷ [];
+}
+
+-- `join-public --public FILE --signer FILE --out FILE`
+abbrev pub join_public : Subcommand
+join_public = record {
+  name = codes "join-public";
+  options = codes "public" ∷ codes "signer"
+      ∷ codes "out" ∷ [];
+}
+
 abbrev pub subcommands : List Subcommand
-subcommands = keygen ∷ info ∷ public_key ∷ sign ∷ batch ∷ verify ∷ []
+subcommands = keygen ∷ info ∷ public_key ∷ sign ∷ batch ∷ verify ∷ join ∷ join_public ∷ []
 
 -- the subcommand of this name, of some
 abbrev pub subcommand_called_in : List Subcommand → Text → Option Subcommand

@@ -5,9 +5,9 @@ use Rattle.clap.specs.Words.{Kinds, IsAmong, Row, Text, first_of, first_value, s
 use Rattle.clap.specs.declared.error.kind.ErrorKind.{ErrorKind}
 use Rattle.clap.specs.declared.error.kind.ErrorKind.TheVariants as kind
 use Rattle.clap.specs.declared.parser.matches.Found.{Found}
-use Rattle.lms_cli.specs.Application.{Subcommand, batch, info, keygen, lms_app, public_key, sign, verify}
+use Rattle.lms_cli.specs.Application.{Subcommand, batch, info, join, join_public, keygen, lms_app, public_key, sign, verify}
 use Rattle.lms_cli.specs.declared.command.types.Command.{Command}
-use Rattle.lms_cli.specs.declared.command.types.Command.TheVariants.{Batch, Info, Keygen, Public, Sign, Verify}
+use Rattle.lms_cli.specs.declared.command.types.Command.TheVariants.{Batch, Info, Join, JoinPublic, Keygen, Public, Sign, Verify}
 use Rattle.lms_cli.specs.declared.fault.CommandFault.{CommandFault}
 use Rattle.lms_cli.specs.declared.fault.CommandFault.TheVariants.{Help, Usage, OutOfMemory}
 
@@ -29,6 +29,8 @@ subcommand_for (Public state public) = public_key
 subcommand_for (Sign state random message out) = sign
 subcommand_for (Batch state workers) = batch
 subcommand_for (Verify public message signature) = verify
+subcommand_for (Join public endorsement signer signature out) = join
+subcommand_for (JoinPublic public signer out) = join_public
 
 -- the texts of its options, in turn
 abbrev pub option_texts : Command → List Text
@@ -42,6 +44,11 @@ option_texts (Sign state random message out) =
 option_texts (Batch state workers) = string_bytes state ∷ string_bytes workers ∷ []
 option_texts (Verify public message signature) =
     string_bytes public ∷ string_bytes message ∷ string_bytes signature ∷ []
+option_texts (Join public endorsement signer signature out) =
+    string_bytes public ∷ string_bytes endorsement ∷ string_bytes signer ∷ string_bytes signature
+    ∷ string_bytes out ∷ []
+option_texts (JoinPublic public signer out) =
+    string_bytes public ∷ string_bytes signer ∷ string_bytes out ∷ []
 
 -- the arguments are those of this command, as clap's definition has it
 abbrev pub AreWordsOf : List Text → Command → Type 0

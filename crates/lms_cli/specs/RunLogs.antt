@@ -1,5 +1,6 @@
 -- The calls that a run of the program makes on its world, one after another, the newest first.
-use Rattle.std.specs.Prelude.{◌≡◌, ◌⊎◌, ◌++◌, ℕ, List, Option, string_bytes}
+use Rattle.std.specs.Prelude.{◌≡◌, ◌⊎◌, ◌++◌, ℕ, List, Option, String, string_bytes}
+use Rattle.std.specs.Global.{Global}
 use Rattle.clap.specs.Words.{Text}
 use Rattle.lms_hss.specs.declared.key.HssKey.{HssKey as KeyOfCode}
 use Rattle.lms_cli.specs.Commands.{AreTakenAs, AsksForHelp, IsMistaken}
@@ -13,13 +14,25 @@ use Rattle.lms_commands.specs.PublicLogs.{LogsPublic, LogsPublicFailed}
 use Rattle.lms_commands.specs.ReadingLogs.{LogsInfo, LogsInfoFailed, LogsVerify, LogsVerifyFailed}
 use Rattle.lms_commands.specs.SignLogs.{LogsSign, LogsSignFailed}
 use Rattle.lms_commands.specs.Verdicts.{verdict_status}
+use Rattle.lms_join_commands.specs.JoinLogs.{JoinNames, LogsJoin, LogsJoinFailed, LogsJoinKeys, LogsJoinKeysFailed}
 use Rattle.lms_cli.specs.declared.command.types.Command.{Command}
-use Rattle.lms_cli.specs.declared.command.types.Command.TheVariants.{Batch, Info, Keygen, Public, Sign, Verify}
+use Rattle.lms_cli.specs.declared.command.types.Command.TheVariants.{Batch, Info, Join, JoinPublic, Keygen, Public, Sign, Verify}
 use Rattle.lms_commands.specs.declared.fault.Fault.{Fault}
 use Rattle.lms_commands.specs.declared.fault.Fault.TheVariants.{OutOfMemory, WriteOutput}
 use Rattle.lms_commands.specs.declared.status.Status.{Status}
 use Rattle.lms_commands.specs.declared.status.Status.TheVariants.{Done, Usage}
 use Rattle.lms_commands.specs.declared.verdict.Verdict.{Verdict}
+
+-- the files that `join` is asked to read and write
+abbrev pub join_names : String Global → String Global → String Global → String Global
+    → String Global → JoinNames
+join_names public endorsement signer signature out = record {
+  public = string_bytes public;
+  endorsement = string_bytes endorsement;
+  signer = string_bytes signer;
+  signature = string_bytes signature;
+  out = string_bytes out;
+}
 
 -- a command is done, and the program ends so
 abbrev pub LogsObeyed : Command → Status → Option (List ℕ) → Option (List ℕ) → List ℕ → List ℕ
@@ -42,6 +55,12 @@ LogsObeyed (Verify public message signature) end input rest before printed old n
     (verdict : Verdict) × (end ≡ verdict_status verdict)
     × LogsVerify (string_bytes public) (string_bytes message)
     (string_bytes signature) verdict before printed old new
+LogsObeyed (Join public endorsement signer signature out) end input rest before printed old new =
+    (end ≡ Done) × (printed ≡ before)
+    × LogsJoin (join_names public endorsement signer signature out) old new
+LogsObeyed (JoinPublic public signer out) end input rest before printed old new =
+    (end ≡ Done) × (printed ≡ before)
+    × LogsJoinKeys (string_bytes public) (string_bytes signer) (string_bytes out) old new
 
 -- a command fails
 abbrev pub LogsFailed : Command → Fault → Option (List ℕ) → Option (List ℕ) → List ℕ → List ℕ
@@ -64,6 +83,13 @@ LogsFailed (Batch state workers) fault input rest before printed old new =
 LogsFailed (Verify public message signature) fault input rest before printed old new =
     LogsVerifyFailed (string_bytes public) (string_bytes message)
     (string_bytes signature) before printed fault old new
+LogsFailed (Join public endorsement signer signature out) fault input rest before printed old new =
+    (printed ≡ before)
+    × LogsJoinFailed (join_names public endorsement signer signature out) fault old new
+LogsFailed (JoinPublic public signer out) fault input rest before printed old new =
+    (printed ≡ before)
+    × LogsJoinKeysFailed (string_bytes public) (string_bytes signer) (string_bytes out)
+    fault old new
 
 -- a command that the arguments ask for is done; or they ask for help, and a text is printed, or they
 -- are mistaken, and nothing is called

@@ -1,16 +1,17 @@
 -- Runs of the program at one state, one after another, each perhaps cut off by a crash.
-use Rattle.std.specs.Prelude.{◌≡◌, ◌⊎◌, ℕ, List, [], ◌∷◌, AllPairs, Option}
+use Rattle.std.specs.Prelude.{◌≡◌, ◌⊎◌, ℕ, List, [], ◌∷◌, AllPairs, Option, string_bytes}
 use Rattle.clap.specs.Words.{Text}
 use Rattle.lms_commands.specs.Histories.{AreDelivered, ArePrinted, HandsKey, HandsNothing, HandsState, HandsVerdict, StateTexts, IsBeginning, IsCarriedAlong, IsEarlier, IsTurn, TakenTurn, Signature, all_left}
 use Rattle.lms_commands.specs.Logs.{WorldCalls}
 use Rattle.lms_commands.specs.declared.status.Status.{Status}
+use Rattle.lms_join_commands.specs.Joined.{HandsJoined, HandsJoinedKey}
 use Rattle.lms_cli.specs.Commands.{AreTakenAs, AsksForHelp}
 use Rattle.lms_cli.specs.RunLogs.{LogsRun}
 use Rattle.lms_cli.specs.declared.command.types.Command.{Command}
-use Rattle.lms_cli.specs.declared.command.types.Command.TheVariants.{Batch, Info, Keygen, Public, Sign, Verify}
+use Rattle.lms_cli.specs.declared.command.types.Command.TheVariants.{Batch, Info, Join, JoinPublic, Keygen, Public, Sign, Verify}
 
 -- what a command hands out: `sign` writes signatures to its file, `batch` prints their lines, and
--- no other has any
+-- no other has any of its own; what `join` writes repeats one that was read
 abbrev pub HandsOut : Command → List Signature → WorldCalls → List ℕ → List ℕ → Type 0
 HandsOut (Keygen levels seed id state public) signatures whole before printed =
     (signatures ≡ []) × (HandsNothing whole before printed ⊎ HandsKey whole before printed)
@@ -24,6 +25,10 @@ HandsOut (Batch state workers) signatures whole before printed =
     ArePrinted signatures whole before printed
 HandsOut (Verify public message signature) signatures whole before printed =
     (signatures ≡ []) × HandsVerdict whole before printed
+HandsOut (Join public endorsement signer signature out) signatures whole before printed =
+    (signatures ≡ []) × HandsJoined (string_bytes signature) whole before printed
+HandsOut (JoinPublic public signer out) signatures whole before printed =
+    (signatures ≡ []) × HandsJoinedKey whole before printed
 
 -- a run of the program: what it is handed and what comes of it, by the contract of `run` on its
 -- calls; all calls that it would make, and those that it began before it ended or crashed

@@ -1,7 +1,7 @@
 -- The arguments that the usage lines show.
 use Rattle.std.specs.Prelude.{◌≡◌, ◌++◌, List, ◌∷◌, [], codes, true}
 use Rattle.clap.specs.Words.{Text, takes}
-use Rattle.lms_cli.specs.Application.{Subcommand, batch, info, keygen, lms_app, public_key, sign, verify}
+use Rattle.lms_cli.specs.Application.{Subcommand, batch, info, join, join_public, keygen, lms_app, public_key, sign, verify}
 use Rattle.lms_cli.specs.Commands.{AsksFor}
 
 -- `--NAME=TEXT` for each name and the text in its place
@@ -41,3 +41,12 @@ BatchIsTaken = (state workers : Text) → TakesTexts batch (state ∷ workers �
 abbrev pub VerifyIsTaken : Type 0
 VerifyIsTaken =
     (public message signature : Text) → TakesTexts verify (public ∷ message ∷ signature ∷ [])
+
+abbrev pub JoinIsTaken : Type 0
+JoinIsTaken =
+    (public endorsement signer signature out : Text)
+    → TakesTexts join (public ∷ endorsement ∷ signer ∷ signature ∷ out ∷ [])
+
+abbrev pub JoinPublicIsTaken : Type 0
+JoinPublicIsTaken =
+    (public signer out : Text) → TakesTexts join_public (public ∷ signer ∷ out ∷ [])

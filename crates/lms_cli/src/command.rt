@@ -2,7 +2,7 @@
 ghost use Rattle.std.specs.Prelude.{◌≡◌, [], codes, IfOk, IfErr, IsSome, Some, MatchResult, map, true, false, string_bytes};
 ghost use Rattle.clap.specs.Words.{app_of, fault_of, first_value, found_of, kind_of, rows_of, rule_of, takes};
 ghost use Rattle.clap.specs.declared.builder.command.Command.TheViews.{out-Command as fields_of};
-ghost use Rattle.lms_cli.specs.Application.{app_for, batch, subcommand_called, info, keygen, lms_app, public_key, required_option, sign, verify};
+ghost use Rattle.lms_cli.specs.Application.{app_for, bare_app, batch, subcommand_called, info, join, join_public, keygen, lms_app, public_key, required_option, sign, verify};
 ghost use Rattle.lms_cli.specs.Commands.{AreWordsOf, FaultAt, FaultOf, HasOptions, IsMadeOf};
 
 pub mod laws;
@@ -59,6 +59,20 @@ const VERIFY_NOTE: &str = "Example:
 
 Ends with status 0 for `valid`, 1 for `invalid`, and another where a file can't be read.";
 
+const JOIN_NOTE: &str = "Example:
+  tail -c 56 signer.pub > signer.key
+  lms_tool sign --state top.state --random \"$(openssl rand -hex 32)\" --message signer.key --out signer.endorsement
+  lms_tool join --public top.pub --endorsement signer.endorsement --signer signer.pub --signature firmware.sig --out joined.sig
+
+The endorsement is the top key's signature of the last 56 bytes of the signer's public key. Under the key that `join-public`
+makes, the joined signature is valid for the messages for which the signer's is. The top key must sign such keys and nothing
+else: 56 bytes that are one endorse it, whatever they were meant to be. Both keys have together at most 8 levels.";
+
+const JOIN_PUBLIC_NOTE: &str = "Example:
+  lms_tool join-public --public top.pub --signer signer.pub --out joined.pub
+
+The key is the same for all signers' keys with as many levels.";
+
 /// The command that the command-line arguments ask for; the first of them is the program's name.
 ///
 /// `Help` where they ask for help and `Usage` where they are no command, both with clap's text, and
@@ -84,15 +98,24 @@ pub fn command<S: AsStr>(alloc: Global, words: &[S]) -> Result<Command, CommandF
 fn application<'a>(alloc: Global) -> Result<clap::Command<'a>, AllocError>
     ensures { IfOk result (λ c. app_of c ≡ lms_app) }
 {
-    clap::Command::new(alloc, "lms_tool")
-        .about("Makes keys, signs and verifies with HSS/LMS (RFC 8554)")
-        .subcommand_required(true)
+    bare_application(alloc)
         .subcommand(keygen_application(alloc)?)?
         .subcommand(info_application(alloc)?)?
         .subcommand(public_application(alloc)?)?
         .subcommand(sign_application(alloc)?)?
         .subcommand(batch_application(alloc)?)?
-        .subcommand(verify_application(alloc)?)
+        .subcommand(verify_application(alloc)?)?
+        .subcommand(join_application(alloc)?)?
+        .subcommand(join_public_application(alloc)?)
+}
+
+/// The program without its subcommands.
+fn bare_application<'a>(alloc: Global) -> clap::Command<'a>
+    ensures { app_of result ≡ bare_app }
+{
+    clap::Command::new(alloc, "lms_tool")
+        .about("Makes keys, signs and verifies with HSS/LMS (RFC 8554)")
+        .subcommand_required(true)
 }
 
 fn keygen_application<'a>(alloc: Global) -> Result<clap::Command<'a>, AllocError>
@@ -196,6 +219,52 @@ fn verify_application<'a>(alloc: Global) -> Result<clap::Command<'a>, AllocError
         .arg(option(alloc, "signature", "FILE", "The signature, raw bytes"))
 }
 
+fn join_application<'a>(alloc: Global) -> Result<clap::Command<'a>, AllocError>
+    ensures app { IfOk result (λ c. app_of c ≡ app_for join) }
+    ensures local { IfOk result (λ c. (fields_of c).has_globals ≡ false) }
+{
+    clap::Command::new(alloc, "join")
+        .about("Joins a signature with a top key's endorsement of its key")
+        .after_help(JOIN_NOTE)
+        .arg(option(alloc, "public", "FILE", "The top public key, 60 bytes"))?
+        .arg(option(
+            alloc,
+            "endorsement",
+            "FILE",
+            "The top key's signature of the signer's key",
+        ))?
+        .arg(option(alloc, "signer", "FILE", "The signer's public key, 60 bytes"))?
+        .arg(option(
+            alloc,
+            "signature",
+            "FILE",
+            "A signature by the signer's key",
+        ))?
+        .arg(option(
+            alloc,
+            "out",
+            "FILE",
+            "Where the joined signature is written, in place of any older file",
+        ))
+}
+
+fn join_public_application<'a>(alloc: Global) -> Result<clap::Command<'a>, AllocError>
+    ensures app { IfOk result (λ c. app_of c ≡ app_for join_public) }
+    ensures local { IfOk result (λ c. (fields_of c).has_globals ≡ false) }
+{
+    clap::Command::new(alloc, "join-public")
+        .about("Writes the public key of joined signatures")
+        .after_help(JOIN_PUBLIC_NOTE)
+        .arg(option(alloc, "public", "FILE", "The top public key, 60 bytes"))?
+        .arg(option(alloc, "signer", "FILE", "A signer's public key, 60 bytes"))?
+        .arg(option(
+            alloc,
+            "out",
+            "FILE",
+            "Where the public key is written, 60 bytes, in place of any older file",
+        ))
+}
+
 /// A required option `--NAME VALUE`.
 fn option<'a>(alloc: Global, name: &'a str, value: &'a str, help: &'a str) -> Arg<'a>
     ensures rule { rule_of result ≡ required_option name.entry.now }
@@ -220,6 +289,8 @@ fn read(alloc: Global, name: &str, options: &ArgMatches<'_>) -> Result<Command, 
         "sign" => read_sign(alloc, options),
         "batch" => read_batch(alloc, options),
         "verify" => read_verify(alloc, options),
+        "join" => read_join(alloc, options),
+        "join-public" => read_join_public(alloc, options),
         _ => unreachable!(),
     }
 }
@@ -286,6 +357,30 @@ fn read_verify(alloc: Global, options: &ArgMatches<'_>) -> Result<Command, Alloc
         public: option_text(alloc, options, "public")?,
         message: option_text(alloc, options, "message")?,
         signature: option_text(alloc, options, "signature")?,
+    })
+}
+
+fn read_join(alloc: Global, options: &ArgMatches<'_>) -> Result<Command, AllocError>
+    requires { HasOptions (Some join) (found_of options.now) }
+    ensures { IfOk result (IsMadeOf (codes "join") (rows_of (found_of options.now))) }
+{
+    Ok(Command::Join {
+        public: option_text(alloc, options, "public")?,
+        endorsement: option_text(alloc, options, "endorsement")?,
+        signer: option_text(alloc, options, "signer")?,
+        signature: option_text(alloc, options, "signature")?,
+        out: option_text(alloc, options, "out")?,
+    })
+}
+
+fn read_join_public(alloc: Global, options: &ArgMatches<'_>) -> Result<Command, AllocError>
+    requires { HasOptions (Some join_public) (found_of options.now) }
+    ensures { IfOk result (IsMadeOf (codes "join-public") (rows_of (found_of options.now))) }
+{
+    Ok(Command::JoinPublic {
+        public: option_text(alloc, options, "public")?,
+        signer: option_text(alloc, options, "signer")?,
+        out: option_text(alloc, options, "out")?,
     })
 }
 

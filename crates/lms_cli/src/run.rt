@@ -13,6 +13,7 @@ use lms_commands::{
     sign_file, sign_jobs, verify_files,
 };
 use lms_hss::Progress;
+use lms_join_commands::{JoinRequest, join_public_keys, join_signature};
 use lms_world::{Printer, World};
 use std::convert::AsStr;
 use std::io;
@@ -175,6 +176,31 @@ fn obey<W: World, I: Read, O: Write>(
                 output,
             )?;
             Ok(verdict.status())
+        }
+        Command::Join {
+            public,
+            endorsement,
+            signer,
+            signature,
+            out,
+        } => {
+            let request = JoinRequest {
+                public: &public,
+                endorsement: &endorsement,
+                signer: &signer,
+                signature: &signature,
+                out: &out,
+            };
+            join_signature(resources.alloc, world, &request)?;
+            Ok(Status::Done)
+        }
+        Command::JoinPublic {
+            public,
+            signer,
+            out,
+        } => {
+            join_public_keys(resources.alloc, world, &public, &signer, &out)?;
+            Ok(Status::Done)
         }
     }
 }

@@ -18,7 +18,7 @@ use Rattle.lms_lines.specs.declared.fault.JobsFault.TheVariants as jobs
 use Rattle.lms_lines.specs.declared.fault.LinesFault.{LinesFault}
 use Rattle.lms_lines.specs.declared.fault.LinesFault.TheVariants as lines
 use Rattle.lms_commands.specs.declared.fault.Fault.{Fault}
-use Rattle.lms_commands.specs.declared.fault.Fault.TheVariants.{BadLevels, TooManyLevels, TooTall, BadSeed, BadId, BadRandom, BadWorkers, BadJob, TooManyJobs, StateExists, StateInUse, ReadState, BadState, WriteState, WriteStateBurnt, Exhausted, OutOfMemory, OutOfMemoryBurnt, Partial, ReadInput, WriteOutput}
+use Rattle.lms_commands.specs.declared.fault.Fault.TheVariants.{BadLevels, TooManyLevels, TooTall, BadSeed, BadId, BadRandom, BadWorkers, BadPublicKey, BadEndorsement, BadSignature, BadJob, TooManyJobs, StateExists, StateInUse, ReadState, BadState, WriteState, WriteStateBurnt, Exhausted, OutOfMemory, OutOfMemoryBurnt, Partial, ReadInput, WriteOutput}
 use Rattle.lms_texts.specs.Faults.{levels_fault_text, seed_fault_text}
 use Rattle.lms_texts.specs.declared.fault.LevelsTextFault.{LevelsTextFault}
 use Rattle.lms_texts.specs.declared.fault.LevelsTextFault.TheVariants as unread
@@ -37,6 +37,9 @@ command_fault_text BadSeed = seed_fault_text seed.Bad
 command_fault_text BadId = codes "bad id"
 command_fault_text BadRandom = codes "bad random"
 command_fault_text BadWorkers = codes "bad workers"
+command_fault_text BadPublicKey = codes "bad public key"
+command_fault_text BadEndorsement = codes "bad endorsement"
+command_fault_text BadSignature = codes "bad signature"
 command_fault_text (BadJob line) = jobs_fault_text (jobs.BadJob line)
 command_fault_text TooManyJobs = jobs_fault_text jobs.TooManyJobs
 command_fault_text StateExists = codes "state exists"
@@ -65,6 +68,9 @@ status_of BadSeed = status.Usage
 status_of BadId = status.Usage
 status_of BadRandom = status.Usage
 status_of BadWorkers = status.Usage
+status_of BadPublicKey = status.Usage
+status_of BadEndorsement = status.Usage
+status_of BadSignature = status.Usage
 status_of (BadJob line) = status.Usage
 status_of TooManyJobs = status.Usage
 status_of StateExists = status.State

@@ -20,6 +20,10 @@ pub record Stays (old new : Held) : Type 0 where
   pub nodes : new.nodes ≡ old.nodes
   pub in_use : new.in_use ≡ old.in_use
 
+-- nothing is changed but files
+abbrev pub OnlyFiles : Held → Held → Type 0
+OnlyFiles old new = new ≡ record old { files = new.files }
+
 -- only the file of this name may have changed
 abbrev pub SameFilesBut : Bytes → Answers → Answers → Type 0
 SameFilesBut written old new =

@@ -35,6 +35,12 @@ pub enum Fault {
     BadRandom,
     /// The text for the workers is no decimal number from 1 to the most of a batch.
     BadWorkers,
+    /// A file is no HSS public key of known typecodes, or two keys have more than 8 levels together.
+    BadPublicKey,
+    /// The endorsement is not accepted for the signer's key under the top key.
+    BadEndorsement,
+    /// The signature has no count of signed keys, or another than signatures by the signer's key.
+    BadSignature,
     /// This line of the input, counted from 1, is the first that is no job line.
     BadJob { line: u64 },
     /// The input has over 1024 lines, of which the first 1024 are job lines.
@@ -80,6 +86,9 @@ impl Fault {
             | Fault::BadId
             | Fault::BadRandom
             | Fault::BadWorkers
+            | Fault::BadPublicKey
+            | Fault::BadEndorsement
+            | Fault::BadSignature
             | Fault::BadJob { .. }
             | Fault::TooManyJobs => Status::Usage,
             Fault::StateExists
@@ -108,6 +117,9 @@ impl fmt::Display for Fault {
             Fault::BadId => f.write_str("bad id"),
             Fault::BadRandom => f.write_str("bad random"),
             Fault::BadWorkers => f.write_str("bad workers"),
+            Fault::BadPublicKey => f.write_str("bad public key"),
+            Fault::BadEndorsement => f.write_str("bad endorsement"),
+            Fault::BadSignature => f.write_str("bad signature"),
             Fault::BadJob { line } => write!(f, "{}", JobsFault::BadJob { line }),
             Fault::TooManyJobs => write!(f, "{}", JobsFault::TooManyJobs),
             Fault::StateExists => f.write_str("state exists"),

@@ -12,11 +12,7 @@ use std::alloc::Global;
 
 /// The bytes of a file. `ReadInput` where it can't be read, `OutOfMemory` where memory for it was
 /// refused.
-pub(crate) fn read_file<W: World>(
-    alloc: Global,
-    world: &mut W,
-    name: &str,
-) -> Result<Vec<u8>, Fault>
+pub fn read_file<W: World>(alloc: Global, world: &mut W, name: &str) -> Result<Vec<u8>, Fault>
     ensures logged { W.events world.new
         ≡ Read name.now (read_of (caused result)) ∷ W.events world.old }
     ensures refused { IfErr result IsReadRefused }
@@ -61,7 +57,7 @@ pub(crate) fn hand_over<C: Contents, T: Taker>(contents: C, taker: &mut T) -> Re
 
 /// Makes these the bytes of a file, and changes no other. `WriteOutput` where it can't be written,
 /// `OutOfMemory` where memory for that was refused.
-pub(crate) fn write_file<W: World>(world: &mut W, name: &str, bytes: &[u8]) -> Result<(), Fault>
+pub fn write_file<W: World>(world: &mut W, name: &str, bytes: &[u8]) -> Result<(), Fault>
     ensures logged { W.events world.new
         ≡ Written name.now bytes.now (written_so result) ∷ W.events world.old }
     ensures refused { IfErr result IsWriteRefused }
@@ -75,7 +71,7 @@ pub(crate) fn write_file<W: World>(world: &mut W, name: &str, bytes: &[u8]) -> R
 }
 
 /// The same, and flushes the file where that can be done.
-pub(crate) fn write_flushed<W: World>(
+pub fn write_flushed<W: World>(
     alloc: Global,
     world: &mut W,
     name: &str,

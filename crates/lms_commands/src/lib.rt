@@ -19,6 +19,7 @@ mod verify;
 
 pub use crate::batch::sign_jobs;
 pub use crate::fault::{Fault, print_fault};
+pub use crate::files::{read_file, write_file, write_flushed};
 pub use crate::info::describe;
 pub use crate::keygen::{key_from, make_key};
 pub use crate::public::publish_key;

@@ -2,6 +2,7 @@ mod arguments;
 mod batch;
 mod batch_faults;
 mod faults;
+mod joined;
 mod kept;
 mod lines;
 mod memory;

@@ -1,6 +1,6 @@
 //! What the program's usage promises, over clap's definition of it.
 
-ghost use Rattle.lms_cli.specs.UsageArguments.{BatchIsTaken, InfoIsTaken, KeygenIsTaken, PublicIsTaken, SignIsTaken, VerifyIsTaken};
+ghost use Rattle.lms_cli.specs.UsageArguments.{BatchIsTaken, InfoIsTaken, JoinIsTaken, JoinPublicIsTaken, KeygenIsTaken, PublicIsTaken, SignIsTaken, VerifyIsTaken};
 
 /// `keygen --levels=L --seed=S --id=I --state=K --public=P` is taken for any five texts, as
 /// `keygen` with these.
@@ -33,4 +33,16 @@ pub fn batch_is_taken()
 /// and S.
 pub fn verify_is_taken()
     ensures { VerifyIsTaken }
+{}
+
+/// `join --public=P --endorsement=E --signer=K --signature=S --out=J` is taken for any five names,
+/// as `join` on these.
+pub fn join_is_taken()
+    ensures { JoinIsTaken }
+{}
+
+/// `join-public --public=P --signer=K --out=J` is taken for any three names, as `join-public` on
+/// these.
+pub fn join_public_is_taken()
+    ensures { JoinPublicIsTaken }
 {}

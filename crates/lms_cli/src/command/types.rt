@@ -41,4 +41,21 @@ pub enum Command {
         message: String,
         signature: String,
     },
+    /// Join a signature by a signer's key with a top key's endorsement of that key, and write it to
+    /// the file `out`. The others name the files of the top public key, the endorsement, the
+    /// signer's public key and its signature.
+    Join {
+        public: String,
+        endorsement: String,
+        signer: String,
+        signature: String,
+        out: String,
+    },
+    /// Write the public key of joined signatures, of a top public key and a signer's, to the file
+    /// `out`.
+    JoinPublic {
+        public: String,
+        signer: String,
+        out: String,
+    },
 }

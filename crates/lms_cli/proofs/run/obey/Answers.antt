@@ -1,6 +1,6 @@
 use Rattle.std.proofs.Common.{inl, inr, refl, sym, ⊎_elim, ◌∙◌}
 use Rattle.clap.proofs.TakesLemmas.{passed_up}
-use Rattle.lms_cli.proofs.Ending.{failed_as, signed_as}
+use Rattle.lms_cli.proofs.Ending.{failed_as, joined_as, not_joined_as, same_names, signed_as}
 use Rattle.lms_cli.proofs.run.obey.Goals as goal
 
 pub returns-in_err-key-in-Keygen-clause-log_failed : goal.returns-in_err-key-in-Keygen-clause-log_failed
@@ -75,3 +75,26 @@ returns-in_err-make_key-in-Keygen-clause-unread g c =
 pub returns-in_ok-make_key-in-Keygen-clause-unread : goal.returns-in_ok-make_key-in-Keygen-clause-unread
 returns-in_ok-make_key-in-Keygen-clause-unread g c =
     ⊎_elim inl (λ asks. inr (rw c.in-Keygen.is (sym c.deref-in-Keygen.ensures ∙ asks))) c.key_from.ensures.unread
+
+pub returns-in_ok-join_signature-in-Join-clause-logged : goal.returns-in_ok-join_signature-in-Join-clause-logged
+returns-in_ok-join_signature-in-Join-clause-logged g c =
+    let same = same_names c.deref-in-Join.ensures c.deref-in-Join-2.ensures c.deref-in-Join-3.ensures c.deref-in-Join-4.ensures c.deref-in-Join-5.ensures in
+    rw c.in-Join.is (refl, refl, joined_as same c.in_ok-join_signature-in-Join.ensures.logged)
+
+pub returns-in_err-join_signature-in-Join-clause-log_failed : goal.returns-in_err-join_signature-in-Join-clause-log_failed
+returns-in_err-join_signature-in-Join-clause-log_failed g c =
+    let same = same_names c.deref-in-Join.ensures c.deref-in-Join-2.ensures c.deref-in-Join-3.ensures c.deref-in-Join-4.ensures c.deref-in-Join-5.ensures in
+    let failed = not_joined_as same c.in_err-join_signature-in-Join.ensures.log_failed in
+    rw c.in-Join.is (passed_up _ _ _ c.from_residual-in_err-join_signature-in-Join.ensures.1 (refl, failed))
+
+pub returns-in_ok-join_public_keys-in-JoinPublic-clause-logged : goal.returns-in_ok-join_public_keys-in-JoinPublic-clause-logged
+returns-in_ok-join_public_keys-in-JoinPublic-clause-logged g c =
+    let logged = rw (c.deref-in-JoinPublic.ensures, c.deref-in-JoinPublic-2.ensures, c.deref-in-JoinPublic-3.ensures) at
+    c.in_ok-join_public_keys-in-JoinPublic.ensures.logged in
+    rw c.in-JoinPublic.is (refl, refl, logged)
+
+pub returns-in_err-join_public_keys-in-JoinPublic-clause-log_failed : goal.returns-in_err-join_public_keys-in-JoinPublic-clause-log_failed
+returns-in_err-join_public_keys-in-JoinPublic-clause-log_failed g c =
+    let failed = rw (c.deref-in-JoinPublic.ensures, c.deref-in-JoinPublic-2.ensures, c.deref-in-JoinPublic-3.ensures) at
+    c.in_err-join_public_keys-in-JoinPublic.ensures.log_failed in
+    rw c.in-JoinPublic.is (passed_up _ _ _ c.from_residual-in_err-join_public_keys-in-JoinPublic.ensures.1 (refl, failed))

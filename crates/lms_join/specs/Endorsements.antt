@@ -1,0 +1,46 @@
+-- What an endorsement holds, and which signatures are joined with it.
+use Rattle.std.specs.Prelude.{ℕ, ◌≡◌, ◌≢◌, ◌⊎◌, ◌+◌, ◌-◌, ◌<◌, ◌≤◌, List, ◌++◌, length}
+use Rattle.lms_spec.specs.Bytes.{u32str}
+use Rattle.lms_spec.specs.Parameters.{lms_public_key_length}
+use Rattle.lms_spec.specs.Hss.{most_levels, AcceptsThrough, HssAccepts}
+use Rattle.lms_join.specs.Joined.{count_of, after_count}
+use Rattle.lms_join.specs.Keys.{AreJoinable}
+
+-- a top public key, its signature of a signer's LMS public key, and the signer's public key
+pub record EndorsementParts : Type 0 where
+  pub top_public : List ℕ
+  pub endorsement : List ℕ
+  pub signer_public : List ℕ
+
+-- the keys can be joined, and the top key's signature is accepted
+pub record IsEndorsed (top_public endorsement signer_public : List ℕ) : Type 0 where
+  pub joinable : AreJoinable top_public signer_public
+  pub accepted : HssAccepts top_public (after_count signer_public) endorsement
+
+-- the parts of an endorsement that is accepted
+pub record HoldsEndorsement (top_levels signer_levels : ℕ) (top_key signatures signer_key : List ℕ)
+    : Type 0 where
+  pub some_top : 1 ≤ top_levels
+  pub some_signer : 1 ≤ signer_levels
+  pub eight_at_most : top_levels + signer_levels ≤ most_levels
+  pub key_length : length signer_key ≡ lms_public_key_length
+  pub accepted : AcceptsThrough (top_levels - 1) top_key signer_key signatures
+
+-- the keys and the signature that are put together of such parts
+abbrev pub endorsement_of : ℕ → ℕ → List ℕ → List ℕ → List ℕ → EndorsementParts
+endorsement_of top_levels signer_levels top_key signatures signer_key = record {
+  top_public = u32str top_levels ++ top_key;
+  endorsement = u32str (top_levels - 1) ++ signatures;
+  signer_public = u32str signer_levels ++ signer_key;
+}
+
+-- the signature is long enough for a count of signed keys, and its count is the one that every
+-- signature under the public key has (6.2)
+pub record HasCountUnder (public_key signature : List ℕ) : Type 0 where
+  pub long_enough : 4 ≤ length signature
+  pub count : count_of signature ≡ count_of public_key - 1
+
+-- it is too short for one, or its count is another
+abbrev pub LacksCountUnder : List ℕ → List ℕ → Type 0
+LacksCountUnder public_key signature =
+    (length signature < 4) ⊎ (count_of signature ≢ count_of public_key - 1)

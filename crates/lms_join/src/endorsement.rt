@@ -1,0 +1,152 @@
+//! A top key's signature of a signer's key, and what it is joined with.
+ghost use Rattle.std.specs.Prelude.{ℕ, ◌≡◌, ◌↔◌, ◌-◌, ◌++◌, List, IfOk, IfSome, IfNone};
+ghost use Rattle.lms_spec.specs.Bytes.{u32str};
+ghost use Rattle.lms_spec.specs.Hss.{HssAccepts};
+ghost use Rattle.lms_join.specs.Joined.{count_of, joined_public, joined_signature};
+ghost use Rattle.lms_join.specs.Endorsements.{IsEndorsed, HasCountUnder, LacksCountUnder};
+
+use crate::keys::Keys;
+use lms_hss::{ChainEnds, HSS_KEY_LEN, LMS_KEY_LEN, OutOfMemory, public_key_bytes, verify_with};
+use lms_params::split_u32;
+use std::alloc::Global;
+use std::marker::Model;
+
+/// A top public key, its signature of a signer's LMS public key, which is accepted, and the
+/// signer's public key. Signatures by the signer's key are joined with it as they come, and nothing
+/// is verified again. Contracts see the two public keys and the top key's signature.
+#[derive(Drop)]
+pub struct Endorsement<'a> {
+    top_levels: u32,
+    signer_levels: u32,
+    top_key: &'a [u8; LMS_KEY_LEN],
+    signatures: &'a [u8],
+    signer_key: &'a [u8; LMS_KEY_LEN],
+}
+
+impl<'a> Model for Endorsement<'a> {
+    ghost use Rattle.lms_join.specs.Endorsements.{EndorsementParts, HoldsEndorsement, endorsement_of};
+
+    ghost Value = { EndorsementParts };
+
+    ghost view = { λ a. endorsement_of
+        a.top_levels a.signer_levels a.top_key.now a.signatures.now a.signer_key.now };
+
+    ghost invariant = { λ a. HoldsEndorsement
+        a.top_levels a.signer_levels a.top_key.now a.signatures.now a.signer_key.now };
+}
+
+impl<'a> Endorsement<'a> {
+    /// Verifies the top key's signature of the signer's LMS public key, which is `signer_public`
+    /// without its first four bytes. The three may have any length. Chains are taken to their ends
+    /// by `ends`. `None` exactly where the two keys can't be joined (`join_public`) or the
+    /// signature is not accepted.
+    pub fn new<C: ChainEnds>(
+        top_public: &'a [u8],
+        endorsement: &'a [u8],
+        signer_public: &'a [u8],
+        ends: C,
+    ) -> Option<Self>
+        ensures some { IfSome result (λ it. it ≡ record {
+          top_public = top_public.now;
+          endorsement = endorsement.now;
+          signer_public = signer_public.now;
+        }) }
+        ensures endorsed { IfSome result (λ _.
+            IsEndorsed top_public.now endorsement.now signer_public.now) }
+        ensures none { IfNone result
+            (¬ IsEndorsed top_public.now endorsement.now signer_public.now) }
+    {
+        let Keys { top, signer } = Keys::parse(top_public, signer_public)?;
+        let signer_key = signer.lms_key;
+        if !verify_with(top_public, signer_key, endorsement, ends) {
+            return None;
+        }
+        let (_, signatures) = split_u32(endorsement)?;
+        Some(Endorsement {
+            top_levels: top.levels,
+            signer_levels: signer.levels,
+            top_key: top.lms_key,
+            signatures,
+            signer_key,
+        })
+    }
+
+    /// The public key of joined signatures: the top one with the levels of both.
+    pub fn public(&self) -> [u8; HSS_KEY_LEN]
+        ensures { result ≡ joined_public self.now.top_public self.now.signer_public }
+    {
+        public_key_bytes(self.top_levels + self.signer_levels, self.top_key)
+    }
+
+    /// The joined signature of the endorsement and a signature by the signer's key, which may have
+    /// any length: it is accepted for just the messages for which the signer's is. `None` exactly
+    /// where the signer's has fewer than four bytes, or counts another number of signed keys in
+    /// them than signatures by the signer's key have: it is accepted for no message then.
+    /// `OutOfMemory` where memory is refused.
+    pub fn join(&self, alloc: Global, signature: &[u8]) -> Result<Option<Vec<u8>>, OutOfMemory>
+        ensures text { IfOk result (λ answer. IfSome answer (λ text. text.items
+            ≡ joined_signature self.now.top_public self.now.endorsement
+            self.now.signer_public signature.now)) }
+        ensures accepted { IfOk result (λ answer. IfSome answer (λ text. (message : List ℕ)
+            → (HssAccepts
+            (joined_public self.now.top_public self.now.signer_public) message text.items
+            ↔ HssAccepts self.now.signer_public message signature.now))) }
+        ensures count { IfOk result (λ answer. IfSome answer (λ _.
+            HasCountUnder self.now.signer_public signature.now)) }
+        ensures none { IfOk result (λ answer. IfNone answer
+            (LacksCountUnder self.now.signer_public signature.now)) }
+        ensures never { IfOk result (λ answer. IfNone answer ((message : List ℕ)
+            → ¬ HssAccepts self.now.signer_public message signature.now)) }
+    {
+        let Some(signatures) = self.signatures_in(signature) else {
+            return Ok(None);
+        };
+        let signed_keys = self.top_levels + self.signer_levels - 1;
+        let text = joined_text(
+            alloc,
+            signed_keys,
+            self.signatures,
+            self.signer_key,
+            signatures,
+        )?;
+        Ok(Some(text))
+    }
+
+    /// What is after the count of signed keys in a signature by the signer's key. `None` exactly
+    /// where there are fewer than four bytes, or the count is another.
+    fn signatures_in<'s>(&self, signature: &'s [u8]) -> Option<&'s [u8]>
+        ensures some { IfSome result (λ rest. signature.now
+            ≡ u32str (count_of self.now.signer_public - 1) ++ rest.now) }
+        ensures count { IfSome result (λ _.
+            HasCountUnder self.now.signer_public signature.now) }
+        ensures none { IfNone result (LacksCountUnder self.now.signer_public signature.now) }
+    {
+        let (signed_keys, signatures) = split_u32(signature)?;
+        if signed_keys != self.signer_levels - 1 {
+            return None;
+        }
+        Some(signatures)
+    }
+}
+
+/// A number and three byte strings after it.
+fn joined_text(
+    alloc: Global,
+    signed_keys: u32,
+    endorsement: &[u8],
+    key: &[u8; LMS_KEY_LEN],
+    signature: &[u8],
+) -> Result<Vec<u8>, OutOfMemory>
+    ensures { IfOk result (λ text.
+        text.items ≡ u32str signed_keys ++ endorsement.now ++ key.now ++ signature.now) }
+{
+    let length = (4 + LMS_KEY_LEN)
+        .saturating_add(endorsement.len())
+        .saturating_add(signature.len());
+    let mut text = Vec::with_capacity(alloc, length)?;
+    text.extend_from_slice(&signed_keys.to_be_bytes())?;
+    text.extend_from_slice(endorsement)?;
+    text.extend_from_slice(key)?;
+    text.extend_from_slice(signature)?;
+    Ok(text)
+}

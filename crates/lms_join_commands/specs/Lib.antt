@@ -1,0 +1,4 @@
+pub mod JoinLogs
+pub mod Requests
+pub mod JoinInMemory
+pub mod Joined

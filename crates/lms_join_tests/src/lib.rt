@@ -1,0 +1,5 @@
+//! Tests of `lms_join`.
+#![tactic(auto)]
+
+#[cfg(test)]
+mod tests;

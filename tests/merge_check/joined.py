@@ -1,0 +1,228 @@
+"""`join` and `join-public`: what they write, byte for byte, each fault, and that they change no other
+file. And four machines that sign at once under one public key."""
+
+import concurrent.futures
+import itertools
+import os
+import signal
+
+from tests.harness import TOP, holds, test
+from tests.program import TO_JOIN, ends, fails, has, index_in, join, join_public, keygen, preload, put, read, run, sign, verify
+from tests.reference import image, joined, number, parts_to_join, public_of, signature_by, way_of
+
+ONE = ((5, 1),)
+# The levels of a top key and of a signer's: up to eight together, and of different heights and widths.
+PAIRS = [(ONE, ONE), (ONE * 4, ONE * 4), (ONE * 7, ONE), (ONE, ONE * 7), (((5, 4), (5, 1)), ((5, 8),)), (((10, 1),), ((5, 2), (5, 4)))]
+BAD_KEY, BAD_ENDORSEMENT, BAD_SIGNATURE = "bad public key", "bad endorsement", "bad signature"
+
+
+class Key:
+    """A key of these levels, whose seed is 32 times this byte."""
+
+    def __init__(self, levels, byte):
+        self.levels, self.seed = levels, bytes([byte]) * 32
+        self.public = public_of(levels, self.seed)
+
+    def signs(self, index, message):
+        """Its signature of a message by an index."""
+        return signature_by(way_of(self.levels, index, seed=self.seed), message)
+
+
+def files():
+    """Each file with its bytes, which file it is, and when it was written."""
+    found = {name: os.stat(name) for name in os.listdir()}
+    return {name: (read(name), it.st_ino, it.st_mtime_ns) for name, it in found.items() if os.path.isfile(name)}
+
+
+def put_parts(parts):
+    """The four files, and a state."""
+    for name, contents in zip(TO_JOIN, parts):
+        put(name, contents)
+    put("key.state", image(ONE, 5))
+
+
+def joins(parts, message=b"abc", verdict="valid"):
+    """What is joined of these parts, in place of a longer file, and the public key. This is the verdict
+    on it. No other file is changed or made."""
+    put_parts(parts)
+    put("message", message)
+    put("joined.sig", bytes(90000))
+    put("joined.pub", b"")
+    before = files()
+    ends(join(), 0)
+    ends(join_public(), 0)
+    after = files()
+    public, signature = joined(*parts)
+    has("joined.sig", signature)
+    has("joined.pub", public)
+    holds(after.keys() == before.keys(), f"the files are {sorted(after)}")
+    changed = {name for name in before if after[name] != before[name]}
+    holds(changed == {"joined.sig", "joined.pub"}, f"{sorted(changed)} were written")
+    ends(verify("message", "joined.sig", "joined.pub"), int(verdict == "invalid"), f"{verdict}\n")
+
+
+def refused(parts, line, status=2, words=None):
+    """Nothing is joined of these parts, by this fault. No file is changed, and none is made."""
+    put_parts(parts)
+    put("joined.sig", b"as it was")
+    before = files()
+    fails(words or join(), status, line)
+    holds(files() == before, f"{line}: a file was written")
+
+
+@test
+def joins_two_keys():
+    for top, signer in PAIRS:
+        joins(parts_to_join(top, signer))
+
+
+@test
+def joins_three_tiers():
+    """In either order: the joined key above is a top key, and the joined key below a signer's."""
+    top, middle, low = Key(((5, 8),), 0x44), Key(ONE, 0x55), Key(ONE * 2, 0x66)
+    above = [top.public, top.signs(7, middle.public[4:]), middle.public, middle.signs(9, low.public[4:])]
+    below = [middle.public, above[3], low.public, low.signs(40, b"abc")]
+    joins(above, low.public[4:])
+    key, endorsement = read("joined.pub"), read("joined.sig")
+    joins([key, endorsement, *below[2:]])
+    found = read("joined.pub"), read("joined.sig")
+    joins(below)
+    joins([*above[:2], read("joined.pub"), read("joined.sig")])
+    holds(found == (read("joined.pub"), read("joined.sig")), "another signature in the other order")
+
+
+@test
+def joins_a_key_of_another_implementation():
+    public, message, signature = (read(TOP / "examples" / it) for it in ("release.pub", "firmware.bin", "firmware.sig"))
+    top = Key(ONE, 0x44)
+    joins([top.public, top.signs(0, public[4:]), public, signature], message)
+
+
+@test
+def refuses_nine_levels():
+    for top, signer in ((5, 4), (8, 1), (1, 8)):
+        parts = parts_to_join(ONE * top, ONE * signer)
+        refused(parts, BAD_KEY)
+        refused(parts, BAD_KEY, words=join_public())
+
+
+@test
+def refuses_what_is_no_key():
+    """Either of the two, empty, cut, longer, with another number of levels or another typecode."""
+    parts = parts_to_join(ONE, ONE)
+    for at in (0, 2):
+        key = parts[at]
+        others = [b"", key[:3], key[:59], key + b"\0", number(0, 4) + key[4:], number(9, 4) + key[4:]]
+        for other in [*others, key[:7] + b"\x0a" + key[8:], key[:11] + b"\5" + key[12:]]:
+            parts[at] = other
+            refused(parts, BAD_KEY)
+            refused(parts, BAD_KEY, words=join_public())
+        parts[at] = key
+
+
+@test
+def refuses_what_is_no_endorsement():
+    """That of another signer's key, by another top key, of the whole file of the key; one that is
+    empty, cut, longer, or counts another number of signed keys."""
+    top, other, signer = Key(ONE, 0x44), Key(ONE, 0x66), Key(ONE, 0x55)
+    good = top.signs(7, signer.public[4:])
+    bad = [top.signs(7, other.public[4:]), other.signs(7, signer.public[4:]), top.signs(7, signer.public)]
+    for endorsement in [*bad, b"", good[:3], good[:-1], good + b"\0", number(1, 4) + good[4:]]:
+        refused([top.public, endorsement, signer.public, signer.signs(3, b"abc")], BAD_ENDORSEMENT)
+
+
+@test
+def refuses_signatures_of_other_levels():
+    *parts, good = parts_to_join(ONE, ONE)
+    for signature in (b"", good[:3], number(1, 4) + good[4:], Key(ONE * 2, 0x55).signs(3, b"abc")):
+        refused([*parts, signature], BAD_SIGNATURE)
+
+
+@test
+def joins_what_is_invalid():
+    """Where the signer's signature is: by another key of as many levels, cut, longer, of another
+    message."""
+    *parts, good = parts_to_join(ONE, ONE)
+    for signature in (Key(ONE, 0x66).signs(3, b"abc"), good[:-1], good[:4], good + b"\0", Key(ONE, 0x55).signs(3, b"abd")):
+        joins([*parts, signature], verdict="invalid")
+
+
+@test
+def finds_the_first_fault():
+    """A file that can't be read, then keys, endorsement, signature, and at last the file that is
+    written."""
+    parts = parts_to_join(ONE, ONE)
+    refused([b"", b"", parts[2], b""], BAD_KEY)
+    refused([parts[0], b"", parts[2], b""], BAD_ENDORSEMENT)
+    refused([*parts[:3], b""], BAD_SIGNATURE, words=join(out="none/joined.sig"))
+    refused([b""] * 4, "cannot read input", 6, join(signature="none"))
+
+
+@test
+def fails_by_its_files():
+    parts = parts_to_join(ONE, ONE)
+    for option in ("public", "endorsement", "signer", "signature"):
+        for name in ("none", "."):
+            refused(parts, "cannot read input", 6, join(**{option: name}))
+    for option in ("public", "signer"):
+        refused(parts, "cannot read input", 6, join_public(**{option: "none"}))
+    for out in ("none/joined", ".", "/dev/full", "key.state"):
+        refused(parts, "cannot write output", 6, join(out=out))
+        refused(parts, "cannot write output", 6, join_public(out=out))
+
+
+def killed(words, out):
+    """A command is killed at each of its operations in turn: no file is changed but the one of this
+    name."""
+    for at in itertools.count(1):
+        put_parts(parts_to_join(ONE, ONE))
+        put(out, b"as it was")
+        before = files()
+        ran = run(words, env=preload("stop", STOP=at, MET=os.path.abspath("met")))
+        if not os.path.exists("met"):
+            holds(ran.returncode == 0 and at > 10, f"it ended with {ran.returncode} after {at - 1} operations")
+            return
+        os.remove("met")
+        holds(ran.returncode == -signal.SIGKILL, f"killed at {at}, it ended with {ran.returncode}")
+        holds({**files(), out: None} == {**before, out: None}, f"killed at {at}, it changed another file")
+
+
+@test
+def a_kill_changes_no_other_file():
+    killed(join(), "joined.sig")
+    killed(join_public(), "joined.pub")
+
+
+def signs_all(name, count):
+    """A machine's key signs so many messages in the folder of its name. Its indices, as they are
+    printed."""
+    said = []
+    for at in range(count):
+        put(f"{name}/{at}", f"{name}, {at}".encode())
+        said.append(run(sign(str(at), f"{at}.sig", f"e{at:03}" * 16), cwd=name).stdout)
+    return said
+
+
+@test
+def four_machines_sign_at_once():
+    """25 messages each: 100 joined signatures are valid under one key, and no index of a key is used
+    twice, nor one of the top key's."""
+    machines, count = "1234", 25
+    ends(keygen("5/2", "a" * 64, "b" * 32, "top.state", "top.pub"), 0, "capacity 32\n")
+    for at, name in enumerate(machines):
+        os.mkdir(name)
+        ends(keygen("5/2", name * 64, f"c{name}" * 16), 0, "capacity 32\n", cwd=name)
+        put("signer.key", read(f"{name}/key.pub")[4:])
+        ends(sign("signer.key", f"{name}/key.end", f"e{at:03}" * 16, "top.state"), 0, f"index {at}\n")
+    with concurrent.futures.ThreadPoolExecutor(len(machines)) as pool:
+        said = list(pool.map(lambda name: signs_all(name, count), machines))
+    holds(said == [[f"index {at}\n" for at in range(count)]] * len(machines), f"the indices are {said}")
+    keys = set()
+    for name, at in itertools.product(machines, range(count)):
+        parts = [f"{name}/{it}" for it in ("key.end", "key.pub", f"{at}.sig")]
+        holds(index_in(read(parts[2]), ((5, 2),)) == at, "another index is in a signature")
+        ends(join("top.pub", *parts), 0)
+        ends(join_public(signer=parts[1]), 0)
+        keys.add(read("joined.pub"))
+        ends(verify(f"{name}/{at}", "joined.sig", "joined.pub"), 0, "valid\n")
+    holds(len(keys) == 1, "several joined keys")
