@@ -17,13 +17,18 @@ from tests.harness import TOP, holds, said_by
 
 VERSION = (TOP / "VERSION").read_text(encoding="utf-8").strip()
 NAME, DEBIAN = f"lms_tool-{VERSION}-x86_64", f"lms-tool_{VERSION}_amd64.deb"
-PACKED = [f"{NAME}.tar.gz", DEBIAN, "lms_verify.html", "SHA256SUMS"]
-COMMANDS = ["keygen", "sign", "batch", "verify", "info", "public"]
+ARM_NAME, ARM_DEBIAN = f"lms_tool-{VERSION}-aarch64", f"lms-tool_{VERSION}_arm64.deb"
+COMMANDS = ["keygen", "sign", "batch", "verify", "info", "public", "join", "join-public"]
 COMMON, FAST = "crates/lms_tool/out/lms_tool", "crates/lms_tool/out/avx2/lms_tool"
 LIBRARY, PAGE = "crates/lms_c/out/liblms_c.a", "examples/web/out/lms_verify.html"
 OUTPUTS = [COMMON, FAST, LIBRARY, PAGE]
+# Without which nothing is packed for aarch64.
+ARM = "crates/lms_tool/out/aarch64/lms_tool"
 LEVELS = ["x86-64-v2", "x86-64-v3"]
-PROGRAMS = ["bin/lms_tool", *(f"lib/lms_tool/{level}/lms_tool" for level in LEVELS)]
+LAUNCHER = "bin/lms_tool"
+# The programs of the packages for x86-64, which the launcher starts, and that of those for aarch64.
+PROGRAMS = {f"lib/lms_tool/{level}/lms_tool": built for level, built in zip(LEVELS, (COMMON, FAST))}
+ARM_PROGRAMS = {LAUNCHER: ARM}
 DOCS = "share/doc/lms-tool"
 DOCUMENTS = ["PROVED", "PROFILE", "C"]
 EXAMPLES = ["release.pub", "firmware.bin", "firmware.sig", "c/verify.c", "c/sha256.h"]
@@ -38,7 +43,7 @@ def copy_sources(folder, outputs):
     """A folder with all that `release` reads, with these files as outputs, and nothing else."""
     for part in ("src", "specs", "proofs"):
         os.makedirs(f"{folder}/crates/lms_c/{part}", exist_ok=True)
-    for name in ("docs", "include", "examples/c", "portable"):
+    for name in ("docs", "include", "examples/c", "portable", "runtime"):
         shutil.copytree(TOP / name, f"{folder}/{name}", ignore=shutil.ignore_patterns("__pycache__"))
     plain = [it.relative_to(TOP) for it in (TOP / "examples").glob("*.*")]
     sources = ["release", "VERSION", "README.md", "crates.txt", "examples/web/index.html", *plain]
@@ -64,17 +69,18 @@ def pack_twice(make):
     more = {"TAR_OPTIONS": "--mtime=now", "DPKG_DEB_COMPRESSOR_LEVEL": "1"}
     masked = ["sh", "-c", 'umask 077 && exec "$0" "$@"']
     said_by(*masked, "a folder elsewhere/release", "--built", "packed again", env={**both, **other, **more})
-    for file in PACKED:
+    for file in sorted({*os.listdir("packed"), *os.listdir("packed again")}):
         holds(pathlib.Path("packed", file).read_bytes() == pathlib.Path("packed again", file).read_bytes(), f"{file} has other bytes")
     holds(not os.listdir("temporary"), "temporary files are left")
 
 
 class Package:
     """A package, read without being unpacked: its files and folders by their names below the root
-    of what it installs, and where in there its library is."""
+    of what it installs, its programs, each with what it is made of, and where in there its library
+    is, if it has one."""
 
-    def __init__(self, name, packed, library):
-        self.name, self.library, self.found, self.bytes = name, library, {}, {}
+    def __init__(self, name, packed, programs, library=None):
+        self.name, self.programs, self.library, self.found, self.bytes = name, programs, library, {}, {}
         for it in packed:
             below = os.path.relpath(it.name, name)
             self.found[below] = it
@@ -85,25 +91,25 @@ class Package:
         holds(is_so, f"{self.name}: {what}")
 
 
-def tarball(folder):
-    """The tarball in a folder."""
-    with tarfile.open(f"{folder}/{NAME}.tar.gz") as packed:
-        return Package(NAME, packed, "lib")
+def tarball(folder, name, *more):
+    """The tarball of a name in a folder."""
+    with tarfile.open(f"{folder}/{name}.tar.gz") as packed:
+        return Package(name, packed, *more)
 
 
-def debian(folder):
-    """The Debian package in a folder."""
-    words = ["dpkg-deb", "--fsys-tarfile", f"{folder}/{DEBIAN}"]
+def debian(folder, name, *more):
+    """The Debian package of a name in a folder."""
+    words = ["dpkg-deb", "--fsys-tarfile", f"{folder}/{name}"]
     with tarfile.open(fileobj=io.BytesIO(subprocess.run(words, stdout=subprocess.PIPE, check=True).stdout)) as packed:
-        return Package("usr", packed, "lib/x86_64-linux-gnu")
+        return Package("usr", packed, *more)
 
 
 def files_of(package):
     """The names of the files that a package is to have."""
-    library = [f"{package.library}/{name}" for name in ("liblms_c.a", "pkgconfig/lms.pc")]
+    library = [f"{package.library}/{name}" for name in ("liblms_c.a", "pkgconfig/lms.pc")] if package.library else []
     documents = [f"{DOCS}/{name}.md" for name in (*DOCUMENTS, "STATES")] + [f"{DOCS}/examples/{os.path.basename(it)}" for it in EXAMPLES]
     own = [f"{DOCS}/{name}" for name in ("changelog.gz", "copyright")] if package.name == "usr" else []
-    return [*PROGRAMS, *library, *documents, *own, *PAGES.values(), "include/lms.h", "share/lms-tool/lms_verify.c"]
+    return [*{LAUNCHER, *package.programs}, *library, *documents, *own, *PAGES.values(), "include/lms.h", "share/lms-tool/lms_verify.c"]
 
 
 def has_modes(package):
@@ -112,20 +118,22 @@ def has_modes(package):
     files = sorted(name for name, it in package.found.items() if not it.isdir())
     package.holds(files == sorted(files_of(package)), f"its files are {files}")
     for name, it in package.found.items():
-        wanted = 0o755 if it.isdir() or name in PROGRAMS else 0o644
+        wanted = 0o755 if it.isdir() or name in {LAUNCHER, *package.programs} else 0o644
         package.holds(it.isfile() or it.isdir(), f"{name} is neither file nor folder")
         package.holds(it.mode == wanted, f"{name} has the mode {it.mode:o}, not {wanted:o}")
         package.holds((it.uid, it.gid) == (0, 0), f"{name} has another owner")
 
 
 def has_programs(package, top):
-    """A package has both programs as they were built, but for what `strip` leaves out. They are
-    two."""
-    found = [package.bytes[name] for name in PROGRAMS[1:]]
-    for built, has in zip((COMMON, FAST), found):
-        said_by("strip", "-o", "stripped", f"{top}/{built}")
-        package.holds(has == pathlib.Path("stripped").read_bytes(), f"another program than {built}")
-    package.holds(found[0] != found[1], "its two programs are one")
+    """A package has its programs as they were built, but for what `strip` leaves out of those for
+    x86-64. They differ."""
+    for name, built in package.programs.items():
+        whole = f"{top}/{built}"
+        if built != ARM:
+            said_by("strip", "-o", "stripped", whole)
+            whole = "stripped"
+        package.holds(package.bytes[name] == pathlib.Path(whole).read_bytes(), f"another program than {built}")
+    package.holds(len({package.bytes[name] for name in package.programs}) == len(package.programs), "its programs are one")
 
 
 def advice(readme):
@@ -137,7 +145,7 @@ def advice(readme):
 def texts_of(package, top):
     """The files of a package that are made of sources, with the bytes that each is to have."""
     top = pathlib.Path(top)
-    texts = {f"{package.library}/liblms_c.a": (top / LIBRARY).read_bytes(), "include/lms.h": (top / "include/lms.h").read_bytes()}
+    texts = {"include/lms.h": (top / "include/lms.h").read_bytes()}
     texts["share/lms-tool/lms_verify.c"] = (top / "portable/lms_verify.c").read_bytes()
     for name in EXAMPLES:
         texts[f"{DOCS}/examples/{os.path.basename(name)}"] = (top / "examples" / name).read_bytes()
@@ -146,10 +154,15 @@ def texts_of(package, top):
         text = (top / f"docs/{name}.md").read_text(encoding="utf-8")
         texts[f"{DOCS}/{name}.md"] = re.sub(r"\[([^]\n]*)\]\([^)\n]*\)", r"\1", text).encode()
     texts[f"{DOCS}/STATES.md"] = advice((top / "README.md").read_text(encoding="utf-8")).encode()
-    up = "/".join([".."] * (package.library.count("/") + 2))
+    return {**texts, **(library_of(package.library, top) if package.library else {})}
+
+
+def library_of(folder, top):
+    """The library and its pkg-config file, in this folder of a package."""
+    up = "/".join([".."] * (folder.count("/") + 2))
     flags = (top / "include/lms.pc").read_text(encoding="utf-8").replace("${pcfiledir}/../..", f"${{pcfiledir}}/{up}")
-    texts[f"{package.library}/pkgconfig/lms.pc"] = flags.replace("-L${prefix}/lib ", f"-L${{prefix}}/{package.library} ").encode()
-    return texts
+    flags = flags.replace("-L${prefix}/lib ", f"-L${{prefix}}/{folder} ")
+    return {f"{folder}/liblms_c.a": (top / LIBRARY).read_bytes(), f"{folder}/pkgconfig/lms.pc": flags.encode()}
 
 
 def has_texts(package, top):
@@ -175,21 +188,22 @@ def has_manual(package, program):
         package.holds(not re.search(r"(?m)^[.']", raw), f"a line of {name} is lost")
 
 
-def has_sums(folder):
-    """What was packed are these files, all of which may be read by all and written by their owner
-    alone, and the sums of the others in SHA256SUMS."""
-    holds(sorted(os.listdir(folder)) == sorted(PACKED), f"{os.listdir(folder)} were packed")
-    for name in PACKED:
+def has_sums(folder, has_arm):
+    """What was packed are the files that should be, all of which may be read by all and written by
+    their owner alone, and the sums of the others in SHA256SUMS."""
+    packed = [f"{NAME}.tar.gz", DEBIAN, *[f"{ARM_NAME}.tar.gz", ARM_DEBIAN] * has_arm, "lms_verify.html"]
+    holds(sorted(os.listdir(folder)) == sorted([*packed, "SHA256SUMS"]), f"{os.listdir(folder)} were packed")
+    for name in [*packed, "SHA256SUMS"]:
         mode = stat.S_IMODE(os.stat(f"{folder}/{name}").st_mode)
         holds(mode == 0o644, f"{name} has the mode {mode:o}")
-    sums = [f"{hashlib.sha256(pathlib.Path(folder, name).read_bytes()).hexdigest()}  {name}" for name in PACKED[:3]]
+    sums = [f"{hashlib.sha256(pathlib.Path(folder, name).read_bytes()).hexdigest()}  {name}" for name in packed]
     holds(pathlib.Path(folder, "SHA256SUMS").read_text().splitlines() == sums, "SHA256SUMS has others")
 
 
-def has_own(folder, package, maintainer, seconds):
-    """The Debian package's own files: it names its version, maintainer and size, and each of its
-    files with its sum, and may be read by all."""
-    words = ["dpkg-deb", "--ctrl-tarfile", f"{folder}/{DEBIAN}"]
+def has_own(file, package, maintainer, seconds):
+    """The own files of the Debian package in this file: it names its version, maintainer and size,
+    and each of its files with its sum, and may be read by all."""
+    words = ["dpkg-deb", "--ctrl-tarfile", file]
     with tarfile.open(fileobj=io.BytesIO(subprocess.run(words, stdout=subprocess.PIPE, check=True).stdout)) as own:
         texts = {os.path.basename(it.name): own.extractfile(it).read().decode() for it in own if it.isfile()}
         holds(all(it.mode == (0o755 if it.isdir() else 0o644) for it in own), "its own files have other modes")
@@ -198,20 +212,27 @@ def has_own(folder, package, maintainer, seconds):
     files = {name: text for name, text in package.bytes.items() if package.found[name].isfile()}
     size = sum((len(text) + 1023) // 1024 for text in files.values())
     lines = texts["control"].splitlines()
-    named = {"Package": "lms-tool", "Version": VERSION, "Maintainer": maintainer, "Installed-Size": size, "Depends": "libc6 (>= 2.34)"}
+    named = {"Package": "lms-tool", "Version": VERSION, "Architecture": re.search(r"_(\w+)\.deb$", file)[1]}
+    named |= {"Maintainer": maintainer, "Installed-Size": size, "Depends": "libc6 (>= 2.34)"}
     for name, what in named.items():
         holds(f"{name}: {what}" in lines, f"control has no line {name}: {what}")
     sums = sorted(f"{hashlib.md5(text).hexdigest()}  usr/{name}" for name, text in files.items())
     holds(sorted(texts["md5sums"].splitlines()) == sums, "not each file has its sum")
 
 
-def are_right(folder, top, seconds=SECONDS, maintainer=MAINTAINER):
-    """All that was packed into a folder is made of the sources in another one, with this time and
-    maintainer."""
-    has_sums(folder)
-    has_own(folder, debian(folder), maintainer, seconds)
+def are_right(folder, top, has_arm, seconds=SECONDS, maintainer=MAINTAINER):
+    """All that was packed into a folder, also for aarch64 or not, is made of the sources in another
+    one, with this time and maintainer."""
+    has_sums(folder, has_arm)
     holds(pathlib.Path(folder, "lms_verify.html").read_bytes() == pathlib.Path(top, PAGE).read_bytes(), "another page was packed")
-    for package in (tarball(folder), debian(folder)):
+    installed = {DEBIAN: debian(folder, DEBIAN, PROGRAMS, "lib/x86_64-linux-gnu")}
+    packages = [tarball(folder, NAME, PROGRAMS, "lib")]
+    if has_arm:
+        installed[ARM_DEBIAN] = debian(folder, ARM_DEBIAN, ARM_PROGRAMS)
+        packages.append(tarball(folder, ARM_NAME, ARM_PROGRAMS))
+    for name, package in installed.items():
+        has_own(f"{folder}/{name}", package, maintainer, seconds)
+    for package in [*packages, *installed.values()]:
         has_modes(package)
         has_programs(package, top)
         has_texts(package, top)

@@ -10,12 +10,15 @@ import time
 
 from tests.harness import TOP, Skipped, add_test, holds, said_by, test
 from tests.merge_check.packages import (
-    DEBIAN, FAST, FLAGS, LEVELS, NAME, OUTPUTS, PAGE, SECONDS, are_right, copy_sources, pack_twice,
+    ARM, ARM_DEBIAN, ARM_NAME, DEBIAN, FAST, FLAGS, LEVELS, NAME, OUTPUTS, PAGE, SECONDS, are_right, copy_sources, pack_twice,
 )
 
 SOURCES = ["crates/lms_c/src/file", "crates/lms_c/specs/file", "crates/lms_c/proofs/a folder/file", "crates.txt"]
-# What `release` asks for where it is to build, in this order.
-ASKED = ["lms_tool build both", "lms_c", "lms_c --portable", "examples/web/build"]
+# What `release` asks for where it is to build, in this order, with a C compiler for aarch64 or without.
+ASKED = ["lms_tool build all", "lms_c", "lms_c --portable", "examples/web/build"]
+ASKED_WITHOUT = ["lms_tool build both", *ASKED[1:]]
+# Whether there is such a compiler: the words that name it.
+COMPILER, NO_COMPILER = {"CC_AARCH64": "sh --of-mine"}, {"CC_AARCH64": "no-compiler --of-mine"}
 AUTHOR = "Some One <some-one@debian.org>"
 # What stands in for `./lms_tool`, `./lms_c` and `examples/web/build`: each notes what it is asked,
 # and makes its outputs of those in ../made. The file `fails` names one that can't.
@@ -29,7 +32,8 @@ umask 077
 """
 MAKES = {
     "lms_tool": 'mkdir -p "$top/crates/lms_tool/out/avx2" && cp -p "$top/../made/common" "$top/crates/lms_tool/out/lms_tool" && '
-    'cp -p "$top/../made/fast" "$top/crates/lms_tool/out/avx2/lms_tool"',
+    'cp -p "$top/../made/fast" "$top/crates/lms_tool/out/avx2/lms_tool" && { [ "$2" != all ] || '
+    '{ mkdir -p "$top/crates/lms_tool/out/aarch64" && cp -p "$top/../made/arm" "$top/crates/lms_tool/out/aarch64/lms_tool"; }; }',
     "lms_c": 'if [ "${1-}" = --portable ]; then mkdir -p "$2" && cp "$top/../made/lms_verify.c" "$2"; exit; fi\n'
     'mkdir -p "$top/crates/lms_c/out" && cat "$top/../made/library" >"$top/crates/lms_c/out/liblms_c.a"',
     "examples/web/build": 'cat "$top/../made/page" >"$1"',
@@ -42,7 +46,7 @@ def make_outputs():
     if not shutil.which("cc"):
         holds(False, "the stand-ins need a C compiler, and there is no cc here")
     os.mkdir("made")
-    for name in ("common", "fast"):
+    for name in ("common", "fast", "arm"):
         said_by("cc", "-O1", f'-DNAME="{name}"', TOP / "tests/c/packed.c", "-o", f"made/{name}")
         os.chmod(f"made/{name}", 0o700)
     pathlib.Path("made/library").write_bytes(bytes(range(256)) * 40)
@@ -72,10 +76,10 @@ def make_sources(folder):
         age(file, 2)
 
 
-def make_built(folder):
-    """Makes such a folder, where all is built."""
+def make_built(folder, has_arm=True):
+    """Makes such a folder, where all is built, but for the program for aarch64 where that is said."""
     make_sources(folder)
-    for output, name in zip(OUTPUTS, ("common", "fast", "library", "page")):
+    for output, name in zip([*OUTPUTS, *[ARM] * has_arm], ("common", "fast", "library", "page", "arm")):
         os.makedirs(os.path.dirname(f"{folder}/{output}"), exist_ok=True)
         shutil.copy(f"made/{name}", f"{folder}/{output}")
 
@@ -123,11 +127,40 @@ def becomes_the_program(package):
 @test
 def packs_what_is_built():
     pack_twice(make_built)
-    are_right("packed", "here")
+    are_right("packed", "here", True)
     said_by("tar", "-xzf", f"packed/{NAME}.tar.gz")
     becomes_the_program(NAME)
     said_by("dpkg-deb", "-x", f"packed/{DEBIAN}", "debian")
     becomes_the_program("debian/usr")
+    said_by("tar", "-xzf", f"packed/{ARM_NAME}.tar.gz")
+    said_by("dpkg-deb", "-x", f"packed/{ARM_DEBIAN}", "arm64")
+    for package in (ARM_NAME, "arm64/usr"):
+        starts_by(os.path.abspath(f"{package}/bin/lms_tool"), "aarch64", "arm")
+
+
+def packs_without_arm(why):
+    """Nothing is packed for aarch64, and the reason is said."""
+    shutil.rmtree("packed", ignore_errors=True)
+    found = run(["here/release", "--built", "packed"], SOURCE_DATE_EPOCH=str(SECONDS), MAINTAINER=AUTHOR)
+    holds(found == (0, f"release: nothing is packed for aarch64: {why}\n"), f"{found}, not: {why}")
+    are_right("packed", "here", False, maintainer=AUTHOR)
+
+
+@test
+def packs_without_a_program_for_aarch64():
+    """Or with one that is older than a source or a C function of it."""
+    make_built("here", has_arm=False)
+    here = os.path.abspath("here")
+    packs_without_arm(f"{here}/{ARM} is not built")
+    os.makedirs(os.path.dirname(f"here/{ARM}"))
+    shutil.copy("made/arm", f"here/{ARM}")
+    for source in (SOURCES[0], "runtime/aarch64/heap.c"):
+        age(f"here/{ARM}", 2)
+        age(f"here/{source}", 1)
+        for output in OUTPUTS:
+            age(f"here/{output}", 0)
+        packs_without_arm(f"{here}/{source} is newer than {here}/{ARM}")
+        age(f"here/{source}", 2)
 
 
 def refuses_built(line):
@@ -195,10 +228,22 @@ def packs_the_commit():
     make_sources("here")
     commit("here")
     pathlib.Path("here/notes").write_text("not of the commit\n")
-    found = run(["sh", "-c", 'umask 077 && exec "$0" "$@"', "here/release", "packed"])
+    found = run(["sh", "-c", 'umask 077 && exec "$0" "$@"', "here/release", "packed"], **COMPILER)
     holds(found == (0, ""), f"{found}")
     holds(asked() == ASKED, f"asked for {asked()}")
-    are_right("packed", "here", maintainer=AUTHOR)
+    are_right("packed", "here", True, maintainer=AUTHOR)
+
+
+@test
+def packs_the_commit_without_a_compiler_for_aarch64():
+    make_sources("here")
+    commit("here")
+    found = run(["here/release", "packed"], **NO_COMPILER)
+    missing = f"{os.path.abspath('here')}/{ARM} is not built"
+    wanted = f"release: there is no no-compiler on the PATH\nrelease: nothing is packed for aarch64: {missing}\n"
+    holds(found == (0, wanted), f"{found}")
+    holds(asked() == ASKED_WITHOUT, f"asked for {asked()}")
+    are_right("packed", "here", False, maintainer=AUTHOR)
 
 
 def change(name):
@@ -250,11 +295,11 @@ def refuses_what_cannot_be_made():
     for at, name in enumerate(ASKED):
         pathlib.Path("asked").write_text("")
         pathlib.Path("fails").write_text(name)
-        status, _ = run(["here/release", "packed"])
+        status, _ = run(["here/release", "packed"], **COMPILER)
         holds(status == 70 and asked() == ASKED[: at + 1], f"{name}: {status} {asked()}")
         holds(not os.listdir("packed"), "something was packed")
     pathlib.Path("fails").write_text("")
     change("made/lms_verify.c")
-    found = run(["here/release", "packed"])
+    found = run(["here/release", "packed"], **COMPILER)
     holds(found == (70, "release: portable/lms_verify.c is not what ./lms_c --portable makes\n"), f"{found}")
     holds(not os.listdir("packed"), "something was packed")

@@ -9,8 +9,10 @@ import re
 import shutil
 
 from tests.harness import TOP, Skipped, checks, holds, said_by
+from tests.merge_check.emulator import EMULATOR, what_is_missing
 from tests.merge_check.packages import (
-    COMMANDS, COMMON, DEBIAN, FAST, FLAGS, LEVELS, LIBRARY, NAME, OUTPUTS, PAGE, PAGES, VERSION, are_right, copy_sources, pack_twice,
+    ARM, ARM_DEBIAN, ARM_NAME, COMMANDS, COMMON, DEBIAN, FAST, FLAGS, LEVELS, LIBRARY, NAME, OUTPUTS, PAGE, PAGES, VERSION, are_right,
+    copy_sources, pack_twice,
 )
 from tests.program import job_lines, keygen, put, sign, verify
 
@@ -31,7 +33,8 @@ def why_not(output):
     """Why an output can't be packed, or nothing."""
     if not (TOP / output).is_file():
         return f"{output} is not built"
-    newest = max(file.stat().st_mtime_ns for file in [*sources(), *[TOP / "examples/web/index.html"] * (output == PAGE)])
+    more = {PAGE: [TOP / "examples/web/index.html"], ARM: (TOP / "runtime/aarch64").glob("*.[ch]")}.get(output, [])
+    newest = max(file.stat().st_mtime_ns for file in [*sources(), *more])
     return f"{output} is older than a source" if (TOP / output).stat().st_mtime_ns < newest else ""
 
 
@@ -53,6 +56,8 @@ def outputs():
     if why_not(PAGE):
         put("page", b"<title>a page</title>\n")
         files[PAGE] = "page"
+    if not why_not(ARM):
+        files[ARM] = TOP / ARM
     return files, not any(map(why_not, OUTPUTS))
 
 
@@ -71,7 +76,7 @@ def packs(files):
     pack_twice(lambda folder: copy_sources(folder, files))
 
 
-def goes_round(program, package):
+def goes_round(program, package, emulator=()):
     """A whole round by a program, with the examples of a package."""
     program, examples = os.path.abspath(program), os.path.abspath(f"{package}/share/doc/lms-tool/examples")
     message, number = f"{examples}/firmware.bin", "{:064d}".format
@@ -79,7 +84,7 @@ def goes_round(program, package):
     os.mkdir("keys")
 
     def said(*words, **how):
-        return alone(program, *words, cwd="keys", **how)
+        return alone(*emulator, program, *words, cwd="keys", **how)
 
     prints("valid", said(*verify(message, f"{examples}/firmware.sig", f"{examples}/release.pub")))
     prints("capacity 1024", said(*keygen("5/8,5/8", number(1), f"{2:032d}")))
@@ -160,20 +165,31 @@ def manual_shows(package, command):
         holds(line.lstrip(" ") in shown, f"the page has no: {line}")
 
 
-def installs():
-    """The package can be installed and removed, below a folder."""
-    below = os.path.abspath("installed")
+def installs(debian, *force, emulator=()):
+    """A package can be installed and removed, below a folder, and its program does what it should."""
+    below = os.path.abspath(f"installed {debian}")
     for folder in ("info", "updates"):
         os.makedirs(f"{below}/var/lib/dpkg/{folder}")
     put(f"{below}/var/lib/dpkg/status", b"")
-    dpkg = ["dpkg", f"--root={below}", f"--log={os.path.abspath('log')}"]
+    dpkg = ["dpkg", f"--root={below}", f"--log={os.path.abspath('log')}", "--force-not-root", *force]
     how = {"env": {**os.environ, "PATH": ALL_TOOLS}}
-    said_by(*dpkg, "--force-depends", "--force-not-root", "-i", f"packed/{DEBIAN}", **how)
+    said_by(*dpkg, "--force-depends", "-i", f"packed/{debian}", **how)
     status = said_by("dpkg", f"--root={below}", "-s", "lms-tool", **how).splitlines()
     holds([it for it in status if it.startswith("Status")] == ["Status: install ok installed"], f"{status}")
-    goes_round(f"{below}/usr/bin/lms_tool", f"{below}/usr")
-    said_by(*dpkg, "--force-not-root", "-r", "lms-tool", **how)
+    goes_round(f"{below}/usr/bin/lms_tool", f"{below}/usr", emulator)
+    said_by(*dpkg, "-r", "lms-tool", **how)
     holds(not os.path.lexists(f"{below}/usr/bin/lms_tool"), "the program is left")
+
+
+def tries_arm(counter):
+    """Tries both packages for aarch64, in an emulator."""
+    if why := why_not(ARM) or what_is_missing():
+        counter.skip("the packages for aarch64", why)
+        return
+    said_by("tar", "-xzf", f"packed/{ARM_NAME}.tar.gz")
+    counter.check(f"the program of {ARM_NAME}", goes_round, f"{ARM_NAME}/bin/lms_tool", ARM_NAME, EMULATOR)
+    name = "the package for aarch64 is installed and removed"
+    counter.check(name, lambda: installs(ARM_DEBIAN, "--force-architecture", emulator=EMULATOR))
 
 
 def names_the_version():
@@ -210,7 +226,7 @@ def the_packages(counter):
     files, are_built = outputs()
     if not counter.check("two packings in two folders are the same bytes", packs, files):
         return
-    counter.check("what is packed, with its modes", are_right, "packed", "here")
+    counter.check("what is packed, with its modes", are_right, "packed", "here", ARM in files)
     said_by("tar", "-xzf", f"packed/{NAME}.tar.gz")
     said_by("dpkg-deb", "-R", f"packed/{DEBIAN}", "debian")
     if are_built:
@@ -220,10 +236,12 @@ def the_packages(counter):
         counter.check(f"the launcher of {NAME}", launches, NAME)
         counter.skip("each program, library and page of the manual", "not all is built")
     counter.check("README's first block", follows_readme)
-    counter.check("the package is installed and removed", installs)
+    counter.check("the package is installed and removed", installs, DEBIAN)
+    tries_arm(counter)
     if shutil.which("lintian"):
         words = ["--allow-root", "--fail-on", "error", "--tag-display-limit", "0"]
-        counter.check("lintian finds no error", said_by, "lintian", *words, f"packed/{DEBIAN}")
+        for package in (DEBIAN, *[ARM_DEBIAN] * (ARM in files)):
+            counter.check(f"lintian finds no error in {package}", said_by, "lintian", *words, f"packed/{package}")
     else:
         counter.skip("lintian finds no error", "there is no lintian")
     counter.check("include/lms.pc names the version", names_the_version)

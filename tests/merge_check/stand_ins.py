@@ -24,7 +24,10 @@ lms_blocks:
 NAMES = ["lms_tool", "bench_keys", "lms_world", "lms_lines", "lms_spec", "lms_blocks"]
 # How the libraries are asked for: first those that use no other, in any order.
 LIBRARIES = ["lms_blocks lib", "lms_spec lib", "lms_lines lib", "lms_world lib"]
-FAST, COMMON = "run --cpu=x86-64-v3 -- --help", "run -- --help"
+FAST, COMMON, ARM = "run --cpu=x86-64-v3 -- --help", "run -- --help", "run --target=aarch64-unknown-linux-gnu -- --help"
+# What the toolchain says of the program for aarch64, which it can't link, and the C compiler that can.
+PROVED = "logic=proved functions=1 target=aarch64-unknown-linux-gnu main=Wait"
+LINKER = "aarch64-linux-gnu-gcc"
 SECONDS = 40
 # What the script says before a trial run.
 IS_TRIAL = (
@@ -38,11 +41,13 @@ class StandIns:
     bin/ short scripts that stand in for `rt`, which notes what it is asked, and for what tells
     whether the processor has AVX2. Others stand in for the programs that `rt` makes. Where nothing
     else is said, both are there, built after the sources were last changed. What the script makes
-    for a time only its owner may see, and at the end nothing of it may be left."""
+    for a time only its owner may see, and at the end nothing of it may be left. One stands in for the
+    C compiler that links the program for aarch64, which is not there."""
 
     def __init__(self, is_built=True, has_avx2=True):
         self.top = os.getcwd()
         self.common, self.fast = f"{self.top}/{OUT}/lms_tool", f"{self.top}/{OUT}/avx2/lms_tool"
+        self.arm = f"{self.top}/{OUT}/aarch64/lms_tool"
         self.best, self.build = ("fast", FAST) if has_avx2 else ("common", COMMON)
         self.pid, self.status, self.output, self.errors = None, None, "", ""
         for folder in ("bin", "files", "home", os.path.dirname(self.fast)):
@@ -54,17 +59,23 @@ class StandIns:
                 os.makedirs(f"crates/{crate}/{folder}")
                 self.write(f"crates/{crate}/{folder}/file", "")
                 self.age(f"crates/{crate}/{folder}/file", 2)
-        self.age("crates.txt", 2)
+        os.makedirs("runtime/aarch64")
+        self.write("runtime/aarch64/heap.c", "")
+        for name in ("crates.txt", "runtime/aarch64/heap.c"):
+            self.age(name, 2)
         self.write("cpuinfo", f"flags : sse2 avx {'avx2 ' * has_avx2}bmi2\n")
         self.make_tools()
         self.stand_in("common", "common")
         self.stand_in("fast", "fast")
+        self.stand_in("arm", "arm")
         if is_built:
             self.stand_in(self.common, "old_common")
             self.stand_in(self.fast, "old_fast")
         self.on("lib", "")
         fast = f'*--cpu=x86-64-v3*) cp "{self.top}/fast" "{self.common}" ;;'
-        self.on("run", f'case $* in {fast} *) cp "{self.top}/common" "{self.common}" ;; esac\n')
+        arm = f'*--target=*) rm -f "{self.common}.stamp"; echo object >"{self.common}.o"; echo "{PROVED}"; exit 1 ;;'
+        self.on("run", f'case $* in {fast} {arm} *) cp "{self.top}/common" "{self.common}" ;; esac\n')
+        self.links()
         self.forget()
 
     def __enter__(self):
@@ -110,6 +121,13 @@ class StandIns:
         asked = f'[ "$*" = --help ] && cat >"{self.top}/nothing" && exit\n'
         self.script(file, f"{asked}echo $$ >\"{self.top}/process\"\nprintf '%s\\n' {name} \"$@\"\ncat\nexit 3\n")
 
+    def links(self, text="", name=LINKER):
+        """The C compiler of this name notes its words and the object file that it is to link, does this,
+        and makes the program for aarch64."""
+        notes = f'printf "%s " "$@" >"{self.top}/words"\nfor word; do case $word in *.o) cat "$word" >"{self.top}/linked" ;; esac; done\n'
+        makes = f'until [ "$1" = -o ]; do shift; done\ncp "{self.top}/arm" "$2"\n'
+        self.script(f"bin/{name}", f"{notes}{makes}{text}")
+
     def on(self, verb, text):
         """What `rt` does where its first argument is this one."""
         self.write(f"on_{verb}", text)
@@ -123,7 +141,8 @@ class StandIns:
         streams. It is left to the script to take rights away."""
         folders = {"TMPDIR": f"{self.top}/files", "HOME": f"{self.top}/home", "PATH": f"{self.top}/bin:{os.environ['PATH']}"}
         words = [*by, f"{self.top}/lms_tool", *arguments]
-        running = subprocess.Popen(words, cwd=cwd, env={**os.environ, **folders}, umask=0, **how)
+        named = {name: text for name, text in os.environ.items() if name != "CC_AARCH64"}
+        running = subprocess.Popen(words, cwd=cwd, env={**named, **folders}, umask=0, **how)
         self.pid = running.pid
         return running
 
