@@ -163,7 +163,7 @@ def rt_ci(what):
     says, ends, line = ENDINGS[what]
     copy = Copy(says, ends)
     copy.checks(line, 1, [])
-    holds(copy.printed.startswith(says), "what rt ci says is not printed")
+    holds(says in copy.printed, "what rt ci says is not printed")
 
 
 for ending in ENDINGS:
@@ -191,6 +191,29 @@ def tests_run(what):
 
 for kind in RUNS:
     add_test(f"tests/run {kind}", tests_run, kind)
+
+
+@test
+def tells_what_is_missing():
+    """Before all else, with a folder of the few tools that the script needs itself as the PATH: there is no
+    other, and then one that is needed and one without which tests are skipped."""
+    copy = Copy()
+    for tool in ("sh", "awk", "cat", "dirname", "env", "mktemp", "nproc", "python3", "rm", "tail", "tee"):
+        (copy.top / "bin" / tool).symlink_to(shutil.which(tool))
+
+    def first_lines():
+        how = {"env": {"PATH": f"{copy.top}/bin"}, "stdin": subprocess.DEVNULL, "stdout": subprocess.PIPE, "text": True}
+        printed = subprocess.run([copy.top / ".ci/run"], stderr=subprocess.STDOUT, check=False, **how).stdout
+        return printed.partition(f"{PROVED} passed")[0].splitlines()
+
+    said = first_lines()
+    holds(said[0].startswith("tests will fail, as there is no cc nm size openssl basenc: "), f"{said}")
+    holds(any(it.startswith("skipped for want of chromium|") for it in said) and "skipped for want of node: parts of translator" in said, f"{said}")
+    for tool in ("cc", "node"):
+        (copy.top / "bin" / tool).symlink_to("/bin/true")
+    said = first_lines()
+    holds(said[0].startswith("tests will fail, as there is no nm size openssl basenc: "), f"{said}")
+    holds(not any("translator" in it for it in said), f"{said}")
 
 
 @test
