@@ -9,17 +9,17 @@
 
 enum { MISSING = -1, TOO_LONG = -2 };
 
-static size_t count;
+static size_t argument_count;
 static char **arguments;
 
 /* glibc calls this before `main`, and hands it what `main` gets. */
-__attribute__((constructor)) static void keep(int given, char **words) {
-    count = (size_t)given;
-    arguments = words;
+__attribute__((constructor)) static void note_arguments(int number, char **handed) {
+    argument_count = (size_t)number;
+    arguments = handed;
 }
 
 ptrdiff_t rattle_arg(size_t index, unsigned char *buffer, size_t room) {
-    if (index >= count) {
+    if (index >= argument_count) {
         return MISSING;
     }
     size_t length = strlen(arguments[index]);

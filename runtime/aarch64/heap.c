@@ -7,10 +7,10 @@
 _Static_assert(_Alignof(max_align_t) % 16 == 0, "malloc aligns to 16 bytes");
 
 /* Its address stands beside a refusal. Nobody reads or writes it. */
-static unsigned char nothing;
+static unsigned char nowhere;
 
 static struct tried answer(void *block) {
-    return (struct tried){block != NULL, block != NULL ? block : &nothing};
+    return (struct tried){block != NULL, block != NULL ? block : &nowhere};
 }
 
 /* How many bytes are asked for: to no bytes the C library may answer null, which is no refusal then. */

@@ -1,5 +1,5 @@
-/* The C functions that a program of the toolchain asks for beside the C library, as its crates `libc`
-   and `os` declare them. README.md has the contract of each. */
+/* The C functions that the program asks for beside the C library, as the toolchain's crates `libc` and
+   `os` declare them. README.md has the contract of each. */
 #ifndef RATTLE_H
 #define RATTLE_H
 

@@ -1,6 +1,6 @@
 """The modules of tests that run the program, whole, over that for aarch64 in an emulator, among them
 those that refuse memory, have calls fail, kill it and lose power. The merge check runs parts of some
-(`aarch64`). The program has to be built, by `./lms_tool build aarch64`. Takes half an hour."""
+(`aarch64`). The program has to be built, by `./lms_tool build aarch64`. Takes ten minutes."""
 
 from tests.harness import add_test, holds
 from tests.merge_check.emulator import ARM, passes, skip_where_missing

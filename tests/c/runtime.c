@@ -150,7 +150,7 @@ int main(int given, char **words) {
         execve("/proc/self/exe", none, none);
         HOLDS(!"started again");
     }
-    keep(0, none);
+    note_arguments(0, none);
     has_arguments(0, none);
     printf("%d arguments\n", given);
     return 0;

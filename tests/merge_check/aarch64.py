@@ -2,9 +2,9 @@
 
 The functions are compiled by each compiler that there is here, and tried on this computer, by
 sanitizers, too, and in the emulator. The program is built where it is not there, or older than a
-source. Then modules of tests that are run over the common program are run over it, parts of some:
-`by_hand/aarch64_whole.py` has all of them. What needs the emulator or the compiler for aarch64 is
-skipped where that is not there."""
+source, over the libraries that `rt ci` leaves. Then tests of the common program are run over it,
+which `by_hand/aarch64_whole.py` does with all of them. What needs the emulator or the compiler for
+aarch64 is skipped where that is not there."""
 
 import os
 import re
@@ -25,8 +25,19 @@ LONGEST = 32 * os.sysconf("SC_PAGE_SIZE") - 1
 ARGUMENTS = [[], ["", "a", "\u00e9 \u4e16", "x" * 1000], ["-", "x" * LONGEST]]
 # The C library that docs and packages ask for.
 GLIBC = (2, 34)
-# What is run over the program here.
-QUICK = [["vectors"], ["help_texts"], ["closed_streams"], ["job_lines"]]
+# What is run over the program here: of these modules, in less than a minute, the tests with this in
+# their names, or all.
+QUICK = {
+    "vectors": [""],
+    "help_texts": [""],
+    "states": ["makes_a_key", "finds_no_memory", "refuses_bad_states"],
+    "closed_streams": ["streams:_0_1_2", "each_status"],
+    "kept_nodes": ["what_was_kept", "in_place_of_a_draft"],
+    "locks": ["until_all_is_printed"],
+    "job_lines": ["over_the_end", "as_many_threads"],
+    "file_steps": ["info,_each_operation"],
+    "refused_requests": ["verify"],
+}
 
 
 def compile_functions(name, *compiler):
@@ -95,5 +106,5 @@ def the_program_for_aarch64(counter):
     counter.check("the C functions in the emulator", functions_on_aarch64)
     if counter.check("the program is built", is_built):
         counter.check("the program is hardened", is_hardened)
-        for modules in QUICK:
-            counter.check(f"{' '.join(modules)} by the program", passes, *modules)
+        for name, parts in QUICK.items():
+            counter.check(f"{name} by the program", passes, *(f"{name}:{part}" for part in parts))

@@ -142,7 +142,7 @@ def lacks_dev_null(closed):
     put("key.state", image(LEVELS, 5))
     files = {name: (read(name), os.stat(name).st_mtime_ns) for name in os.listdir()}
     new = keygen(state="other", public="other.pub")
-    for arguments in (new, sign(), INFO, BATCH, verify("text", "text", "text"), join(), join_public(), ["--help"], ["none"]):
+    for arguments in (new, public(), sign(), INFO, BATCH, verify("text", "text", "text"), join(), join_public(), ["--help"], ["none"]):
         ran = run([*words, PROGRAM, *arguments], program="unshare")
         found = (ran.returncode, ran.stdout, ran.stderr)
         wanted = (6, "", "" if "2" in closed else "error: cannot read input\n")

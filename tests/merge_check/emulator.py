@@ -16,7 +16,7 @@ ARM = TOP / "crates/lms_tool/out/aarch64/lms_tool"
 LIBRARIES = "/usr/aarch64-linux-gnu"
 EMULATOR = ["qemu-aarch64", "-L", LIBRARIES]
 PACKAGES = {CROSS_COMPILER[0]: "gcc-aarch64-linux-gnu", EMULATOR[0]: "qemu-user"}
-COUNT = re.compile(r"(\d+) passed, 0 failed")
+COUNT = re.compile(r"(?:\w+: )?(\d+) passed, (\d+) failed")
 
 
 def what_is_missing():
@@ -57,7 +57,8 @@ def passes(*modules):
     how = {"stdin": subprocess.DEVNULL, "stdout": subprocess.PIPE, "stderr": subprocess.STDOUT, "text": True, "errors": "replace"}
     ran = subprocess.run(words, env={**os.environ, "EMULATED": script()}, check=False, **how)
     lines = ran.stdout.splitlines()
-    told = [it for it in lines if not it.startswith("ok ")]
-    print(*(f"  {it}" for it in told), sep="\n", flush=True)
+    for line in lines:
+        if not line.startswith("ok ") and not COUNT.fullmatch(line):
+            print(f"  {line}", flush=True)
     found = COUNT.fullmatch(lines[-1]) if lines else None
-    holds(ran.returncode == 0 and found and int(found[1]), "not all of them pass")
+    holds(ran.returncode == 0 and found and found[1] != "0" and found[2] == "0", "not all of them pass")
