@@ -8,6 +8,7 @@ memory for a tree is asked for before its leaves are."""
 
 import collections
 import concurrent.futures
+import functools
 import os
 import pathlib
 import re
@@ -15,7 +16,7 @@ import re
 from tests.harness import Wrong, add_test, holds
 from tests.merge_check.made_up_trees import MadeUpTree
 from tests.program import BATCH, INFO, NODES, TO_JOIN, index_in, job_lines, join, join_public, keygen, preload, public, put, run, sign, verify
-from tests.reference import IDENTIFIER, SEED, SUBTREE, checked, image, kept, kept_parts, number, parts_to_join, public_of, signature_of
+from tests.reference import IDENTIFIER, SEED, SUBTREE, checked, image, joined, kept, kept_parts, number, parts_to_join, public_of, signature_of
 
 ONE, TWO, TALL = ((5, 1),), ((5, 1),) * 2, ((15, 1), *((5, 1),) * 4)
 # The last index of a tree of height 5, and the first one of the second bottom subtree of TALL's top tree.
@@ -50,6 +51,12 @@ def with_parts():
     return {**key_of(TWO), **dict(zip(TO_JOIN, parts_to_join(ONE, TWO)))}
 
 
+@functools.lru_cache(maxsize=None)
+def joined_parts():
+    """The public key and the signature that are joined."""
+    return joined(*parts_to_join(ONE, TWO))
+
+
 def with_tall_nodes():
     """The public key and the top tree of TALL, as `keygen` keeps it, with nodes that are made up, but for
     the bottom subtree that the index EDGE goes through."""
@@ -63,11 +70,11 @@ class Command:
     there is no state, how many indices it uses, its input, and a call for the other files that it finds.
     `late` says how many leaves were computed where it ends by a refusal and some were: each number with
     that of these refusals. Where only those are tried that burn an index, the others are as in another
-    command."""
+    command. What it makes, where it ends well, is a file of a name with the bytes of a call, if that is said."""
 
-    def __init__(self, arguments, levels, late, index=LAST, uses=1, lines=b"", files=None, burns=False):
+    def __init__(self, arguments, levels, late, index=LAST, uses=1, lines=b"", files=None, burns=False, makes=None):
         self.arguments, self.levels, self.late, self.index, self.uses, self.lines = arguments, levels, late, index, uses, lines
-        self.files, self.burns = files or (lambda: key_of(levels)), burns
+        self.files, self.burns, self.makes = files or (lambda: key_of(levels)), burns, makes
 
     def begin(self, folder, files):
         """Makes the files that it finds."""
@@ -134,6 +141,9 @@ class Run:
         used, given, status = self.used(), self.given(), self.ran.returncode
         wanted, may_use = self.command.ends(self.fault, len(given))
         holds(status == wanted and used in may_use, f"it ended with {status} and {self.fault!r}, and {used} indices are used")
+        if self.command.makes and status == 0:
+            name, contents = self.command.makes
+            holds((self.folder / name).read_bytes() == contents(), f"{name} has other bytes")
         if used is None:
             ran = self.run(self.command.arguments)
             holds(ran.returncode == 0, f"the next keygen fails: {ran.stderr!r}")
@@ -178,11 +188,11 @@ def refuses_each(command):
 
 COMMANDS = {
     "keygen": Command(keygen("5/1,5/1"), TWO, {32: 5}, index=None, uses=0),
-    "public": Command(public(name="again.pub"), TWO, {32: 1}, uses=0),
+    "public": Command(public(name="again.pub"), TWO, {32: 1}, uses=0, makes=("again.pub", lambda: public_of(TWO))),
     "info": Command(INFO, TWO, {}, uses=0),
     "verify": Command(verify(signature="old.sig"), TWO, {}, uses=0, files=with_signature),
-    "join": Command(join(), TWO, {}, uses=0, files=with_parts),
-    "join-public": Command(join_public(), TWO, {}, uses=0, files=with_parts),
+    "join": Command(join(), TWO, {}, uses=0, files=with_parts, makes=("joined.sig", lambda: joined_parts()[1])),
+    "join-public": Command(join_public(), TWO, {}, uses=0, files=with_parts, makes=("joined.pub", lambda: joined_parts()[0])),
     "sign by two trees": Command(sign(), TWO, {32: 3, 64: 1}),
     "sign by one tree": Command(sign(), ONE, {32: 1}, index=LAST - 1, burns=True),
     "sign by kept trees": Command(sign(), TWO, {}, files=with_nodes, burns=True),
