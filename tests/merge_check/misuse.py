@@ -246,7 +246,7 @@ def the_places_that_sign():
 
 @test
 def what_can_be_printed():
-    """No type of any crate that can be printed has a seed in it, but the arguments."""
+    """No type of any crate that can be printed has a seed in it."""
     found = collections.defaultdict(str)
     for crate, code in sources(sorted(it.name for it in (TOP / "crates").iterdir())):
         found[crate] += code
