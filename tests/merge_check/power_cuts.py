@@ -1,5 +1,5 @@
-"""Power is lost after each operation of `keygen`, `sign` and `batch` on files, by a model of a weak
-file system, and the program goes on.
+"""Power is lost after each operation of `keygen`, `sign`, `batch`, `public` and `join-public` on
+files, by a model of a weak file system, and the program goes on.
 
 `record.c`, which is loaded before the program, records what it does to files, folders and streams.
 After each operation that changes something, every state of the files is made that a loss of power
@@ -18,20 +18,22 @@ may leave then (`weak_disk.py`):
   reads.
 
 The state's file must be old and whole, or absent before a `keygen` stored it, or new and whole; and
-new once a byte of a public key, of a signature or of standard output was written. Once `keygen` has
-printed its line, its public key must be whole. From some of the
-states the program goes on, as if what is left were flushed: `info` prints what the state says, or
-`keygen` makes it where it is absent, and `sign` gives its next index, which was not given before,
-with the right signature. In this `keygen` and this `sign` power is lost again, after each
-operation, and the state's file is compared.
+new once a byte of a public key, of a signature or of standard output was written. Once `keygen` or
+`public` has printed its line, or `join-public` has ended, its public key must be whole; it may be
+absent or cut before. From some of the states the program goes on, as if what is left were flushed:
+`info` prints what the state says, or `keygen` makes it where it is absent, and `sign` gives its next
+index, which was not given before, with the right signature. In this `keygen` and this `sign` power
+is lost again, after each operation, and the state's file is compared.
 
 Where there are more than 4000 states of a moment, some 4000 are drawn, by a fixed seed. The program
 goes on from 25 states of each run, from the first moment to the last, and with `--all` from all
 that differ in the state's file or those beside it. A failure prints up to 20 faults of a run.
 
-The last two tests see that faults are found of each run by a model in which flushes of files do
+The last three tests see that faults are found of each run by a model in which flushes of files do
 nothing, and by one in which those of folders do nothing, and that the program does not go on well
-from there. With `--ignore files` or `--ignore folders` the other tests use such a model, and fail.
+from there, where the run stores a state; and of each run that writes a public key by a model in
+which the flush of that file alone does nothing. With `--ignore files` or `--ignore folders` the
+other tests use such a model, and fail.
 
 It does not show what a file system does, nor whether a flush is one, since no machine loses power.
 No operation fails. No file system is tried that puts other bytes into a file, loses what was
@@ -46,11 +48,13 @@ import tempfile
 
 from tests.harness import ARGUMENTS, Wrong, add_test, holds
 from tests.merge_check.weak_disk import Disk, differs_by, fault_of, found_in, lay, operations, printed
-from tests.program import ends, has, job_lines, keygen, preload, read, run, sign
-from tests.reference import image, kept, public_of, signature_of
+from tests.program import TO_JOIN, ends, has, job_lines, join_public, keygen, preload, public, read, run, sign
+from tests.reference import image, joined, kept, parts_to_join, public_of, signature_of
 from tests.seeds import tells
 
 ONE, TWO = ((5, 8),), ((5, 4), (5, 4))
+# What the public keys are of that are joined.
+PARTS = parts_to_join(((5, 1),), ((5, 1),))
 MESSAGE = b"abc"
 MOST_CASES, MOST_LINES = 25, 20
 
@@ -65,10 +69,12 @@ def asked():
 
 class Run:
     """A recorded run of the program: the files that it found and what it did; the state before it,
-    if there was one, and after it; and the index that is next before it and after it."""
+    if there was one, and after it; the index that is next before it and after it; and the name and
+    the bytes of the public key that it writes, if it does."""
 
-    def __init__(self, key, name, before, after, indices):
+    def __init__(self, key, name, before, after, indices, public_key=None):
         self.key, self.name, self.before, self.after, self.indices = key, name, before, after, indices
+        self.public_key = public_key
 
     def record(self, folder, arguments, jobs=b""):
         """Runs the program, and records all that it does to files in the folder. What it
@@ -113,13 +119,15 @@ class Run:
             moment = disk.do(*operation, at) if operation else at
             for left, lost in disk.losses() if moment else ():
                 fault = fault_of(left.get(self.key.state, (0, None))[1], self.before, self.after, disk.has_left)
-                fault = fault or self.public_fault(left, disk)
+                if self.public_key and (disk.has_printed or number == len(self.done)):
+                    fault = fault or self.public_fault(left)
                 yield left, self.indices[disk.has_left], fault, lambda: f"{self.key.name}, after {moment}; lost: {disk.said(lost)}"
 
-    def public_fault(self, left, disk):
-        """What is wrong with the public key, if anything, once this `keygen` has printed."""
-        found = left.get("key.pub", (0, None))[1]
-        if self.name != "keygen" or not disk.has_printed or found == public_of(self.key.levels):
+    def public_fault(self, left):
+        """What is wrong with the public key, if anything, once this run has printed or ended."""
+        name, contents = self.public_key
+        found = left.get(name, (0, None))[1]
+        if found == contents:
             return None
         return ("older", "no public key") if found is None else ("torn", f"{len(found)} bytes that are not the public key")
 
@@ -163,7 +171,7 @@ class Key:
 
     def makes(self, folder):
         """Runs `keygen`."""
-        made = Run(self, "keygen", None, self.image(0, 0), (0, 0))
+        made = Run(self, "keygen", None, self.image(0, 0), (0, 0), ("key.pub", public_of(self.levels)))
         said = made.record(folder, keygen(self.levels_text(), state=self.option))
         holds(said == b"capacity %d\n" % self.capacity(), "keygen printed something else")
         has(f"{folder}/key.pub", public_of(self.levels))
@@ -187,6 +195,17 @@ class Key:
         holds(printed_now == said.encode(), f"batch {counter} printed something else")
         return made
 
+    def publishes(self, folder, before, step):
+        """Runs `public` or `join-public` beside a state, which stays. The file that it writes was not there."""
+        words, name, contents, line = {
+            "public": (public(self.option, "again.pub"), "again.pub", public_of(self.levels), b"capacity %d\n" % self.capacity()),
+            "join-public": (join_public(), "joined.pub", joined(*PARTS)[0], b""),
+        }[step]
+        made = Run(self, step, before, before, self.numbers[before][:1] * 2, (name, contents))
+        holds(made.record(folder, words) == line, f"{step} printed something else")
+        has(f"{folder}/{name}", contents)
+        return made
+
     @functools.lru_cache(maxsize=None)
     def runs(self):
         """All runs, one after another, once they are made."""
@@ -196,6 +215,8 @@ class Key:
         for step in self.steps:
             if step == "keygen":
                 made.append(self.makes(folder))
+            elif step in ("public", "join-public"):
+                made.append(self.publishes(folder, before, step))
             else:
                 made.append(self.signs(folder, before) if step == "sign" else self.answers(folder, before, step))
             before = made[-1].after
@@ -226,7 +247,7 @@ class Key:
         ends(["info", "--state", self.option], status, output, errors, cwd=folder)
 
 
-PLAIN = Key("5/8", ONE, ["keygen", "sign", "sign", 3])
+PLAIN = Key("5/8", ONE, ["keygen", "sign", "sign", 3, "public", "join-public"], files=dict(zip(TO_JOIN[::2], PARTS[::2])))
 # (Indices 31 and 32 go through two trees.)
 APART = Key("5/4,5/4 in another folder", TWO, ["keygen", "sign", "sign", 29, "sign", "sign", 2], "keys/key.state")
 # Version 1 wrote this state, and a crash left drafts beside it.
@@ -304,20 +325,33 @@ def goes_on_from(key, left, least, where):
         return [f"{where}; found: {why}"]
 
 
+def first_found(made, ignored, word):
+    """Of a run a model with flushes that do nothing finds this fault, and no other. What the first
+    one is found in, and where."""
+    first = None
+    for left, least, fault, where in made.cuts(made.disk(ignored)):
+        if fault:
+            first = first or (left, least, where())
+            holds(fault[0] == word, f"{where()}; found: {fault[1]}")
+    holds(first, f"{made.key.name}, {made.name}: no fault is found")
+    return first
+
+
 def finds(ignored, word):
-    """Of each run a model with flushes that do nothing finds this fault, and no other, and the
-    program does not go on well from the first."""
+    """Such faults are found of each run, and the program does not go on well from the first, where
+    the run stores a state."""
     for key in KEYS:
         for made in key.runs():
-            first = None
-            for left, least, fault, where in made.cuts(made.disk(ignored)):
-                if fault:
-                    first = first or (left, least, where())
-                    holds(fault[0] == word, f"{where()}; found: {fault[1]}")
-            holds(first, f"{key.name}, {made.name}: no fault is found")
+            first = first_found(made, ignored, word)
             # (A key without a state is made again, since no index of it was given.)
-            if key.state in first[0]:
+            if made.before != made.after and key.state in first[0]:
                 is_refused(key, *first)
+
+
+def finds_public_keys():
+    """A fault is found of each run that writes a public key where that file alone is not flushed."""
+    for made in (made for key in KEYS for made in key.runs() if made.public_key):
+        first_found(made, made.public_key[0], "torn")
 
 
 def is_refused(key, left, least, where):
@@ -336,3 +370,4 @@ for at, one in zip(["in one folder", "in another folder", "by a link"], KEYS):
 if not asked().ignore:
     add_test("finds flushes of files that do nothing", finds, "files", "torn")
     add_test("finds flushes of folders that do nothing", finds, "folders", "older")
+    add_test("finds a flush of a public key alone that does nothing", finds_public_keys)

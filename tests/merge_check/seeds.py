@@ -5,7 +5,7 @@ import subprocess
 import time
 
 from tests.harness import holds, test
-from tests.program import PROGRAM, Lock, ends, fails, has, keygen, put, read, sign, verify
+from tests.program import PROGRAM, Lock, ends, fails, has, keygen, put, read
 from tests.reference import SEED, image, public_of
 
 ONE = ((5, 8),)
@@ -115,19 +115,6 @@ def reads_in_its_turn():
     with Lock(), open("digits", "rb", 0) as digits:
         refuses(3, "state in use", stdin=digits)
         holds(digits.tell() == 64, "the input was not read")
-
-
-@test
-def a_file_may_have_that_name():
-    """`-` is the input for a seed alone."""
-    put("-", b"abc")
-    ends(keygen(seed="-", public="./-pub"), 0, "capacity 32\n", input=SEED.hex())
-    has("-pub", public_of(ONE))
-    ends(sign("-", "text.sig"), 0, "index 0\n", input="")
-    signature = read("text.sig")
-    ends(verify("-", public="./-pub"), 0, "valid\n", input="")
-    ends(sign("text", "-"), 0, "index 1\n", input="")
-    holds(len(read("-")) == len(signature), "no signature is in the file")
 
 
 @test

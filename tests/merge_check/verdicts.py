@@ -5,7 +5,7 @@ import os
 from tests.harness import TOP, holds, test
 from tests.merge_check.weak_disk import operations
 from tests.program import INFO, VERIFY, ends, fails, has, join, keygen, preload, public, put, read, run, sign, verify
-from tests.reference import image, public_of, signature_of
+from tests.reference import SEED, image, public_of, signature_of
 
 ONE = ((5, 8),)
 
@@ -39,7 +39,7 @@ def misses_a_file():
 
 @test
 def a_dash_is_a_name():
-    """A file named `-` is read, and the input is not."""
+    """A file named `-` is read or written, and the input is not read, but for a seed."""
     files = ("text", "text.sig", "key.pub")
     for place, name in enumerate(files):
         put_signed()
@@ -52,8 +52,14 @@ def a_dash_is_a_name():
     ends(keygen(public="-"), 0, "capacity 32\n")
     has("-", public_of(ONE))
     put("text", b"abc")
-    ends(sign(out="-"), 0, "index 0\n")
+    ends(sign(out="-"), 0, "index 0\n", input="")
     has("-", signature_of(ONE, 0, b"abc"))
+    put("-", b"another")
+    ends(sign("-"), 0, "index 1\n", input="abc")
+    has("text.sig", signature_of(ONE, 1, b"another"))
+    ends(keygen(seed="-", public="./-pub", state="other.state"), 0, "capacity 32\n", input=SEED.hex())
+    has("-pub", public_of(ONE))
+    ends(verify("-", public="./-pub"), 0, "valid\n", input="")
 
 
 @test

@@ -93,7 +93,7 @@ def differs_by(left, state):
 def fault_of(state, before, after, has_left):
     """What is wrong with this state image, if anything, where a run found one and left the other: a
     word for it, and what it is."""
-    if state == before and has_left:
+    if state == before != after and has_left:
         return "older", f"{'the old state' if state else 'no state'}, and bytes were given away"
     if state in (before, after):
         return None
@@ -130,8 +130,8 @@ def found_in(folder):
 
 class Disk:
     """The files that a folder has, all flushed, and what is done to them. Each name has what it led
-    to since its folder was flushed, and why. Flushes of `files` or of `folders` do nothing where
-    these are ignored."""
+    to since its folder was flushed, and why. Flushes of `files`, of `folders` or of a file of one name
+    do nothing where these are ignored."""
 
     def __init__(self, folder, found, state, ignored=None):
         self.folder, self.state, self.ignored = os.path.realpath(folder), state, ignored
@@ -204,7 +204,7 @@ class Disk:
 
     def flush(self, name, file):
         """Flushes a file, or the names of a folder. Flushes of nodes do nothing."""
-        if file and self.ignored != "files" and not name.startswith(f"{self.state}.nodes"):
+        if file and self.ignored not in ("files", name) and not name.startswith(f"{self.state}.nodes"):
             file.flush()
         if not file and self.ignored != "folders":
             for inner in self.names:
