@@ -3,7 +3,8 @@
 
 #include <string.h>
 
-#ifndef __GLIBC__
+/* (uClibc says that it is glibc, too.) */
+#if !defined __GLIBC__ || defined __UCLIBC__
 #error "no other C library is known to hand the arguments to a constructor"
 #endif
 

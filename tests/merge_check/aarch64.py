@@ -69,6 +69,12 @@ def functions_here(compiler, *flags):
     try_functions("./here", again=not flags)
 
 
+def another_c_library():
+    """The file of arguments is not compiled where uClibc says that it is glibc."""
+    ran = subprocess.run(["cc", *FLAGS, "-D__UCLIBC__", "-fsyntax-only", FUNCTIONS / "arguments.c"], check=False, capture_output=True, text=True)
+    holds(ran.returncode and "no other C library" in ran.stderr, f"it ended with {ran.returncode}: {ran.stderr}")
+
+
 def functions_on_aarch64():
     skip_where_missing()
     compile_functions("there", *CROSS_COMPILER)
@@ -103,6 +109,7 @@ def the_program_for_aarch64(counter):
     for compiler in ("cc", "gcc", "clang"):
         counter.check(f"the C functions by {compiler}", functions_here, compiler)
     counter.check("the C functions by sanitizers", functions_here, "cc", *SANITIZERS)
+    counter.check("another C library is refused", another_c_library)
     counter.check("the C functions in the emulator", functions_on_aarch64)
     if counter.check("the program is built", is_built):
         counter.check("the program is hardened", is_hardened)
