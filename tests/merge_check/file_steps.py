@@ -253,7 +253,6 @@ def asks_once_for_a_lock_that_another_has():
             command.ends([*steps_in(command.parts[: at + 1]), "write standard error"], IN_USE)
 
 
-
 def has_signed():
     """The index has signed, and nodes are kept of it."""
     has(STATE, image(LEVELS, INDEX + 1, 1))

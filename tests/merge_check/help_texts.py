@@ -162,7 +162,8 @@ Example:
 
 The endorsement is the top key's signature of the last 56 bytes of the signer's public key. Under the key that `join-public`
 makes, the joined signature is valid for the messages for which the signer's is. The top key must sign such keys and nothing
-else: 56 bytes that are one endorse it, whatever they were meant to be. Both keys have together at most 8 levels.
+else: any 56 bytes that it signs and that form a key are endorsed, whatever they were meant to be. Both keys have together at
+most 8 levels.
 """
 
 JOIN_PUBLIC_HELP = """\

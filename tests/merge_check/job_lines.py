@@ -7,7 +7,7 @@ state."""
 import os
 
 from tests.harness import holds, test
-from tests.program import BATCH, VERIFY, Lock, ends, fails, has, job_lines, keygen, preload, put, read, run
+from tests.program import BATCH, VERIFY, Lock, described, ends, fails, has, job_lines, keygen, preload, put, read, run
 from tests.reference import RANDOMIZER, image, public_of, signature_by, signature_of, way_of
 
 RANDOM = RANDOMIZER.hex()
@@ -47,12 +47,11 @@ class State:
     def answers(self, jobs, message):
         """The one line is answered by the next index, which alone is used, by each number of
         workers."""
-        left = f"levels 5/8\ncounter {self.used + 1}\ncapacity 32\nleft {31 - self.used}\nopenings {self.openings + 1}\nburnt 0\n"
         for workers in ("1", "2", "64"):
             answer = self.ended(jobs, workers, 0, "")
             wanted = f"{self.used} {signature_of(ONE, self.used, message).hex()}\n".encode()
             holds(answer == wanted, f"another answer to {jobs[:200]}: {answer[:200]}")
-            ends(["info", "--state", "key.state"], 0, left)
+            described("5/8", self.used + 1, 32, self.openings + 1, 0)
 
 
 def line(message, end="\n", random=RANDOM):

@@ -194,7 +194,7 @@ def a_kill_changes_no_other_file():
 
 
 def signs_all(name, count):
-    """A machine's key signs so many messages in the folder of its name. Its indices, as they are
+    """The signer's key in the folder of this name signs so many messages. Its indices, as they are
     printed."""
     said = []
     for at in range(count):

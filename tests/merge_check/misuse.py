@@ -239,9 +239,25 @@ for name_of_type, its_words in TYPES.items():
 @test
 def the_places_that_sign():
     """No other place of the product signs by an index."""
+    are_as_listed(places_of(misuse_signing.SIGNS), misuse_signing.PLACES)
+
+
+@test
+def the_places_that_reserve():
+    """No other place of the product opens a book, or reserves indices."""
+    are_as_listed(places_of(misuse_signing.RESERVES), misuse_signing.RESERVATIONS)
+
+
+def places_of(calls):
+    """The places of the product that make one of these calls: each with its crate, its function, the loops
+    and closures around it and the code from brace or semicolon to brace or semicolon."""
     crates = sorted(it.name for it in (TOP / "crates").iterdir() if not misuse_signing.OTHERS.search(it.name))
-    places = (f"{crate}: {head_at(code, it.start())[0]}" for crate, code in sources(crates) for it in misuse_signing.SIGNS.finditer(code))
-    are_as_listed(collections.Counter(places), misuse_signing.PLACES)
+    bodies = ((crate, misuse_signing.without_clauses(code, block)) for crate, code in sources(crates))
+    return collections.Counter(
+        f"{crate}: {misuse_signing.around(code, it.start())}: {head_at(code, it.start())[0]}"
+        for crate, code in bodies
+        for it in calls.finditer(code)
+    )
 
 
 @test

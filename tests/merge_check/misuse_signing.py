@@ -1,39 +1,89 @@
-"""The places in the product's code where a one-time key signs, for `misuse`: each comes after its index was
-reserved, and a further one is seen."""
+"""The places in the product's code where a one-time key signs, and where a book is opened and indices are
+reserved, for `misuse`: each signs after its index was reserved, and a further one is seen. A place has its
+function, and the loops and closures there that it is in, so that none comes twice."""
 
 import re
 
 # What calls that sign are named, or a value that says that something was signed, made of its parts.
-CALLS = r"(?<!fn )\b(?:sign_(?:into|key_into|by_text|at|anew|by_nodes|with))\b|(?:\.|::)\s*(?:sign\b(?!\s*::)|signed\b(?=\s*\())"
+CALLS = r"(?<!fn )\b(?:sign_(?:in|into|key_into|by_text|at|anew|by_nodes|with)|append_signature|write_head)\b|(?:\.|::)\s*(?:sign\b(?!\s*::)|signed\b(?=\s*\())"
 SIGNS = re.compile(rf"{CALLS}|\bReceipt\b\s*\{{")
+RESERVES = re.compile(r"\bBook\b(?:::<[^>]*>)?\s*::\s*open\b|\.\s*reserve\s*\(")
+CLAUSE = re.compile(r"\b(?:requires|ensures)\b[^{};]*(?=\{)")
+FUNCTION = re.compile(r"\bfn (\w+)")
+ARRAY = re.compile(r"(\[[^][{};]*);([^][{};]*\])")
+AGAIN = re.compile(r"\b(for|while|loop)\b|(\|)[^|]*\|(?: ->.*)?$")
 # These crates are no part of the product.
 OTHERS = re.compile(r"_tests$|^bench_|fixtures$|^lms_slow$|^lms_example$")
 PLACES = """
-    lms_batch: Err(Ended) => Err(SignFault::Ended), Ok(pass) => match self.sign_with(pass, job)
-    lms_batch: Ok(Receipt
-    lms_batch: let Receipt
-    lms_batch: match self.forest.sign(index, &job.c, job.message.as_slice())
-    lms_batch: match self.lease.sign_with(pass, &self.jobs[place as usize])
-    lms_commands: KeptSignature, sign_by_text
-    lms_commands: match sign_by_text(rt, alloc, lease, &job.c, message, kept, resources.progress)
-    lms_hss: BandTree, Begun, LMS_KEY_LEN, NodeSource, Progress, public_bytes, sign_into
-    lms_hss: self.sign_into(q, c, msg, &mut text)
-    lms_hss: self.sign_into(q, c, public, &mut out[..signed])
-    lms_hss: self.sign_key_into(q, &randomizer(&key, q), &public_bytes(&tree), &mut head)
-    lms_hss: sign_into(&self.tree, q, c, msg, &mut out[start..])
-    lms_hss: tree.signed(self.alloc, self.key.leaf_of(g, bottom), c, msg)
-    lms_kept: KeptSignature, sign_by_text
-    lms_kept: Some(signed) => Ok(signed), None => sign_anew(rt, alloc, key, index, c, msg, progress),
-    lms_kept: let Some(signature) = trees.sign(alloc, index, c, msg)? else
-    lms_kept: let Some(signature) = trees.sign(alloc, index, c, msg)? else
-    lms_kept: let signed = sign_at(rt, alloc, key, index, c, msg, text, progress)
-    lms_kept: let text = self.signed(alloc, g, c, msg)?
-    lms_kept: match sign_by_nodes(rt, alloc, &key, index, c, msg, text, progress)?
-    lms_kept: return sign_anew(rt, alloc, key, index, c, msg, progress)
-    lms_kept: self.sign_key_into(q, &randomizer(&above, q), &tree.public_bytes(), &mut signed)
-    lms_kept: self.tree.sign_into(q, c, msg, &mut text[start..])
-    lms_kept: self.tree.sign_into(q, c, public, &mut out[..signed])
-    lms_ots: MESSAGE_HEAD_LEN, sign_into
-    lms_tree: LMS_KEY_LEN, public_bytes, sign_into
-    lms_tree: lms_ots::sign_into(key.ots, &key.seed, id, c, msg, &mut out[4..ots_end])
+    lms_batch: into_signature: let Receipt
+    lms_batch: sign: Err(Ended) => Err(SignFault::Ended), Ok(pass) => match self.sign_with(pass, job)
+    lms_batch: sign_next: match self.lease.sign_with(pass, &self.jobs[place as usize])
+    lms_batch: sign_with: Ok(Receipt
+    lms_batch: sign_with: match self.forest.sign(index, &job.c, job.message.as_slice())
+    lms_commands: outside: KeptSignature, sign_by_text
+    lms_commands: sign_next: match sign_by_text(rt, alloc, lease, &job.c, message, kept, resources.progress)
+    lms_hss: child: self.sign_key_into(q, &randomizer(&key, q), &public_bytes(&tree), &mut head)
+    lms_hss: outside: BandTree, Begun, LMS_KEY_LEN, NodeSource, Progress, public_bytes, sign_into
+    lms_hss: sign: tree.signed(self.alloc, self.key.leaf_of(g, bottom), c, msg)
+    lms_hss: sign_into: sign_into(&self.tree, q, c, msg, &mut out[start..])
+    lms_hss: sign_key_into: self.sign_into(q, c, public, &mut out[..signed])
+    lms_hss: signed: self.sign_into(q, c, msg, &mut text)
+    lms_kept: append_signature: self.tree.sign_into(q, c, msg, &mut text[start..])
+    lms_kept: child: self.sign_key_into(q, &randomizer(&above, q), &tree.public_bytes(), &mut signed)
+    lms_kept: outside: KeptSignature, sign_by_text
+    lms_kept: sign: Ok(self.sign_in(memory, g, c, msg))
+    lms_kept: sign_anew: let Some(signature) = trees.sign_in(memory, index, c, msg) else
+    lms_kept: sign_at: Some(signed) => Ok(signed), None => sign_anew(rt, alloc, key, index, c, msg, progress),
+    lms_kept: sign_at: match sign_by_nodes(rt, alloc, &key, index, c, msg, text, progress)?
+    lms_kept: sign_at: return sign_anew(rt, alloc, key, index, c, msg, progress)
+    lms_kept: sign_by_nodes: let Some(signature) = trees.sign_in(memory, index, c, msg) else
+    lms_kept: sign_by_text: let signed = sign_at(rt, alloc, key, index, c, msg, text, progress)
+    lms_kept: sign_in: let text = self.signed(memory, g, c, msg)
+    lms_kept: sign_key_into: self.tree.sign_into(q, c, public, &mut out[..signed])
+    lms_kept: signed: self.level(bottom) .append_signature(self.key.leaf_of(g, bottom), c, msg, &mut text)
+    lms_ots: outside: MESSAGE_HEAD_LEN, sign_into
+    lms_ots: sign_into: write_head(t, c, out)
+    lms_tree: outside: LMS_KEY_LEN, public_bytes, sign_into
+    lms_tree: outside: LMS_KEY_LEN, public_key_bytes, sibling, write_head
+    lms_tree: sign_into: write_head(&key, q, c, msg, &mut out[..path_start])
+    lms_tree: sign_into: write_head(&self.key, q, c, msg, &mut out[..path_start])
+    lms_tree: write_head: lms_ots::sign_into(key.ots, &key.seed, id, c, msg, &mut out[4..ots_end])
     """
+RESERVATIONS = """
+    lms_batch: sign_batch_watched: let lease = match self.book.reserve(rt, desk, count)
+    lms_commands: open_state: match Book::open(alloc, store)
+    lms_commands: sign_next: let lease = book.reserve(1).map_err(|fault| NextFault::Book(fault))?
+    lms_kept: moved_to: levels.reserve(key.levels.as_slice().len() - levels.len())?
+    lms_shared_book: reserve: match self.book.reserve(n)
+    lms_shared_book: reserve: self.counted.lock(rt).reserve(desk, n)
+    """
+
+
+def without_clauses(code, block):
+    """The code without its contracts, whose braces are none of a body. `block` gives what is in braces."""
+    parts, start = [], 0
+    for clause in CLAUSE.finditer(code):
+        if clause.start() >= start:
+            parts.append(code[start : clause.start()])
+            start = clause.end() + len(block(code, clause.end())) + 2
+    return "".join([*parts, code[start:]])
+
+
+def around(code, at):
+    """The function that a place is in, and which loops and closures it is in there."""
+    heads, start, before = [], 0, code[:at]
+    # (an array's type has a semicolon that ends nothing)
+    while (changed := ARRAY.sub(r"\1,\2", before)) != before:
+        before = changed
+    for it in re.finditer("[;{}]", before):
+        if it[0] == "{":
+            heads.append(" ".join(before[start : it.start()].split()))
+        elif it[0] == "}":
+            heads.pop()
+        start = it.end()
+    names = [name[1] if (name := FUNCTION.search(head)) else None for head in heads]
+    inner = max((at for at, name in enumerate(names) if name), default=None)
+    if inner is None:
+        return "outside"
+    again = [next(filter(None, found.groups())) for head in heads[inner + 1 :] if (found := AGAIN.search(head))]
+    return " ".join([names[inner], *again])

@@ -1,10 +1,12 @@
 """The program with each of its requests for memory refused in turn, until a run meets no refusal.
 
-It ends well, or with a fault that says what became of the state, as the state then shows. A next
+It ends well, or with a fault that says what became of the state, as the state then shows. A public
+key or joined signature that it writes is whole then; after a fault it is whole or absent. A next
 `sign` does well, and no index is given twice. `refuse.c` refuses the request. `machine.c` gives the
 program one processor, so that its requests are the same in each run, and a clock by which it tells of
-all leaves that it has computed: so it is seen how many are computed when a request is refused. All
-memory for a tree is asked for before its leaves are."""
+all leaves that it has computed: so it is seen how many are computed when a request is refused. `sign`
+asks for all memory before it computes a leaf, and again where kept nodes turn out to be wrong; `keygen`
+asks for that of its state and tree before, and `batch` for all of a tree before its leaves."""
 
 import collections
 import concurrent.futures
@@ -15,6 +17,7 @@ import re
 
 from tests.harness import Wrong, add_test, holds
 from tests.merge_check.made_up_trees import MadeUpTree
+from tests.merge_check.wrong_nodes import misfitting
 from tests.program import BATCH, INFO, NODES, TO_JOIN, index_in, job_lines, join, join_public, keygen, preload, public, put, run, sign, verify
 from tests.reference import IDENTIFIER, SEED, SUBTREE, checked, image, joined, kept, kept_parts, number, parts_to_join, public_of, signature_of
 
@@ -39,6 +42,11 @@ def key_of(levels):
 def with_nodes():
     """And kept nodes of the index LAST."""
     return {**key_of(TWO), NODES: kept(TWO, LAST)}
+
+
+def with_another_root():
+    """And kept nodes of the index LAST, but for the root of the top tree."""
+    return {**key_of(TWO), NODES: misfitting(TWO, LAST)["another root of the top tree"]}
 
 
 def with_signature():
@@ -70,7 +78,7 @@ class Command:
     there is no state, how many indices it uses, its input, and a call for the other files that it finds.
     `late` says how many leaves were computed where it ends by a refusal and some were: each number with
     that of these refusals. Where only those are tried that burn an index, the others are as in another
-    command. What it makes, where it ends well, is a file of a name with the bytes of a call, if that is said."""
+    command. What it makes is a file of a name with the bytes of a call, if that is said."""
 
     def __init__(self, arguments, levels, late, index=LAST, uses=1, lines=b"", files=None, burns=False, makes=None):
         self.arguments, self.levels, self.late, self.index, self.uses, self.lines = arguments, levels, late, index, uses, lines
@@ -141,9 +149,10 @@ class Run:
         used, given, status = self.used(), self.given(), self.ran.returncode
         wanted, may_use = self.command.ends(self.fault, len(given))
         holds(status == wanted and used in may_use, f"it ended with {status} and {self.fault!r}, and {used} indices are used")
-        if self.command.makes and status == 0:
+        if self.command.makes:
             name, contents = self.command.makes
-            holds((self.folder / name).read_bytes() == contents(), f"{name} has other bytes")
+            left = (self.folder / name).read_bytes() if (self.folder / name).exists() else None
+            holds(left == contents() or (status and left is None), f"it ended with {status}, and {name} is missing or has other bytes")
         if used is None:
             ran = self.run(self.command.arguments)
             holds(ran.returncode == 0, f"the next keygen fails: {ran.stderr!r}")
@@ -187,19 +196,18 @@ def refuses_each(command):
 
 
 COMMANDS = {
-    "keygen": Command(keygen("5/1,5/1"), TWO, {32: 5}, index=None, uses=0),
+    "keygen": Command(keygen("5/1,5/1", public="new.pub"), TWO, {32: 1}, index=None, uses=0, makes=("new.pub", lambda: public_of(TWO))),
     "public": Command(public(name="again.pub"), TWO, {32: 1}, uses=0, makes=("again.pub", lambda: public_of(TWO))),
     "info": Command(INFO, TWO, {}, uses=0),
     "verify": Command(verify(signature="old.sig"), TWO, {}, uses=0, files=with_signature),
     "join": Command(join(), TWO, {}, uses=0, files=with_parts, makes=("joined.sig", lambda: joined_parts()[1])),
     "join-public": Command(join_public(), TWO, {}, uses=0, files=with_parts, makes=("joined.pub", lambda: joined_parts()[0])),
-    "sign by two trees": Command(sign(), TWO, {32: 3, 64: 1}),
-    "sign by one tree": Command(sign(), ONE, {32: 1}, index=LAST - 1, burns=True),
+    "sign by two trees": Command(sign(), TWO, {}),
+    "sign by one tree": Command(sign(), ONE, {}, index=LAST - 1, burns=True),
     "sign by kept trees": Command(sign(), TWO, {}, files=with_nodes, burns=True),
-    "sign by the next tree": Command(sign(), TWO, {32: 1}, index=LAST + 1, files=with_nodes, burns=True),
-    "sign by the next bottom subtree": Command(
-        sign(), TALL, {1024: 3, 1056: 3, 1088: 3, 1120: 3, 1152: 1}, index=EDGE, files=with_tall_nodes, burns=True
-    ),
+    "sign by the next tree": Command(sign(), TWO, {}, index=LAST + 1, files=with_nodes, burns=True),
+    "sign by the next tree, under another root": Command(sign(), TWO, {32: 8}, index=LAST + 1, files=with_another_root, burns=True),
+    "sign by the next bottom subtree": Command(sign(), TALL, {}, index=EDGE, files=with_tall_nodes, burns=True),
     "batch": Command([*BATCH[:-1], "1"], TWO, {32: 4, 64: 3, 96: 5}, uses=JOBS, lines=job_lines(*[b"abc"] * JOBS)),
 }
 for what, one_of_them in COMMANDS.items():

@@ -19,14 +19,25 @@ job_is_shared = search (sendable, crosses) depth 20
 
 pub lease_is_shared : IsSync lease.the_row
 lease_is_shared =
-    let fields : IsSync (Struct (shape inside.the_type)) = search (forest_is_shared, pool_is_shared, sendable) depth 20 in
-    view_sync inside.the_row _ _ _ _ (recorded_sync (Struct (shape inside.the_type)) inside.the_type.D inside.the_type.to inside.the_type.to_one fields)
+    let fields : IsSync (Struct (shape inside.the_type)) =
+    search (forest_is_shared, pool_is_shared, sendable) depth 20 in
+    view_sync inside.the_row _ _ _ _
+    (recorded_sync (Struct (shape inside.the_type)) inside.the_type.D inside.the_type.to inside.the_type.to_one fields)
 
 receipt_is_sent : (κ : NamedLft) → IsSend (receipt.the_row κ)
 receipt_is_sent κ =
-    let fields : IsSend (Struct (shape (receipt_inside.the_type κ))) = struct_send (shape (receipt_inside.the_type κ))
-    (key_is_sent, (search sendable depth 20, (search sendable depth 20, (search (job_is_shared, sendable) depth 20, (Vec-send u8 (search sendable depth 20), tt))))) in
-    view_send (receipt_inside.the_row κ) _ _ _ _ (recorded_send (Struct (shape (receipt_inside.the_type κ))) (receipt_inside.the_type κ).D (receipt_inside.the_type κ).to (receipt_inside.the_type κ).to_one fields)
+    let fields : IsSend (Struct (shape (receipt_inside.the_type κ))) = struct_send (shape (receipt_inside.the_type κ)) (
+      key_is_sent,
+      (
+        search sendable depth 20,
+        (
+          search sendable depth 20,
+          (search (job_is_shared, sendable) depth 20, (Vec-send u8 (search sendable depth 20), tt)),
+        ),
+      ),
+    ) in
+    view_send (receipt_inside.the_row κ) _ _ _ _ (recorded_send (Struct (shape (receipt_inside.the_type κ)))
+    (receipt_inside.the_type κ).D (receipt_inside.the_type κ).to (receipt_inside.the_type κ).to_one fields)
 
 pub worker_is_sent : (κ : NamedLft) → IsSend (worker.the_row κ)
 worker_is_sent κ = search (lease_is_shared, job_is_shared, receipt_is_sent, seat_is_sent, sendable, crosses) depth 20

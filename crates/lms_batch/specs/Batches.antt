@@ -1,5 +1,6 @@
 -- Batches of signatures, and what a collector has of one.
-use Rattle.std.specs.Prelude.{◌≡◌, ℕ, ◌+◌, ◌≤◌, List, [], ◌∷◌, Option, None, Some, length, map, replicate, slice_get, slice_set, Vec}
+use Rattle.std.specs.Prelude.{◌≡◌, ℕ, ◌+◌, ◌≤◌, List, [], ◌∷◌, Option, None, Some, length, map, replicate, slice_get}
+use Rattle.std.specs.Prelude.{slice_set, Vec}
 use Rattle.std.specs.Global.{Global}
 use Rattle.std.specs.Option.{option_map}
 use Rattle.lms_spec.specs.Hss.{HssAccepts}

@@ -1,4 +1,4 @@
-use crate::read_block;
+use crate::{WriteFault, print_line, read_block};
 use std::io;
 use std::io::{ErrorKind, Read};
 use std::test::Fail;
@@ -64,5 +64,20 @@ fn another_fault_is_reported(rt: HostRuntime) -> Result<(), Fail> {
     };
     assert!(rt; gives(&mut reader, b"a"));
     assert!(rt; fails_by(&mut reader, ErrorKind::BrokenPipe));
+    Ok(())
+}
+
+/// 31 bytes.
+const PART: &str = "0123456789abcdef0123456789abcde";
+
+#[test]
+fn a_line_of_over_128_bytes_is_not_begun(rt: HostRuntime) -> Result<(), Fail> {
+    let mut output = Vec::new(rt.alloc());
+    let longest = print_line(&mut output, format_args!("{PART}{PART}{PART}{PART}abc"));
+    assert!(rt; longest == Ok(()));
+    assert!(rt; output.len() == 128);
+    let longer = print_line(&mut output, format_args!("{PART}{PART}{PART}{PART}abcd"));
+    assert!(rt; longer == Err(WriteFault));
+    assert!(rt; output.len() == 128);
     Ok(())
 }

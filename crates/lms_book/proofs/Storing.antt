@@ -25,37 +25,43 @@ module _ (n : ℕ) (r : ReservationsState) (text : List ℕ) (old new : StoreVie
   image_alone : new ≡ after_write text old → (left : List ℕ) → MayLeave new left → left ≡ text_after r n
   image_alone is left may = leaves_written text old new is left may ∙ image
 
-  image_or_old : FailsToWrite text old new → (left : List ℕ) → MayLeave new left → MayLeave old left ⊎ (left ≡ text_after r n)
-  image_or_old is left may = ⊎_elim (λ was. inl was) (λ here. inr (here ∙ image)) (leaves_failed text old new is left may)
+  image_or_old : FailsToWrite text old new → (left : List ℕ) → MayLeave new left
+      → MayLeave old left ⊎ (left ≡ text_after r n)
+  image_or_old is left may =
+      ⊎_elim (λ was. inl was) (λ here. inr (here ∙ image)) (leaves_failed text old new is left may)
 
   pub same_with_given : (later : ReservationsState) → later ≡ with_given r n → new ≡ after_write text old
       → IsSameOpening (book_of r old) (book_of later new)
-  same_with_given later is wrote = subst (λ (l : ReservationsState). IsSameOpening (book_of r old) (book_of l new)) (sym is) (record {
-    key = refl;
-    base = refl;
-    openings = refl;
-    burnt = refl;
-    opened = λ held opened. opened_given held r n old new opened counted.within (image_alone wrote);
-  })
+  same_with_given later is wrote =
+      subst (λ (l : ReservationsState). IsSameOpening (book_of r old) (book_of l new)) (sym is) (record {
+        key = refl;
+        base = refl;
+        openings = refl;
+        burnt = refl;
+        opened = λ held opened. opened_given held r n old new opened counted.within (image_alone wrote);
+      })
 
   pub same_with_burnt : (later : ReservationsState) → later ≡ with_burnt r n → FailsToWrite text old new
       → IsSameOpening (book_of r old) (book_of later new)
-  same_with_burnt later is failed = subst (λ (l : ReservationsState). IsSameOpening (book_of r old) (book_of l new)) (sym is) (record {
-    key = refl;
-    base = refl;
-    openings = refl;
-    burnt = refl;
-    opened = λ held opened. opened_burnt held r n old new opened counted.within (image_or_old failed);
-  })
+  same_with_burnt later is failed =
+      subst (λ (l : ReservationsState). IsSameOpening (book_of r old) (book_of l new)) (sym is) (record {
+        key = refl;
+        base = refl;
+        openings = refl;
+        burnt = refl;
+        opened = λ held opened. opened_burnt held r n old new opened counted.within (image_or_old failed);
+      })
 
-  pub backed_with_given : (later : ReservationsState) → later ≡ with_given r n → new ≡ after_write text old → IsBackedBy r old → IsBackedBy later new
+  pub backed_with_given : (later : ReservationsState) → later ≡ with_given r n → new ≡ after_write text old
+      → IsBackedBy r old → IsBackedBy later new
   backed_with_given later is wrote backed = subst (λ (l : ReservationsState). IsBackedBy l new) (sym is) (record {
     safe = safe_given r n old new counted (image_alone wrote);
     held = backed.held;
     opened = opened_given backed.held r n old new backed.opened counted.within (image_alone wrote);
   })
 
-  pub backed_with_burnt : (later : ReservationsState) → later ≡ with_burnt r n → FailsToWrite text old new → IsBackedBy r old → IsBackedBy later new
+  pub backed_with_burnt : (later : ReservationsState) → later ≡ with_burnt r n → FailsToWrite text old new
+      → IsBackedBy r old → IsBackedBy later new
   backed_with_burnt later is failed backed = subst (λ (l : ReservationsState). IsBackedBy l new) (sym is) (record {
     safe = safe_burnt r n old new counted backed.safe (image_or_old failed);
     held = backed.held;

@@ -1,5 +1,6 @@
 -- What `reserve` and `open` answer, and what they change; when a book is in order.
-use Rattle.std.specs.Prelude.{◌≡◌, ◌⊎◌, ℕ, ◌+◌, ◌-◌, ◌≤◌, ◌<◌, Bool, true, List, [], ◌∷◌, ◌++◌, AllPairs, Result, Ok, Err, Some}
+use Rattle.std.specs.Prelude.{◌≡◌, ◌⊎◌, ℕ, ◌+◌, ◌-◌, ◌≤◌, ◌<◌, Bool, true, List, [], ◌∷◌, ◌++◌, AllPairs, Result, Ok}
+use Rattle.std.specs.Prelude.{Err, Some}
 use Rattle.lms_spec.specs.Hss.{capacity_of}
 use Rattle.lms_hss.specs.Keys.{hss_key_of}
 use Rattle.lms_book.specs.declared.history.Entry.TheVariants.{Given, Burnt}
@@ -9,7 +10,8 @@ use Rattle.lms_book.specs.declared.fault.OpenFault.{OpenFault}
 use Rattle.lms_book.specs.declared.fault.OpenFault.TheVariants as open_faults
 use Rattle.lms_image.specs.Image.{image_of, fault_of, HasImage, IsImage}
 use Rattle.lms_book.specs.History.{Range, end, counter_of, burnt_after, leases}
-use Rattle.lms_book.specs.Stops.{StoreView, MayLeave, LeavesWithin, having_given, after_write, after_failure, FailsToWrite}
+use Rattle.lms_book.specs.Stops.{StoreView, MayLeave, LeavesWithin, having_given, after_write, after_failure}
+use Rattle.lms_book.specs.Stops.{FailsToWrite}
 use Rattle.lms_book.specs.States.{BookState, LeaseState, IsSameOpening, IsSafe}
 
 -- how many of the key's indices are used

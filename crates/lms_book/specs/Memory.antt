@@ -1,5 +1,6 @@
 -- A store in memory: the bytes that it held, and which calls are to fail.
-use Rattle.std.specs.Prelude.{◌≡◌, ◌⊎◌, ℕ, ◌-◌, ◌<◌, ◌≤◌, List, [], ◌∷◌, ◌++◌, length, get_or, drop, replicate, Option, Some, None, Bool, true, false, ◌||◌, is_none, map, Result, Ok, Err}
+use Rattle.std.specs.Prelude.{◌≡◌, ◌⊎◌, ℕ, ◌-◌, ◌<◌, ◌≤◌, List, [], ◌∷◌, ◌++◌, length, get_or, drop, replicate, Option}
+use Rattle.std.specs.Prelude.{Some, None, Bool, true, false, ◌||◌, is_none, map, Result, Ok, Err}
 use Rattle.std.specs.Global.{Vec}
 use Rattle.std.proofs.Math.ListN.{set}
 use Rattle.lms_book.specs.declared.plans.Left.{Left}

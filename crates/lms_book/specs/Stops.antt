@@ -1,6 +1,7 @@
 -- What a store is to contracts: what a crash leaves in it, now and at each moment before, what its
 -- last read gave, and how many calls failed. What a name calls `text` is a list of bytes.
-use Rattle.std.specs.Prelude.{◌≡◌, ◌⊎◌, ℕ, ◌+◌, ◌^◌, ◌-◌, max, min, Bool, true, List, [], ◌∷◌, ◌++◌, Contains, drop, length, Option, Some, None, Result, Ok, Err}
+use Rattle.std.specs.Prelude.{◌≡◌, ◌⊎◌, ℕ, ◌+◌, ◌^◌, ◌-◌, max, min, Bool, true, List, [], ◌∷◌, ◌++◌, Contains, drop}
+use Rattle.std.specs.Prelude.{length, Option, Some, None, Result, Ok, Err}
 use Rattle.std.specs.Global.{Vec}
 use Rattle.lms_book.specs.declared.fault.ReadFault.{ReadFault}
 use Rattle.lms_book.specs.declared.fault.ReadFault.TheVariants.{Device, OutOfMemory}

@@ -174,7 +174,7 @@ impl<S: StateStore> Book<S> {
             return Err(BookFault::Exhausted { left });
         }
         let image = self.reservations.next_image(n);
-        let Ok(()) = self.reservations.burn(n) else {
+        let Ok(()) = self.reservations.begin(n) else {
             return Err(BookFault::OutOfMemory);
         };
         let text = encode_image(&image);

@@ -145,9 +145,9 @@ impl Reservations {
         }
     }
 
-    /// Reserves the next n indices as burnt, which they are until their image is stored.
-    /// `OutOfMemory`, with nothing changed, where memory for the entry is refused.
-    pub(crate) fn burn(&mut self, n: u64) -> Result<(), OutOfMemory>
+    /// Begins to reserve the next n indices, which count as burnt until `confirm`. `OutOfMemory`,
+    /// with nothing changed, where memory for the entry is refused.
+    pub(crate) fn begin(&mut self, n: u64) -> Result<(), OutOfMemory>
         requires { counter_of self.old.base self.old.history + n
             ≤ capacity_of (hss_key_of self.old.key) }
         ensures ok { OnOk result

@@ -31,18 +31,26 @@ own_hand me = hand me.number me.pool.value.len (hand_in (cell_view me.token)).lo
 -- after a call with this reply the seat has made it, and is in order where it counts what it has to
 pub record Called (me : Inside) (c : Call) (r : Reply) (w : View) : Type 0 where
   pub makes : (before : SeatState) → seat_with me (cell_view me.token) ≡ before → Calls before c r (seat_with me w)
-  pub stays : (stopped : ℕ) (table : TableId) → table ≡ me.token.table_id → stopped ≡ me.stopped + stopped_by c r → IsCellSeat me.pool.value me.number stopped table w
+  pub stays : (stopped : ℕ) (table : TableId) → table ≡ me.token.table_id → stopped ≡ me.stopped + stopped_by c r
+      → IsCellSeat me.pool.value me.number stopped table w
 
 module _ (me : Inside) (seat : IsWell me) where
   abbrev old_log : List LoggedCall
   old_log = (hand_in (cell_view me.token)).log
 
   -- its hand became this one by a call
-  pub after_call : (c : Call) (r : Reply) (w : View) (k : Hand) → w ≡ Some (known me.pool.value.seats (k ∷ [])) → Makes c r (own_hand me) k → Called me c r w
+  pub after_call : (c : Call) (r : Reply) (w : View) (k : Hand) → w ≡ Some (known me.pool.value.seats (k ∷ []))
+      → Makes c r (own_hand me) k → Called me c r w
   after_call c r w k is m = subst (Called me c r) (sym is) (record {
-    makes = λ before same. subst (λ (s : SeatState). Calls s c r (seat_with me (Some (known me.pool.value.seats (k ∷ []))))) same (refl, refl, m.2);
+    makes = λ before same. subst (λ (s : SeatState).
+        Calls s c r (seat_with me (Some (known me.pool.value.seats (k ∷ []))))) same (refl, refl, m.2);
     stays = λ stopped table same adds.
-        let counted : stopped ≡ stopped_in (calls_of me.number k.log) = omega (arith, adds, seat.of_pool.counted, stopped_after me.pool.value.len old_log (logged_call me.number c r) k.log m.2) in
+        let counted : stopped ≡ stopped_in (calls_of me.number k.log) = omega (
+          arith,
+          adds,
+          seat.of_pool.counted,
+          stopped_after me.pool.value.len old_log (logged_call me.number c r) k.log m.2,
+        ) in
         record {
           of_pool = record {
             below = seat.of_pool.below;
@@ -62,12 +70,19 @@ module _ (me : Inside) (seat : IsWell me) where
       t.1 ∙ ap (λ (h : Hand). Some (known me.pool.value.seats (h ∷ []))) (t.2.0 low)
 
   -- its hand stayed
-  pub unchanged : (w : View) (k : Hand) (table : TableId) → w ≡ Some (known me.pool.value.seats (k ∷ [])) → k ≡ own_hand me → table ≡ me.token.table_id
+  pub unchanged : (w : View) (k : Hand) (table : TableId) → w ≡ Some (known me.pool.value.seats (k ∷ []))
+      → k ≡ own_hand me → table ≡ me.token.table_id
       → IsCellSeat me.pool.value me.number me.stopped table w × (seat_with me w ≡ seat_with me (cell_view me.token))
   unchanged w k table is same there =
-      let stays : w ≡ cell_view me.token = is ∙ ap (λ (h : Hand). Some (known me.pool.value.seats (h ∷ []))) same ∙ sym seat.alone in
+      let stays : w ≡ cell_view me.token = is ∙ ap (λ (h : Hand). Some (known me.pool.value.seats (h ∷ []))) same
+      ∙ sym seat.alone in
       let of_pool : IsSeatOf me.pool.value me.number me.stopped table old_log =
-      record { below = seat.of_pool.below; table_is = there ∙ seat.of_pool.table_is; counted = seat.of_pool.counted; few = seat.of_pool.few } in (
+      record {
+        below = seat.of_pool.below;
+        table_is = there ∙ seat.of_pool.table_is;
+        counted = seat.of_pool.counted;
+        few = seat.of_pool.few;
+      } in (
         subst (λ (v : View). IsCellSeat me.pool.value me.number me.stopped table v) (sym stays)
             (record { of_pool = of_pool; alone = seat.alone }),
         ap (seat_with me) stays,

@@ -11,7 +11,8 @@ abbrev pub IsBuilt : App → Command → Type 0
 IsBuilt a c = (app_of c ≡ a) × ((fields_of c).has_globals ≡ false)
 
 -- one more option
-pub with_option : (a : App) (r : Rule) (old : Command) (arg : Arg) (new : Command) → IsBuilt a old → rule_of arg ≡ r → arg.global ≡ false → AddsArg old arg new
+pub with_option : (a : App) (r : Rule) (old : Command) (arg : Arg) (new : Command) → IsBuilt a old → rule_of arg ≡ r
+    → arg.global ≡ false → AddsArg old arg new
     → IsBuilt (with_rule a r) new
 with_option a r old arg new built rule local adds =
     let globals : ((fields_of old).has_globals || arg.global) ≡ false = rw (built.1, local) refl in (
@@ -20,7 +21,9 @@ with_option a r old arg new built rule local adds =
     )
 
 -- one more subcommand
-pub with_command : (a : App) (s : Subcommand) (old sub new : Command) → app_of old ≡ a → app_of sub ≡ app_for s → (fields_of sub).has_globals ≡ false
+pub with_command : (a : App) (s : Subcommand) (old sub new : Command) → app_of old ≡ a → app_of sub ≡ app_for s
+    → (fields_of sub).has_globals ≡ false
     → AddsSubcommand old sub new → app_of new ≡ with_subcommand a (shape_for s)
 with_command a s old sub new built is_sub local adds =
-    adds.shape local ∙ ap (λ (b : App). with_subcommand b (app_of sub).top) built ∙ ap (λ (b : App). with_subcommand a b.top) is_sub
+    adds.shape local ∙ ap (λ (b : App). with_subcommand b (app_of sub).top) built
+    ∙ ap (λ (b : App). with_subcommand a b.top) is_sub

@@ -19,15 +19,19 @@ use Rattle.lms_commands.specs.declared.status.Status.{Status}
 use Rattle.lms_commands.proofs.BatchInMemory.{fails_to_sign_jobs_in_memory, signs_jobs_in_memory}
 use Rattle.lms_commands.proofs.KeygenInMemory.{fails_to_make_key_in_memory, makes_key_in_memory}
 use Rattle.lms_commands.proofs.PublicInMemory.{fails_to_publish_key_in_memory, publishes_key_in_memory}
-use Rattle.lms_commands.proofs.ReadingInMemory.{describes_in_memory, fails_to_describe_in_memory, fails_to_judge_in_memory, judges_in_memory}
+use Rattle.lms_commands.proofs.ReadingInMemory.{describes_in_memory, fails_to_describe_in_memory}
+use Rattle.lms_commands.proofs.ReadingInMemory.{fails_to_judge_in_memory, judges_in_memory}
 use Rattle.lms_commands.proofs.SignInMemory.{fails_to_sign_in_memory, signs_in_memory}
 use Rattle.lms_commands.proofs.Telling.{nothing_done}
-use Rattle.lms_join_commands.proofs.JoinInMemory.{fails_to_join_in_memory, fails_to_join_keys_in_memory, joins_in_memory, joins_keys_in_memory}
+use Rattle.lms_join_commands.proofs.JoinInMemory.{fails_to_join_in_memory, fails_to_join_keys_in_memory}
+use Rattle.lms_join_commands.proofs.JoinInMemory.{joins_in_memory, joins_keys_in_memory}
 use Rattle.lms_cli.specs.Commands.{AreTakenAs}
 use Rattle.lms_cli.specs.RunLogs.{LogsFailed, LogsObeyed}
-use Rattle.lms_cli.specs.RunsInMemory.{ChangesAsked, ChangesAskedInMemory, KeepsSome, LocksState, StoresState, Writes, WritesSome}
+use Rattle.lms_cli.specs.RunsInMemory.{ChangesAsked, ChangesAskedInMemory, KeepsSome, LocksState, StoresState, Writes}
+use Rattle.lms_cli.specs.RunsInMemory.{WritesSome}
 use Rattle.lms_cli.specs.declared.command.types.Command.{Command}
-use Rattle.lms_cli.specs.declared.command.types.Command.TheVariants.{Batch, Info, Join, JoinPublic, Keygen, Public, Sign, Verify}
+use Rattle.lms_cli.specs.declared.command.types.Command.TheVariants.{Batch, Info, Join, JoinPublic, Keygen, Public}
+use Rattle.lms_cli.specs.declared.command.types.Command.TheVariants.{Sign, Verify}
 
 -- ---- which files and nodes stay
 
@@ -55,7 +59,7 @@ module _ (fault : Fault) (old new : Held) where
   keygen_files : (key : KeyOfCode) (public : Bytes) → FailsToMakeKey key public fault old new → Others public old new
   keygen_files key public (inl (why, same)) = λ name other. at_name name _ _ (files_of same)
   keygen_files key public (inr (inl (at, free, there, same))) = λ name other. at_name name _ _ (files_of same)
-  keygen_files key public (inr (inr (inl (at, free, none, same)))) = λ name other. at_name name _ _ (files_of same)
+  keygen_files key public (inr (inr (inl (at, free, none, stays)))) = λ name other. at_name name _ _ stays.files
   keygen_files key public (inr (inr (inr (inl (at, may))))) = λ name other. at_name name _ _ may.files
   keygen_files key public (inr (inr (inr (inr (made, inl (refused, why, same)))))) = λ name other. at_name name _ _ same
   keygen_files key public (inr (inr (inr (inr (made, inr (at, published)))))) = published.others
@@ -101,6 +105,7 @@ module _ (fault : Fault) (old new : Held) where
     state = ap (λ (h : Held). h.state) same;
     nodes = nodes_of same;
     in_use = ap (λ (h : Held). h.in_use) same;
+    nodes_fault = ap (λ (h : Held). h.nodes_fault) same;
   }
 
   pub info_stays : (before printed : List ℕ) → FailsToDescribe before printed fault old new → Stays old new

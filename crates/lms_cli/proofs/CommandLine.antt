@@ -1,15 +1,19 @@
 -- What clap's definition of the program makes of words that it takes.
-use Rattle.std.proofs.Common.{◌≡◌, ◌∙◌, ◌||◌, ◌&&◌, ◌++◌, refl, sym, ap, Bool, cond, true, false, not, codes, find, map, List, [], ◌∷◌, Option, Some, None, is_some, true≢false}
+use Rattle.std.proofs.Common.{◌≡◌, ◌∙◌, ◌||◌, ◌&&◌, ◌++◌, refl, sym, ap, Bool, cond, true, false, not, codes, find, map}
+use Rattle.std.proofs.Common.{List, [], ◌∷◌, Option, Some, None, is_some, true≢false}
 use Rattle.std.specs.List.{AllByRecursion, list_all, list_any}
 use Rattle.std.specs.Option.{option_map, option_map_or}
 use Rattle.std.specs.Str.{bytes_eq}
 use Rattle.std.proofs.lemmas.Slice.Eq.{bytes_eq-Decides}
 use Rattle.clap.specs.Walk.{Row, Rule, Text, answers_to, first_of, nothing_held, rows_after, walk, walk_from}
-use Rattle.clap.specs.Simple.{App, Shape, argument_words, built, built_leaf, entered, filled_from, help_rule, inherited, is_simple, help_shape, label_of, marked_built, names_of, rows_at, subcommand_of, with_leaf_noted}
+use Rattle.clap.specs.Simple.{App, Shape, argument_words, built, built_leaf, entered, filled_from, help_rule, inherited}
+use Rattle.clap.specs.Simple.{is_simple, help_shape, label_of, marked_built, names_of, rows_at, subcommand_of}
+use Rattle.clap.specs.Simple.{with_leaf_noted}
 use Rattle.clap.specs.Takes.{is_given}
 use Rattle.clap.specs.Faults.{check_fault, entered_fault, fault_of, is_simple_and_free, level_fault, walk_fault}
 use Rattle.clap.specs.declared.error.kind.ErrorKind.TheVariants.{MissingRequiredArgument}
-use Rattle.lms_cli.specs.Application.{Subcommand, subcommand_called, subcommand_called_in, lms_app, required_option, shape_for, subcommands}
+use Rattle.lms_cli.specs.Application.{Subcommand, subcommand_called, subcommand_called_in, lms_app, required_option}
+use Rattle.lms_cli.specs.Application.{shape_for, subcommands}
 use Rattle.lms_cli.proofs.FullRows.{AllFull, both_none, given_first, is_filling, level_checked, level_full}
 use Rattle.lms_cli.proofs.Stops.{IsPastHelp, walk_past_help}
 
@@ -57,7 +61,8 @@ none_missing : (missing : Bool) → cond missing (MissingRequiredArgument ∷ []
 none_missing true e = cc
 none_missing false e = refl
 
-has_values : (options : List Text) (rows : List Row) → AllFull rows → list_any (λ a. a.required && not (is_given a.id rows)) (rules_built options) ≡ false
+has_values : (options : List Text) (rows : List Row) → AllFull rows
+    → list_any (λ a. a.required && not (is_given a.id rows)) (rules_built options) ≡ false
     → HasValues options rows
 has_values [] rows full e = tt
 has_values (option ∷ options) rows full e = go (is_given option rows) refl e (has_values options rows full)
@@ -65,7 +70,8 @@ has_values (option ∷ options) rows full e = go (is_given option rows) refl e (
     is_missing : Bool
     is_missing = list_any (λ a. a.required && not (is_given a.id rows)) (rules_built options)
 
-    go : (t : Bool) → is_given option rows ≡ t → (not t || is_missing) ≡ false → (is_missing ≡ false → HasValues options rows) → HasValues (option ∷ options) rows
+    go : (t : Bool) → is_given option rows ≡ t → (not t || is_missing) ≡ false
+        → (is_missing ≡ false → HasValues options rows) → HasValues (option ∷ options) rows
     go true given none others = (given_first option rows full given, others none)
     go false given none others = cc
 
@@ -99,27 +105,34 @@ Finds among found name rest =
     × (level_fault (shape_built s) [] nothing_held rest false [] ≡ [])
 
 finds_help : (is_help : Bool) (name : Text) (rest : List Text) → is_help ≡ false
-    → is_some (option_map (λ x. rows_at x rest) (cond is_help (Some help_built) None)) ≡ true → Finds [] (cond is_help (Some help_built) None) name rest
+    → is_some (option_map (λ x. rows_at x rest) (cond is_help (Some help_built) None)) ≡ true
+    → Finds [] (cond is_help (Some help_built) None) name rest
 finds_help true name rest other some = cc
 finds_help false name rest other some = cc
 
 finds : (among : List Subcommand) (name : Text) (rest : List Text) → bytes_eq name (codes "help") ≡ false
     → is_some (option_map (λ x. rows_at x rest) (find (λ x. answers_to name (label_of x)) (shapes_built among))) ≡ true
-    → option_map_or (λ x. level_fault x [] nothing_held rest false []) (find (λ x. answers_to name (label_of x)) (shapes_built among)) [] ≡ []
+    → option_map_or (λ x. level_fault x [] nothing_held rest false [])
+    (find (λ x. answers_to name (label_of x)) (shapes_built among)) [] ≡ []
     → Finds among (find (λ x. answers_to name (label_of x)) (shapes_built among)) name rest
-finds [] name rest other some none = finds_help (answers_to name (label_of help_built)) name rest (is_not_help name other) some
-finds (s ∷ among) name rest other some none = go (bytes_eq s.name name) (bytes_eq-Decides s.name name).0 some none (finds among name rest other)
+finds [] name rest other some none =
+    finds_help (answers_to name (label_of help_built)) name rest (is_not_help name other) some
+finds (s ∷ among) name rest other some none =
+    go (bytes_eq s.name name) (bytes_eq-Decides s.name name).0 some none (finds among name rest other)
   where
     later : Option Shape
     later = find (λ x. answers_to name (label_of x)) (shapes_built among)
 
     go : (t : Bool) → (t ≡ true → s.name ≡ name)
         → is_some (option_map (λ x. rows_at x rest) (cond (t || false) (Some (shape_built s)) later)) ≡ true
-        → option_map_or (λ x. level_fault x [] nothing_held rest false []) (cond (t || false) (Some (shape_built s)) later) [] ≡ []
-        → (is_some (option_map (λ x. rows_at x rest) later) ≡ true → option_map_or (λ x. level_fault x [] nothing_held rest false []) later [] ≡ []
+        → option_map_or (λ x. level_fault x [] nothing_held rest false [])
+        (cond (t || false) (Some (shape_built s)) later) [] ≡ []
+        → (is_some (option_map (λ x. rows_at x rest) later) ≡ true
+        → option_map_or (λ x. level_fault x [] nothing_held rest false []) later [] ≡ []
         → Finds among later name rest)
         → (r : Subcommand) × (r.name ≡ name) × (cond t (Some s) (subcommand_called_in among name) ≡ Some r)
-        × (option_map (λ x. rows_at x rest) (cond (t || false) (Some (shape_built s)) later) ≡ Some (rows_at (shape_built r) rest))
+        × (option_map (λ x. rows_at x rest) (cond (t || false) (Some (shape_built s)) later)
+        ≡ Some (rows_at (shape_built r) rest))
         × (level_fault (shape_built r) [] nothing_held rest false [] ≡ [])
     go true is found fault others = (s, is refl, refl, refl, fault)
     go false is found fault others = others found fault
@@ -127,10 +140,12 @@ finds (s ∷ among) name rest other some none = go (bytes_eq s.name name) (bytes
 -- a subcommand of the program was entered, and finds no fault in the arguments after it
 abbrev Enters : Option (Text × List Text) → Type 0
 Enters stop =
-    (s : Subcommand) × (rest : List Text) × (subcommand_called s.name ≡ Some s) × (entered whole stop ≡ Some (rows_at (shape_built s) rest))
+    (s : Subcommand) × (rest : List Text) × (subcommand_called s.name ≡ Some s)
+    × (entered whole stop ≡ Some (rows_at (shape_built s) rest))
     × (level_fault (shape_built s) [] nothing_held rest false [] ≡ [])
 
-enters : (stop : Option (Text × List Text)) → IsPastHelp stop → is_some (entered whole stop) ≡ true → entered_fault whole stop ≡ [] → Enters stop
+enters : (stop : Option (Text × List Text)) → IsPastHelp stop → is_some (entered whole stop) ≡ true
+    → entered_fault whole stop ≡ [] → Enters stop
 enters None past some none = cc
 enters (Some p) past some none =
     let found = finds subcommands p.0 p.1 past some none in
@@ -142,7 +157,8 @@ enters (Some p) past some none =
 -- a value
 abbrev pub IsWellRead : List Text → Type 0
 IsWellRead words =
-    (s : Subcommand) × (rows : List Row) × (subcommand_called s.name ≡ Some s) × (subcommand_of lms_app words ≡ Some (s.name, rows)) × HasValues s.options rows
+    (s : Subcommand) × (rows : List Row) × (subcommand_called s.name ≡ Some s)
+    × (subcommand_of lms_app words ≡ Some (s.name, rows)) × HasValues s.options rows
 
 -- so it is where that definition finds no fault in the arguments
 pub well_read : (words : List Text) → fault_of lms_app words ≡ [] → IsWellRead words
@@ -152,6 +168,7 @@ well_read words none =
     let parts = both_none (walk_fault whole.top (names_of whole) (walk_from nothing_held) rest) _ none in
     let past = walk_past_help whole.top (names_of whole) refl (walk_from nothing_held) rest parts.0 tt in
     let below = both_none (entered_fault whole stop) _ parts.1 in
-    let some = wants_subcommand (rows_after whole.top.rules (names_of whole) rest) (is_some (entered whole stop)) (level_checked whole.top (names_of whole) rest (is_some (entered whole stop)) (entered_fault whole stop) none) in
+    let some = wants_subcommand (rows_after whole.top.rules (names_of whole) rest) (is_some (entered whole stop))
+    (level_checked whole.top (names_of whole) rest (is_some (entered whole stop)) (entered_fault whole stop) none) in
     let found = enters stop past some below.0 in
     (found.0, rows_after (shape_built found.0).rules [] found.1, found.2, found.3, values_of found.0 found.1 found.4)

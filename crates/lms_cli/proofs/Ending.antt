@@ -1,28 +1,36 @@
 -- How a run ends, by the command and by the fault.
-use Rattle.std.proofs.Common.{append-nil, sym, [], Option, ◌⊎◌, ◌≡◌, ◌∙◌, ◌<◌, ◌≤◌, ℕ, List, Result, Ok, Err, ap, subst, inl, inr, length, ⊎_elim, arith}
+use Rattle.std.proofs.Common.{append-nil, sym, [], Option, ◌⊎◌, ◌≡◌, ◌∙◌, ◌<◌, ◌≤◌, ℕ, List, Result, Ok, Err, ap, subst}
+use Rattle.std.proofs.Common.{inl, inr, length, ⊎_elim, arith}
 use Rattle.std.specs.Prelude.{OnErr, OnOk}
 use Rattle.std.specs.Io.KnownBytes.{Appends}
-use Rattle.lms_lines.specs.AnswerLines.{AppendsFront}
+use Rattle.lms_blocks.specs.Writing.{AppendsFront}
 use Rattle.lms_hss.specs.declared.key.HssKey.{HssKey as KeyOfCode}
 use Rattle.clap.specs.Words.{Text}
 use Rattle.lms_commands.specs.BatchLogs.{AreUnread, LogsUnanswered}
 use Rattle.lms_commands.specs.Faults.{of_seed, status_number, status_of}
 use Rattle.lms_commands.specs.Keygen.{AreNoLevels, IsNoKey}
 use Rattle.lms_commands.specs.KeygenLogs.{LogsUnmade}
-use Rattle.lms_commands.specs.Logs.{IsLockRefused, IsReadRefused, IsWriteRefused, KeyState, LogsUnopened, LogsUnsigned, WorldCalls}
+use Rattle.lms_commands.specs.Logs.{IsLockRefused, IsReadRefused, IsWriteRefused, KeyState, LogsUnopened, LogsUnsigned}
+use Rattle.lms_commands.specs.Logs.{WorldCalls}
 use Rattle.lms_commands.specs.PublicLogs.{FailsToPublishOf, LogsUnread}
 use Rattle.lms_commands.specs.SignLogs.{LogsSign, LogsSignFailed, LogsUndelivered}
 use Rattle.lms_commands.specs.Verdicts.{verdict_status}
-use Rattle.lms_join_commands.specs.JoinLogs.{AreUnjoined, FailsToReadParts, FailsToReadTwo, JoinNames, JoinParts, LogsJoin, LogsJoinFailed, LogsJoinKeysFailed}
+use Rattle.lms_join_commands.specs.JoinLogs.{AreUnjoined, FailsToReadParts, FailsToReadTwo, JoinNames, JoinParts}
+use Rattle.lms_join_commands.specs.JoinLogs.{LogsJoin, LogsJoinFailed, LogsJoinKeysFailed}
 use Rattle.lms_cli.specs.RunLogs.{LogsFailed, LogsObeyed, LogsRefused, LogsRun}
 use Rattle.lms_cli.specs.Runs.{AsksForBatch, AsksToRead, IsBatch, Runs, Setting}
 use Rattle.lms_world.specs.Held.{Follows}
 use Rattle.lms_cli.specs.declared.command.types.Command.{Command}
-use Rattle.lms_cli.specs.declared.command.types.Command.TheVariants.{Batch, Info, Join, JoinPublic, Keygen, Public, Sign, Verify}
+use Rattle.lms_cli.specs.declared.command.types.Command.TheVariants.{Batch, Info, Join, JoinPublic, Keygen, Public}
+use Rattle.lms_cli.specs.declared.command.types.Command.TheVariants.{Sign, Verify}
 use Rattle.lms_texts.specs.declared.fault.SeedFault.{SeedFault}
 use Rattle.lms_texts.specs.declared.fault.SeedFault.TheVariants as no_seed
 use Rattle.lms_commands.specs.declared.fault.Fault.{Fault}
-use Rattle.lms_commands.specs.declared.fault.Fault.TheVariants.{BadLevels, TooManyLevels, TooTall, BadId, BadRandom, BadWorkers, BadPublicKey, BadEndorsement, BadSignature, BadJob, TooManyJobs, StateExists, StateInUse, ReadState, BadState, WriteState, WriteStateBurnt, Exhausted, OutOfMemory, OutOfMemoryBurnt, ReadInput, WriteOutput}
+use Rattle.lms_commands.specs.declared.fault.Fault.TheVariants.{BadLevels, TooManyLevels, TooTall, BadId, BadRandom}
+use Rattle.lms_commands.specs.declared.fault.Fault.TheVariants.{BadWorkers, BadPublicKey, BadEndorsement, BadSignature}
+use Rattle.lms_commands.specs.declared.fault.Fault.TheVariants.{BadJob, TooManyJobs, StateExists, StateInUse, ReadState}
+use Rattle.lms_commands.specs.declared.fault.Fault.TheVariants.{BadState, WriteState, WriteStateBurnt, Exhausted}
+use Rattle.lms_commands.specs.declared.fault.Fault.TheVariants.{OutOfMemory, OutOfMemoryBurnt, ReadInput, WriteOutput}
 use Rattle.lms_commands.specs.declared.status.Status.{Status}
 use Rattle.lms_commands.specs.declared.status.Status.TheVariants.{Done, Negative}
 use Rattle.lms_commands.specs.declared.verdict.Verdict.{Verdict}
@@ -92,7 +100,7 @@ module _ (fault : Fault) where
   at_unjoined parts (inl (inl (is, _))) = at BadPublicKey (omega arith) is
   at_unjoined parts (inl (inr (is, _, _))) = at BadEndorsement (omega arith) is
   at_unjoined parts (inr (_, inl (is, _))) = at BadSignature (omega arith) is
-  at_unjoined parts (inr (_, inr is)) = at OutOfMemory (omega arith) is
+  at_unjoined parts (inr (_, inr (is, _))) = at OutOfMemory (omega arith) is
 
   at_not_joined : (names : JoinNames) (old new : WorldCalls) → LogsJoinFailed names fault old new → IsHigh fault
   at_not_joined names old new (inl is) = at_parts names old new is
@@ -114,10 +122,12 @@ module _ (fault : Fault) where
     unmade : (key : KeyOfCode) (public : List ℕ) (old new : WorldCalls)
         → LogsUnmade key public before printed fault old new → Fails ⊥ before printed
     unmade key public old new (inl (same, inl (is, _))) = inl (same, at StateExists (omega arith) is)
-    unmade key public old new (inl (same, inr (inl (is, _)))) = inl (same, at OutOfMemory (omega arith) is)
-    unmade key public old new (inl (same, inr (inr (inl (inl (is, _)))))) = inl (same, at OutOfMemory (omega arith) is)
-    unmade key public old new (inl (same, inr (inr (inl (inr (is, _)))))) = inl (same, at WriteState (omega arith) is)
-    unmade key public old new (inl (same, inr (inr (inr (refused, _))))) = inl (same, at_write refused)
+    unmade key public old new (inl (same, inr (inl (inl (is, _))))) = inl (same, at OutOfMemory (omega arith) is)
+    unmade key public old new (inl (same, inr (inl (inr (_, _, inl (is, _), _))))) =
+        inl (same, at OutOfMemory (omega arith) is)
+    unmade key public old new (inl (same, inr (inl (inr (_, _, inr (is, _), _))))) =
+        inl (same, at WriteState (omega arith) is)
+    unmade key public old new (inl (same, inr (inr (refused, _)))) = inl (same, at_write refused)
     unmade key public old new (inr (is, _, _)) = inr (inl is)
 
     unanswered : (input rest : Option (List ℕ)) (old new : WorldCalls)
@@ -246,24 +256,31 @@ runs old new words end logged follows quiet unread = record {
 }
 
 -- what is printed whole or cut short
-pub any_front : {T E : Type 0} (r : Result T E) (before after : Option (List ℕ)) (text : List ℕ) → OnOk r (Appends before after text)
+pub any_front : {T E : Type 0} (r : Result T E) (before after : Option (List ℕ)) (text : List ℕ)
+    → OnOk r (Appends before after text)
     → OnErr r (AppendsFront before after text) → AppendsFront before after text
-any_front (Ok x) before after text all front = record { front = text; rest = []; whole = sym (append-nil text); appended = all }
+any_front (Ok x) before after text all front =
+    record { front = text; rest = []; whole = sym (append-nil text); appended = all }
 any_front (Err e) before after text all front = front
 
 -- the calls of a message's signing, by texts that are equal
-pub signed_as : {random c message m state s out o : List ℕ} {before printed : List ℕ} {old new : WorldCalls} → random ≡ c → message ≡ m → state ≡ s → out ≡ o
+pub signed_as : {random c message m state s out o : List ℕ} {before printed : List ℕ} {old new : WorldCalls}
+    → random ≡ c → message ≡ m → state ≡ s → out ≡ o
     → LogsSign random message state out before printed old new → LogsSign c m s o before printed old new
-signed_as {random} {c} {message} {m} {state} {s} {out} {o} {before} {printed} {old} {new} random_is message_is state_is out_is is =
+signed_as {random} {c} {message} {m} {state} {s} {out} {o} {before} {printed} {old} {new} random_is message_is
+    state_is out_is is =
     subst (λ (t : List ℕ). LogsSign c m s t before printed old new) out_is
     (subst (λ (t : List ℕ). LogsSign c m t out before printed old new) state_is
     (subst (λ (t : List ℕ). LogsSign c t state out before printed old new) message_is
     (subst (λ (t : List ℕ). LogsSign t message state out before printed old new) random_is is)))
 
 -- the same, where it fails
-pub failed_as : {random c message m state s out o : List ℕ} {before printed : List ℕ} {fault : Fault} {old new : WorldCalls} → random ≡ c → message ≡ m → state ≡ s → out ≡ o
-    → LogsSignFailed random message state out before printed fault old new → LogsSignFailed c m s o before printed fault old new
-failed_as {random} {c} {message} {m} {state} {s} {out} {o} {before} {printed} {fault} {old} {new} random_is message_is state_is out_is is =
+pub failed_as : {random c message m state s out o : List ℕ} {before printed : List ℕ} {fault : Fault}
+    {old new : WorldCalls} → random ≡ c → message ≡ m → state ≡ s → out ≡ o
+    → LogsSignFailed random message state out before printed fault old new
+    → LogsSignFailed c m s o before printed fault old new
+failed_as {random} {c} {message} {m} {state} {s} {out} {o} {before} {printed} {fault} {old} {new} random_is message_is
+    state_is out_is is =
     subst (λ (t : List ℕ). LogsSignFailed c m s t before printed fault old new) out_is
     (subst (λ (t : List ℕ). LogsSignFailed c m t out before printed fault old new) state_is
     (subst (λ (t : List ℕ). LogsSignFailed c t state out before printed fault old new) message_is
@@ -279,7 +296,8 @@ names public endorsement signer signature out = record {
 }
 
 -- the same names, text by text
-pub same_names : {public p endorsement e signer k signature s out o : List ℕ} → public ≡ p → endorsement ≡ e → signer ≡ k
+pub same_names : {public p endorsement e signer k signature s out o : List ℕ} → public ≡ p
+    → endorsement ≡ e → signer ≡ k
     → signature ≡ s → out ≡ o → names public endorsement signer signature out ≡ names p e k s o
 same_names public_is endorsement_is signer_is signature_is out_is = λ i.
     names (public_is i) (endorsement_is i) (signer_is i) (signature_is i) (out_is i)
@@ -291,4 +309,5 @@ joined_as {one} {two} {old} {new} same is = subst (λ (n : JoinNames). LogsJoin 
 -- the same, where it fails
 pub not_joined_as : {one two : JoinNames} {fault : Fault} {old new : WorldCalls} → one ≡ two
     → LogsJoinFailed one fault old new → LogsJoinFailed two fault old new
-not_joined_as {one} {two} {fault} {old} {new} same is = subst (λ (n : JoinNames). LogsJoinFailed n fault old new) same is
+not_joined_as {one} {two} {fault} {old} {new} same is =
+    subst (λ (n : JoinNames). LogsJoinFailed n fault old new) same is

@@ -23,7 +23,8 @@ use Rattle.lms_cli.proofs.Ending.{obeyed_low}
 use Rattle.lms_cli.specs.RunLogs.{LogsFailed}
 use Rattle.lms_cli.specs.RunsInMemory.{FilesStay}
 use Rattle.lms_cli.specs.declared.command.types.Command.{Command}
-use Rattle.lms_cli.specs.declared.command.types.Command.TheVariants.{Batch, Info, Join, JoinPublic, Keygen, Public, Sign, Verify}
+use Rattle.lms_cli.specs.declared.command.types.Command.TheVariants.{Batch, Info, Join, JoinPublic, Keygen, Public}
+use Rattle.lms_cli.specs.declared.command.types.Command.TheVariants.{Sign, Verify}
 
 not_output : (fault : Fault) → status_number (status_of fault) < 6 → fault ≢ WriteOutput
 not_output fault low is =
@@ -35,7 +36,7 @@ module _ (fault : Fault) (other : fault ≢ WriteOutput) (old new : Held) where
   keygen_files : (key : KeyOfCode) (public : Bytes) → FailsToMakeKey key public fault old new → new.files ≡ old.files
   keygen_files key public (inl (why, same)) = files_of same
   keygen_files key public (inr (inl (at, free, there, same))) = files_of same
-  keygen_files key public (inr (inr (inl (at, free, none, same)))) = files_of same
+  keygen_files key public (inr (inr (inl (at, free, none, stays)))) = stays.files
   keygen_files key public (inr (inr (inr (inl (at, may))))) = may.files
   keygen_files key public (inr (inr (inr (inr (made, inl (refused, why, same)))))) = same
   keygen_files key public (inr (inr (inr (inr (made, inr (at, published)))))) = absurd (other at)

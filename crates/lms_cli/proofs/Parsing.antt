@@ -1,5 +1,6 @@
 -- What a parse of the program's words gives its caller.
-use Rattle.std.proofs.Common.{◌≡◌, ◌∙◌, refl, sym, ap, subst, Bool, true, false, List, [], ◌∷◌, Option, Some, None, IsSome, is_some, inl, inr}
+use Rattle.std.proofs.Common.{◌≡◌, ◌∙◌, refl, sym, ap, subst, Bool, true, false, List, [], ◌∷◌, Option, Some, None}
+use Rattle.std.proofs.Common.{IsSome, is_some, inl, inr}
 use Rattle.std.specs.List.{AllByRecursion}
 use Rattle.std.specs.Prelude.{Box, cond}
 use Rattle.std.specs.Str.{bytes_eq}
@@ -30,17 +31,23 @@ use Rattle.lms_cli.proofs.CommandLine.{HasValues, IsWellRead, lms_app_is_free, l
 
 -- ---- clap's clauses, over a command that is built as the program
 
-pub no_fault : (a : App) (words : List Text) → a ≡ lms_app → (is_simple_and_free a ≡ true → fault_of a words ≡ []) → fault_of lms_app words ≡ []
-no_fault a words is_app none = ap (λ (b : App). fault_of b words) (sym is_app) ∙ none (ap is_simple_and_free is_app ∙ lms_app_is_free)
+pub no_fault : (a : App) (words : List Text) → a ≡ lms_app → (is_simple_and_free a ≡ true → fault_of a words ≡ [])
+    → fault_of lms_app words ≡ []
+no_fault a words is_app none =
+    ap (λ (b : App). fault_of b words) (sym is_app) ∙ none (ap is_simple_and_free is_app ∙ lms_app_is_free)
 
-pub some_kind : (a : App) (words : List Text) (e : Error) → a ≡ lms_app → (is_simple_and_free a ≡ true → HasKind (fault_of a words) e) → HasKind (fault_of lms_app words) e
-some_kind a words e is_app has = subst (λ (b : App). HasKind (fault_of b words) e) is_app (has (ap is_simple_and_free is_app ∙ lms_app_is_free))
+pub some_kind : (a : App) (words : List Text) (e : Error) → a ≡ lms_app
+    → (is_simple_and_free a ≡ true → HasKind (fault_of a words) e) → HasKind (fault_of lms_app words) e
+some_kind a words e is_app has =
+    subst (λ (b : App). HasKind (fault_of b words) e) is_app (has (ap is_simple_and_free is_app ∙ lms_app_is_free))
 
-pub memory_where_taken : (a : App) (words : List Text) (e : Error) → a ≡ lms_app → (takes a words ≡ true → kind_of e ≡ kind.OutOfMemory)
+pub memory_where_taken : (a : App) (words : List Text) (e : Error) → a ≡ lms_app
+    → (takes a words ≡ true → kind_of e ≡ kind.OutOfMemory)
     → takes lms_app words ≡ true → kind_of e ≡ kind.OutOfMemory
 memory_where_taken a words e is_app passes taken = passes (ap (λ (b : App). takes b words) is_app ∙ taken)
 
-pub matches_of_program : (a : App) (words : List Text) (m : ArgMatches) → a ≡ lms_app → HasMatchesOf a words m → HasMatchesOf lms_app words m
+pub matches_of_program : (a : App) (words : List Text) (m : ArgMatches) → a ≡ lms_app → HasMatchesOf a words m
+    → HasMatchesOf lms_app words m
 matches_of_program a words m is_app matches = subst (λ (b : App). HasMatchesOf b words m) is_app matches
 
 -- ---- a parse that failed
@@ -52,10 +59,12 @@ only_memory k (Usage text) is memory = absurd (is.1 memory)
 only_memory k OutOfMemory is memory = refl
 
 -- the fault is one that clap's definition has at the arguments
-pub fault_is_there : (words : List Text) (e : Error) (fault : CommandFault) → FaultOf (kind_of e) fault → HasKind (fault_of lms_app words) e
+pub fault_is_there : (words : List Text) (e : Error) (fault : CommandFault) → FaultOf (kind_of e) fault
+    → HasKind (fault_of lms_app words) e
     → (takes lms_app words ≡ true → kind_of e ≡ kind.OutOfMemory) → FaultAt words fault
 fault_is_there words e (Help text) is (inl memory) taken = cc
-fault_is_there words e (Help text) is (inr among) taken = (λ takes. absurd (not_both (taken takes)), subst (λ k. IsAmong k (fault_of lms_app words)) is among)
+fault_is_there words e (Help text) is (inr among) taken =
+    (λ takes. absurd (not_both (taken takes)), subst (λ k. IsAmong k (fault_of lms_app words)) is among)
   where
     not_both : kind_of e ≡ kind.OutOfMemory → ⊥
     not_both memory = cc
@@ -65,11 +74,13 @@ fault_is_there words e OutOfMemory is has taken = tt
 
 -- ---- a parse that gave matches
 
-name_in_rows : {Z : Type 0} (sub : Option (Box SubCommand Z)) → option_map (λ b. (out-SubCommand (box_value b)).name.now) sub ≡ option_map (λ p. p.0) (subcommand_rows sub)
+name_in_rows : {Z : Type 0} (sub : Option (Box SubCommand Z))
+    → option_map (λ b. (out-SubCommand (box_value b)).name.now) sub ≡ option_map (λ p. p.0) (subcommand_rows sub)
 name_in_rows None = refl
 name_in_rows (Some b) = refl
 
-module _ (words : List Text) (m : ArgMatches) (none : fault_of lms_app words ≡ []) (matches : HasMatchesOf lms_app words m) where
+module _ (words : List Text) (m : ArgMatches) (none : fault_of lms_app words ≡ [])
+    (matches : HasMatchesOf lms_app words m) where
   read_as : IsWellRead words
   read_as = well_read words none
 
@@ -85,7 +96,8 @@ module _ (words : List Text) (m : ArgMatches) (none : fault_of lms_app words ≡
       let other : None ≡ Some read_as.0.name = missing ∙ entered_name in
       cc
 
-  module _ (name : Text) (found : Found) (named : Some name ≡ subcommand_name_of m) (is : Some (rows_of found) ≡ option_map (λ p. p.1) (subcommand_rows_of m)) where
+  module _ (name : Text) (found : Found) (named : Some name ≡ subcommand_name_of m)
+      (is : Some (rows_of found) ≡ option_map (λ p. p.1) (subcommand_rows_of m)) where
     same_name : read_as.0.name ≡ name
     same_name = ap (λ o. unwrap_or o []) (sym (named ∙ entered_name))
 
@@ -95,16 +107,20 @@ module _ (words : List Text) (m : ArgMatches) (none : fault_of lms_app words ≡
     -- its options are those that clap's definition gives
     options_read : subcommand_of lms_app words ≡ Some (name, rows_of found)
     options_read =
-        read_as.3 ∙ ap (λ (n : Text). Some (n, read_as.1)) same_name ∙ ap (λ (rows : List Row). Some (name, rows)) same_rows
+        read_as.3 ∙ ap (λ (n : Text). Some (n, read_as.1)) same_name
+        ∙ ap (λ (rows : List Row). Some (name, rows)) same_rows
 
-    there : (options : List Text) → HasValues options read_as.1 → AllByRecursion (λ option. IsSome (first_value found option)) options
+    there : (options : List Text) → HasValues options read_as.1
+        → AllByRecursion (λ option. IsSome (first_value found option)) options
     there [] has = tt
-    there (option ∷ options) has = (ap is_some (first_value-rows found option ∙ ap (first_of option) (sym same_rows)) ∙ has.0, there options has.1)
+    there (option ∷ options) has =
+        (ap is_some (first_value-rows found option ∙ ap (first_of option) (sym same_rows)) ∙ has.0, there options has.1)
 
     -- and each has a value
     pub options_are_there : HasOptions (subcommand_called name) found
     options_are_there =
-        subst (λ (o : Option Subcommand). HasOptions o found) (sym read_as.2 ∙ ap subcommand_called same_name) (there read_as.0.options read_as.4)
+        subst (λ (o : Option Subcommand). HasOptions o found) (sym read_as.2 ∙ ap subcommand_called same_name)
+        (there read_as.0.options read_as.4)
 
     -- so a command made of them is the one that the arguments ask for
     pub reads_command : (command : Command) → IsMadeOf name (rows_of found) command → AreWordsOf words command
@@ -112,16 +128,21 @@ module _ (words : List Text) (m : ArgMatches) (none : fault_of lms_app words ≡
         (rows_of found, options_read ∙ ap (λ (n : Text). Some (n, rows_of found)) (sym made.0), made.1)
 
 -- the text of an option is before those of the options after it
-pub has_text : (found : Found) (option text : Text) {others texts : List (Option Text)} → first_value found option ≡ Some text → others ≡ texts
+pub has_text : (found : Found) (option text : Text) {others texts : List (Option Text)}
+    → first_value found option ≡ Some text → others ≡ texts
     → (first_of option (rows_of found) ∷ others) ≡ (Some text ∷ texts)
 has_text found option text {others} is rest =
-    ap (λ (o : Option Text). o ∷ others) (sym (first_value-rows found option) ∙ is) ∙ ap (λ (t : List (Option Text)). Some text ∷ t) rest
+    ap (λ (o : Option Text). o ∷ others) (sym (first_value-rows found option) ∙ is)
+    ∙ ap (λ (t : List (Option Text)). Some text ∷ t) rest
 
 -- no subcommand is called by a name that is none of theirs
-pub none_called : (among : List Subcommand) (name : Text) → AllByRecursion (λ s. name ≡ s.name → ⊥) among → subcommand_called_in among name ≡ None
+pub none_called : (among : List Subcommand) (name : Text) → AllByRecursion (λ s. name ≡ s.name → ⊥) among
+    → subcommand_called_in among name ≡ None
 none_called [] name others = refl
-none_called (s ∷ among) name (other, others) = go (bytes_eq s.name name) (bytes_eq-Decides s.name name).0 (none_called among name others)
+none_called (s ∷ among) name (other, others) =
+    go (bytes_eq s.name name) (bytes_eq-Decides s.name name).0 (none_called among name others)
   where
-    go : (t : Bool) → (t ≡ true → s.name ≡ name) → subcommand_called_in among name ≡ None → cond t (Some s) (subcommand_called_in among name) ≡ None
+    go : (t : Bool) → (t ≡ true → s.name ≡ name) → subcommand_called_in among name ≡ None
+        → cond t (Some s) (subcommand_called_in among name) ≡ None
     go true is none = absurd (other (sym (is refl)))
     go false is none = none

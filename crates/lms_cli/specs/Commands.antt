@@ -5,9 +5,11 @@ use Rattle.clap.specs.Words.{Kinds, IsAmong, Row, Text, first_of, first_value, s
 use Rattle.clap.specs.declared.error.kind.ErrorKind.{ErrorKind}
 use Rattle.clap.specs.declared.error.kind.ErrorKind.TheVariants as kind
 use Rattle.clap.specs.declared.parser.matches.Found.{Found}
-use Rattle.lms_cli.specs.Application.{Subcommand, batch, info, join, join_public, keygen, lms_app, public_key, sign, verify}
+use Rattle.lms_cli.specs.Application.{Subcommand, batch, info, join, join_public, keygen, lms_app, public_key, sign}
+use Rattle.lms_cli.specs.Application.{verify}
 use Rattle.lms_cli.specs.declared.command.types.Command.{Command}
-use Rattle.lms_cli.specs.declared.command.types.Command.TheVariants.{Batch, Info, Join, JoinPublic, Keygen, Public, Sign, Verify}
+use Rattle.lms_cli.specs.declared.command.types.Command.TheVariants.{Batch, Info, Join, JoinPublic, Keygen, Public}
+use Rattle.lms_cli.specs.declared.command.types.Command.TheVariants.{Sign, Verify}
 use Rattle.lms_cli.specs.declared.fault.CommandFault.{CommandFault}
 use Rattle.lms_cli.specs.declared.fault.CommandFault.TheVariants.{Help, Usage, OutOfMemory}
 

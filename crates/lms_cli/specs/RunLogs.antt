@@ -6,7 +6,7 @@ use Rattle.lms_hss.specs.declared.key.HssKey.{HssKey as KeyOfCode}
 use Rattle.lms_cli.specs.Commands.{AreTakenAs, AsksForHelp, IsMistaken}
 use Rattle.lms_commands.specs.BatchLogs.{LogsJobs, LogsJobsFailed}
 use Rattle.lms_commands.specs.Faults.{fault_line, status_of}
-use Rattle.lms_lines.specs.AnswerLines.{AppendsFront}
+use Rattle.lms_blocks.specs.Writing.{AppendsFront}
 use Rattle.lms_commands.specs.Keygen.{IsKeyOf, IsNoKey}
 use Rattle.lms_commands.specs.KeygenLogs.{LogsKeygen, LogsKeygenFailed}
 use Rattle.lms_commands.specs.Logs.{WorldCalls}
@@ -16,7 +16,8 @@ use Rattle.lms_commands.specs.SignLogs.{LogsSign, LogsSignFailed}
 use Rattle.lms_commands.specs.Verdicts.{verdict_status}
 use Rattle.lms_join_commands.specs.JoinLogs.{JoinNames, LogsJoin, LogsJoinFailed, LogsJoinKeys, LogsJoinKeysFailed}
 use Rattle.lms_cli.specs.declared.command.types.Command.{Command}
-use Rattle.lms_cli.specs.declared.command.types.Command.TheVariants.{Batch, Info, Join, JoinPublic, Keygen, Public, Sign, Verify}
+use Rattle.lms_cli.specs.declared.command.types.Command.TheVariants.{Batch, Info, Join, JoinPublic, Keygen, Public}
+use Rattle.lms_cli.specs.declared.command.types.Command.TheVariants.{Sign, Verify}
 use Rattle.lms_commands.specs.declared.fault.Fault.{Fault}
 use Rattle.lms_commands.specs.declared.fault.Fault.TheVariants.{OutOfMemory, WriteOutput}
 use Rattle.lms_commands.specs.declared.status.Status.{Status}

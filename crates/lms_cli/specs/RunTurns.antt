@@ -1,14 +1,17 @@
 -- Runs of the program at one state, one after another, each perhaps cut off by a crash.
 use Rattle.std.specs.Prelude.{◌≡◌, ◌⊎◌, ℕ, List, [], ◌∷◌, AllPairs, Option, string_bytes}
 use Rattle.clap.specs.Words.{Text}
-use Rattle.lms_commands.specs.Histories.{AreDelivered, ArePrinted, HandsKey, HandsNothing, HandsState, HandsVerdict, StateTexts, IsBeginning, IsCarriedAlong, IsEarlier, IsTurn, TakenTurn, Signature, all_left}
+use Rattle.lms_commands.specs.Histories.{AreDelivered, ArePrinted, HandsKey, HandsNothing, HandsState, HandsVerdict}
+use Rattle.lms_commands.specs.Histories.{StateTexts, IsBeginning, IsCarriedAlong, IsEarlier, IsTurn, TakenTurn}
+use Rattle.lms_commands.specs.Histories.{Signature, all_left}
 use Rattle.lms_commands.specs.Logs.{WorldCalls}
 use Rattle.lms_commands.specs.declared.status.Status.{Status}
 use Rattle.lms_join_commands.specs.Joined.{HandsJoined, HandsJoinedKey}
 use Rattle.lms_cli.specs.Commands.{AreTakenAs, AsksForHelp}
 use Rattle.lms_cli.specs.RunLogs.{LogsRun}
 use Rattle.lms_cli.specs.declared.command.types.Command.{Command}
-use Rattle.lms_cli.specs.declared.command.types.Command.TheVariants.{Batch, Info, Join, JoinPublic, Keygen, Public, Sign, Verify}
+use Rattle.lms_cli.specs.declared.command.types.Command.TheVariants.{Batch, Info, Join, JoinPublic, Keygen, Public}
+use Rattle.lms_cli.specs.declared.command.types.Command.TheVariants.{Sign, Verify}
 
 -- what a command hands out: `sign` writes signatures to its file, `batch` prints their lines, and
 -- no other has any of its own; what `join` writes repeats one that was read

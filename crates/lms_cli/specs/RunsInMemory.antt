@@ -9,7 +9,8 @@ use Rattle.lms_world.specs.Held.{Follows, Held, answer_in}
 use Rattle.lms_cli.specs.Commands.{AreTakenAs}
 use Rattle.lms_cli.specs.RunLogs.{LogsRun}
 use Rattle.lms_cli.specs.declared.command.types.Command.{Command}
-use Rattle.lms_cli.specs.declared.command.types.Command.TheVariants.{Info, Join, JoinPublic, Keygen, Public, Sign, Verify}
+use Rattle.lms_cli.specs.declared.command.types.Command.TheVariants.{Info, Join, JoinPublic, Keygen, Public, Sign}
+use Rattle.lms_cli.specs.declared.command.types.Command.TheVariants.{Verify}
 
 -- of a world in memory, at statuses 2 to 5 no file is changed
 abbrev pub FilesStay : Type 0

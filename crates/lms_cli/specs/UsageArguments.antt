@@ -1,7 +1,8 @@
 -- The arguments that the usage lines show.
 use Rattle.std.specs.Prelude.{◌≡◌, ◌++◌, List, ◌∷◌, [], codes, true}
 use Rattle.clap.specs.Words.{Text, takes}
-use Rattle.lms_cli.specs.Application.{Subcommand, batch, info, join, join_public, keygen, lms_app, public_key, sign, verify}
+use Rattle.lms_cli.specs.Application.{Subcommand, batch, info, join, join_public, keygen, lms_app, public_key, sign}
+use Rattle.lms_cli.specs.Application.{verify}
 use Rattle.lms_cli.specs.Commands.{AsksFor}
 
 -- `--NAME=TEXT` for each name and the text in its place

@@ -5,73 +5,20 @@ ghost use Rattle.clap.specs.declared.builder.command.Command.TheViews.{out-Comma
 ghost use Rattle.lms_cli.specs.Application.{app_for, bare_app, batch, subcommand_called, info, join, join_public, keygen, lms_app, public_key, required_option, sign, verify};
 ghost use Rattle.lms_cli.specs.Commands.{AreWordsOf, FaultAt, FaultOf, HasOptions, IsMadeOf};
 
+mod help;
 pub mod laws;
 mod types;
 
 pub use crate::fault::CommandFault;
 use clap::error::ErrorKind;
 use clap::{Arg, ArgMatches, Error};
+use help::{
+    BATCH_NOTE, INFO_NOTE, JOIN_NOTE, JOIN_PUBLIC_NOTE, KEYGEN_NOTE, LEVELS_HELP, PUBLIC_NOTE,
+    SIGN_NOTE, VERIFY_NOTE,
+};
 use std::alloc::{AllocError, Global};
 use std::convert::AsStr;
 pub use types::Command;
-
-const LEVELS_HELP: &str =
-    "Height/width of each level, top first, as 10/8,10/8: 1 to 8 levels; heights 5, 10, 15, 20 or 25, together at most 60; widths 1, 2, 4 or 8";
-
-const KEYGEN_NOTE: &str = "Example:
-  openssl rand -hex 32 | lms_tool keygen --levels 10/8,10/8 --seed - --id \"$(openssl rand -hex 16)\" \\
-      --state key.state --public key.pub
-
-With `-` the seed is read from standard input, 64 digits and perhaps the end of their line. On the command line every user of
-the machine can read it for as long as this runs.
-
-Never use a seed and identifier twice, whatever the levels: the same one-time keys would sign again, from index 0.";
-
-const INFO_NOTE: &str = "Example:
-  lms_tool info --state key.state
-
-Prints the levels, how many indices are used (counter), how many there are (capacity) and how many are left (left), how many
-openings of the state stored something (openings), and how many indices were burnt before its last write (burnt).";
-
-const PUBLIC_NOTE: &str = "Example:
-  lms_tool public --state key.state --public key.pub
-
-Makes the file that `keygen` wrote once more, in the same time, and prints how many indices there are (capacity). The state stays
-as it is, and can be used meanwhile.";
-
-const SIGN_NOTE: &str = "Example:
-  lms_tool sign --state key.state --random \"$(openssl rand -hex 32)\" --message firmware.bin --out firmware.sig
-
-Prints the index, which counts as used before the signature is made. Never sign with an older copy of a state.";
-
-const BATCH_NOTE: &str = "Example, for a file `jobs` with one line for each message:
-  lms_tool batch --state key.state --workers 4 < jobs > answers
-
-A job line is a randomizer of 64 hexadecimal digits, random and fresh for each job, one space, and the message, 0 to 131072
-hexadecimal digits; 1024 lines at most. So for the message `abc`:
-  5f0d1f7ac2be30a4d1c96bb5e86f27930c4ad0b2f4e1907c6e5a3d8f1b7290c4 616263
-
-An answer line is the index, one space, and the signature in hexadecimal. The indices count as used before the first signature
-is made. Never sign with an older copy of a state.";
-
-const VERIFY_NOTE: &str = "Example:
-  lms_tool verify --public key.pub --message firmware.bin --signature firmware.sig
-
-Ends with status 0 for `valid`, 1 for `invalid`, and another where a file can't be read.";
-
-const JOIN_NOTE: &str = "Example:
-  tail -c 56 signer.pub > signer.key
-  lms_tool sign --state top.state --random \"$(openssl rand -hex 32)\" --message signer.key --out signer.endorsement
-  lms_tool join --public top.pub --endorsement signer.endorsement --signer signer.pub --signature firmware.sig --out joined.sig
-
-The endorsement is the top key's signature of the last 56 bytes of the signer's public key. Under the key that `join-public`
-makes, the joined signature is valid for the messages for which the signer's is. The top key must sign such keys and nothing
-else: 56 bytes that are one endorse it, whatever they were meant to be. Both keys have together at most 8 levels.";
-
-const JOIN_PUBLIC_NOTE: &str = "Example:
-  lms_tool join-public --public top.pub --signer signer.pub --out joined.pub
-
-The key is the same for all signers' keys with as many levels.";
 
 /// The command that the command-line arguments ask for; the first of them is the program's name.
 ///

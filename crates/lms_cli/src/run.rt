@@ -1,7 +1,7 @@
 //! The whole program, over its arguments, its files and its streams.
 ghost use Rattle.std.specs.Prelude.{◌≡◌, ◌⊎◌, ◌++◌, ◌<◌, IfErr, IfOk, MatchResult, OnOk, map};
 ghost use Rattle.std.specs.Io.KnownBytes.{Appends};
-ghost use Rattle.lms_lines.specs.AnswerLines.{AppendsFront};
+ghost use Rattle.lms_blocks.specs.Writing.{AppendsFront};
 ghost use Rattle.lms_commands.specs.Faults.{fault_line, status_number, status_of};
 ghost use Rattle.lms_world.specs.Held.{Follows};
 ghost use Rattle.lms_cli.specs.RunLogs.{LogsAnswered, LogsFailed, LogsObeyed, LogsRefused};

@@ -1,15 +1,19 @@
 -- What becomes of a state in memory that is not locked, not opened, or whose indices sign nothing.
-use Rattle.std.proofs.Common.{◌≡◌, ◌∙◌, ◌∷◌, [], ◌++◌, ◌+◌, ℕ, List, Bool, Option, Some, ap, refl, subst, subst₂, sym, inl, inr}
+use Rattle.std.proofs.Common.{◌≡◌, ◌∙◌, ◌∷◌, [], ◌++◌, ◌+◌, ℕ, List, Bool, Option, Some, ap, refl, subst, subst₂, sym}
+use Rattle.std.proofs.Common.{inl, inr}
 use Rattle.std.specs.Prelude.{◌⊎◌, ◌-◌, ◌<◌}
 use Rattle.lms_spec.specs.Hss.{capacity_of}
 use Rattle.lms_hss.specs.Keys.{hss_key_of}
-use Rattle.lms_book.specs.Stops.{StoreView, FailsToWrite, IsAmong, IsLeftBy, Texts, after_failure, after_write, having_given}
+use Rattle.lms_book.specs.Stops.{StoreView, FailsToWrite, IsAmong, IsLeftBy, Texts, after_failure, after_write}
+use Rattle.lms_book.specs.Stops.{having_given}
 use Rattle.lms_world.specs.Names.{Bytes}
 use Rattle.lms_world.specs.Events.{Acquired, Event, Locked, Taken, Taking, Unlocked}
 use Rattle.lms_world.specs.Held.{Answers, Follows, Held}
 use Rattle.lms_world.specs.Outcomes.{files_after, nodes_after, state_after}
-use Rattle.lms_commands.specs.InMemory.{BurnsIndices, FailsToLock, FailsToOpen, FindsState, LacksIndices, SignsNone, Stays, UsesIndices, WasBad}
-use Rattle.lms_commands.specs.Logs.{IsLockRefused, KeyState, LeavesState, LogsUnopened, LogsUnsigned, PutsBack, TriesUse, WorldCalls, image_using, lock_answer}
+use Rattle.lms_commands.specs.InMemory.{BurnsIndices, FailsToLock, FailsToOpen, FindsState, LacksIndices, SignsNone}
+use Rattle.lms_commands.specs.InMemory.{Stays, UsesIndices, WasBad}
+use Rattle.lms_commands.specs.Logs.{IsLockRefused, KeyState, LeavesState, LogsUnopened, LogsUnsigned, PutsBack}
+use Rattle.lms_commands.specs.Logs.{TriesUse, WorldCalls, image_using, lock_answer}
 use Rattle.lms_commands.specs.declared.fault.Fault.{Fault}
 use Rattle.lms_commands.proofs.Telling.{Adds, AllTell, MayFailAfter, Tells, and_then, same_held, told, was_state}
 
@@ -61,6 +65,7 @@ module _ (base : List Event) (still : AreStill base) {before mid last now : Worl
     state : new.state ≡ left.now
     nodes : new.nodes ≡ old.nodes
     in_use : new.in_use ≡ old.in_use
+    nodes_fault : new.nodes_fault ≡ old.nodes_fault
 
   put_back : (taken : Taking) (left : StoreView) → PutsBack taken left mid last → Back taken left
   put_back taken left calls =
@@ -74,11 +79,18 @@ module _ (base : List Event) (still : AreStill base) {before mid last now : Worl
         state = is.state;
         nodes = is.nodes ∙ still.nodes old.nodes;
         in_use = is.in_use;
+        nodes_fault = is.nodes_fault;
       }
 
   stays_so : {taken : Taking} {left : StoreView} → Back taken left → left.now ≡ taken.view.now → Stays old new
   stays_so back same =
-      record { files = back.files; state = back.state ∙ (same ∙ back.found); nodes = back.nodes; in_use = back.in_use }
+      record {
+        files = back.files;
+        state = back.state ∙ (same ∙ back.found);
+        nodes = back.nodes;
+        in_use = back.in_use;
+        nodes_fault = back.nodes_fault;
+      }
 
   pub unopened : (fault : Fault) → LogsUnopened fault mid last → AllTell base old × FailsToOpen fault old new
   unopened fault (inl (at, calls)) =
@@ -88,6 +100,7 @@ module _ (base : List Event) (still : AreStill base) {before mid last now : Worl
         state = is.state ∙ still.state old.state;
         nodes = is.nodes ∙ still.nodes old.nodes;
         in_use = is.in_use;
+        nodes_fault = is.nodes_fault;
       } in
       (is.tell.0.0, (inl at, stays))
   unopened fault (inr (taken, inl (at, calls))) =

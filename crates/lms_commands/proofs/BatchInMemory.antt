@@ -1,5 +1,6 @@
 -- What `batch` leaves in a world in memory, by its calls.
-use Rattle.std.proofs.Common.{◌≡◌, ◌∙◌, ◌≤◌, ◌+◌, ◌∷◌, [], ℕ, zero, suc, List, Option, Some, ap, ap₂, arith, refl, subst₂, sym, inl, inr}
+use Rattle.std.proofs.Common.{◌≡◌, ◌∙◌, ◌≤◌, ◌+◌, ◌∷◌, [], ℕ, zero, suc, List, Option, Some, ap, ap₂, arith, refl}
+use Rattle.std.proofs.Common.{subst₂, sym, inl, inr}
 use Rattle.std.specs.Prelude.{◌≢◌, ◌⊎◌, false, length}
 use Rattle.lms_spec.specs.Hss.{capacity_of}
 use Rattle.lms_hss.specs.Keys.{hss_key_of}
@@ -11,7 +12,8 @@ use Rattle.lms_world.specs.Names.{Bytes}
 use Rattle.lms_world.specs.Events.{Acquired, Locked, PutBack, Taken, Taking, Unlocked}
 use Rattle.lms_world.specs.Held.{Follows, Held}
 use Rattle.lms_commands.specs.BatchLogs.{AnswersJobs, AreUnread, LogsNoBatch, LogsUnprinted, UsesAll}
-use Rattle.lms_commands.specs.BatchInMemory.{CountsIndices, FailsToSignJobsInMemory, SignsJobs, SignsJobsInMemory, SignsInPart}
+use Rattle.lms_commands.specs.BatchInMemory.{CountsIndices, FailsToSignJobsInMemory, SignsJobs, SignsJobsInMemory}
+use Rattle.lms_commands.specs.BatchInMemory.{SignsInPart}
 use Rattle.lms_commands.specs.InMemory.{FailsToOpen, FindsState, SignsNone}
 use Rattle.lms_commands.specs.Logs.{KeyState, ReadsState, WorldCalls}
 use Rattle.lms_commands.specs.declared.fault.Fault.{Fault}

@@ -1,5 +1,6 @@
 -- What a list of jobs did to a book.
-use Rattle.std.proofs.Common.{◌≡◌, ◌∙◌, inl, inr, ℕ, zero, suc, ◌-◌, ◌≤◌, List, [], ◌∷◌, ◌++◌, drop, take, length, Option, None, Some, Result, Ok, Err, refl, sym, ap, ap₂, subst, arith}
+use Rattle.std.proofs.Common.{◌≡◌, ◌∙◌, inl, inr, ℕ, zero, suc, ◌-◌, ◌≤◌, List, [], ◌∷◌, ◌++◌, drop, take, length}
+use Rattle.std.proofs.Common.{Option, None, Some, Result, Ok, Err, refl, sym, ap, ap₂, subst, arith}
 use Rattle.std.specs.Prelude.{IfSome, min}
 use Rattle.std.specs.Io.KnownBytes.{Appends, Keeps}
 use Rattle.std.proofs.lemmas.List.{append-nil}
@@ -18,7 +19,7 @@ use Rattle.lms_batch.specs.Answers.{CouldBeReserved, IsAnswerAfter, start_of}
 use Rattle.lms_batch.specs.declared.collector.Batch.{Batch}
 use Rattle.lms_batch.specs.declared.fault.BatchFault.{BatchFault}
 use Rattle.lms_batch.specs.declared.fault.BatchFault.TheVariants as unsigned
-use Rattle.lms_lines.specs.AnswerLines.{AppendsFront}
+use Rattle.lms_blocks.specs.Writing.{AppendsFront}
 use Rattle.lms_lines.specs.SignedLines.{IsUnsigned, signatures_in}
 use Rattle.lms_lines.specs.declared.fault.JobsFault.TheVariants as jobs
 use Rattle.lms_lines.specs.declared.signing.SignedJobs.{SignedJobs}
@@ -48,40 +49,55 @@ from_none d = same_sums _ _ (omega arith) (omega arith) (omega arith)
 
 -- what some jobs count
 from_some : (n : ℕ) → plus (sums 0 0 0) (sums (min 1 (suc n)) (suc n) 0) ≡ sums 1 (suc n) 0
-from_some n = let one : min 1 (suc n) ≡ 1 = omega arith in same_sums _ _ (omega (arith, one)) (omega arith) (omega arith)
+from_some n =
+    let one : min 1 (suc n) ≡ 1 = omega arith in
+    same_sums _ _ (omega (arith, one)) (omega arith) (omega arith)
 
 -- no entry was made
-no_entry : (start : BookState) (es : List Entry) (left : BookState) → IsAfter start es left → sums_of es ≡ sums 0 0 0 → left ≡ start
+no_entry : (start : BookState) (es : List Entry) (left : BookState) → IsAfter start es left
+    → sums_of es ≡ sums 0 0 0 → left ≡ start
 no_entry start [] left is none = is
 no_entry start (e ∷ es) left is none = let count = ap (λ (s : Sums). s.entries) none in absurd (omega (arith, count))
 
 -- one was made, which gave n indices
-one_given : (start : BookState) (n : ℕ) (es : List Entry) (left : BookState) → 1 ≤ n → IsAfter start es left → sums_of es ≡ sums 1 n 0
+one_given : (start : BookState) (n : ℕ) (es : List Entry) (left : BookState) → 1 ≤ n → IsAfter start es left
+    → sums_of es ≡ sums 1 n 0
     → IsAfterEntry start (Given n) left
 one_given start n [] left some is one = let count = ap (λ (s : Sums). s.entries) one in absurd (omega (arith, count))
-one_given start n (e ∷ x ∷ es) left some is one = let count = ap (λ (s : Sums). s.entries) one in absurd (omega (arith, count))
+one_given start n (e ∷ x ∷ es) left some is one =
+    let count = ap (λ (s : Sums). s.entries) one in
+    absurd (omega (arith, count))
 one_given start n (Burnt m ∷ []) left some is one =
-    let gave = ap (λ (s : Sums). s.received) one in absurd (omega (arith, gave, some, sum_by-cons given_len (Burnt m) []))
+    let gave = ap (λ (s : Sums). s.received) one in
+    absurd (omega (arith, gave, some, sum_by-cons given_len (Burnt m) []))
 one_given start n (Given m ∷ []) left some (next, first, same) one =
     let gave = ap (λ (s : Sums). s.received) one in
     let is : m ≡ n = omega (arith, gave, sum_by-cons given_len (Given m) []) in
-    subst (λ (k : ℕ). IsAfterEntry start (Given k) left) is (subst (λ (b : BookState). IsAfterEntry start (Given m) b) (sym same) first)
+    subst (λ (k : ℕ). IsAfterEntry start (Given k) left) is
+    (subst (λ (b : BookState). IsAfterEntry start (Given m) b) (sym same) first)
 
 -- or burnt them
-one_burnt : (start : BookState) (n : ℕ) (es : List Entry) (left : BookState) → 1 ≤ n → IsAfter start es left → sums_of es ≡ sums 1 0 n
+one_burnt : (start : BookState) (n : ℕ) (es : List Entry) (left : BookState) → 1 ≤ n → IsAfter start es left
+    → sums_of es ≡ sums 1 0 n
     → IsAfterEntry start (Burnt n) left
 one_burnt start n [] left some is one = let count = ap (λ (s : Sums). s.entries) one in absurd (omega (arith, count))
-one_burnt start n (e ∷ x ∷ es) left some is one = let count = ap (λ (s : Sums). s.entries) one in absurd (omega (arith, count))
+one_burnt start n (e ∷ x ∷ es) left some is one =
+    let count = ap (λ (s : Sums). s.entries) one in
+    absurd (omega (arith, count))
 one_burnt start n (Given m ∷ []) left some is one =
-    let burnt = ap (λ (s : Sums). s.burnt) one in absurd (omega (arith, burnt, some, sum_by-cons burnt_len (Given m) []))
+    let burnt = ap (λ (s : Sums). s.burnt) one in
+    absurd (omega (arith, burnt, some, sum_by-cons burnt_len (Given m) []))
 one_burnt start n (Burnt m ∷ []) left some (next, first, same) one =
     let burnt = ap (λ (s : Sums). s.burnt) one in
     let is : m ≡ n = omega (arith, burnt, sum_by-cons burnt_len (Burnt m) []) in
-    subst (λ (k : ℕ). IsAfterEntry start (Burnt k) left) is (subst (λ (b : BookState). IsAfterEntry start (Burnt m) b) (sym same) first)
+    subst (λ (k : ℕ). IsAfterEntry start (Burnt k) left) is
+    (subst (λ (b : BookState). IsAfterEntry start (Burnt m) b) (sym same) first)
 
 -- a reservation at the only desk, the first, finds the book as it was
-finds_start : (start : BookState) (n : ℕ) (answer : Result Batch BatchFault) → CouldBeReserved (at_one_desk start) (sums 0 0 0) n answer
-    → (new : BookState) × (reserved : Result LeaseState BookFault) × Reserves n start reserved new × IsAnswerAfter reserved answer
+finds_start : (start : BookState) (n : ℕ) (answer : Result Batch BatchFault)
+    → CouldBeReserved (at_one_desk start) (sums 0 0 0) n answer
+    → (new : BookState) × (reserved : Result LeaseState BookFault) × Reserves n start reserved new
+    × IsAnswerAfter reserved answer
 finds_start start n answer (old, new, reserved, found, reserves, follows) =
     let same : old ≡ start = no_entry start found.entries old found.after (found.alone refl) in
     (new, reserved, subst (λ (b : BookState). Reserves n b reserved new) same reserves.reserves, follows)
@@ -91,23 +107,29 @@ starts_at : (start : BookState) (n : ℕ) (batch : Batch) → CouldBeReserved (a
     → start_of batch ≡ counter start
 starts_at start n batch could = let found = finds_start start n (Ok batch) could in go found.0 found.1 found.2 found.3
   where
-    go : (new : BookState) (reserved : Result LeaseState BookFault) → Reserves n start reserved new → IsAnswerAfter reserved (Ok batch)
+    go : (new : BookState) (reserved : Result LeaseState BookFault) → Reserves n start reserved new
+        → IsAnswerAfter reserved (Ok batch)
         → start_of batch ≡ counter start
     go new (Ok lease) (enough, is, history, wrote) follows = follows ∙ ap (λ (l : LeaseState). l.start) is
     go new (Err refused) is follows = absurd follows
 
 -- a refusal is the book's
-refused_so : (start : BookState) (n : ℕ) (fault : BookFault) → CouldBeReserved (at_one_desk start) (sums 0 0 0) n (Err (unsigned.Book fault))
+refused_so : (start : BookState) (n : ℕ) (fault : BookFault)
+    → CouldBeReserved (at_one_desk start) (sums 0 0 0) n (Err (unsigned.Book fault))
     → (new : BookState) × Reserves n start (Err fault) new
-refused_so start n fault could = let found = finds_start start n (Err (unsigned.Book fault)) could in go found.0 found.1 found.2 found.3
+refused_so start n fault could =
+    let found = finds_start start n (Err (unsigned.Book fault)) could in
+    go found.0 found.1 found.2 found.3
   where
-    go : (new : BookState) (reserved : Result LeaseState BookFault) → Reserves n start reserved new → IsAnswerAfter reserved (Err (unsigned.Book fault))
+    go : (new : BookState) (reserved : Result LeaseState BookFault) → Reserves n start reserved new
+        → IsAnswerAfter reserved (Err (unsigned.Book fault))
         → (new : BookState) × Reserves n start (Err fault) new
     go new (Ok lease) is follows = absurd follows
     go new (Err refused) is follows = (new, subst (λ (f : BookFault). Reserves n start (Err f) new) (sym follows) is)
 
 -- what a list of jobs did to a book, in terms of the calls that were made
-module _ (start left : BookState) (view : StoreView) (before opened back : WorldCalls) (opens : OpensState start before opened) (is_fresh : IsJustOpened start)
+module _ (start left : BookState) (view : StoreView) (before opened back : WorldCalls)
+    (opens : OpensState start before opened) (is_fresh : IsJustOpened start)
     (view_is : view ≡ left.store) (back_is : back ≡ PutBack view ∷ opened) where
   leaves_none : (sum : Sums) → sum ≡ sums 0 0 0 → IsSettled start sum left → LeavesState (state_of start) before back
   leaves_none sum none settled =
@@ -124,9 +146,11 @@ module _ (start left : BookState) (view : StoreView) (before opened back : World
       let made = (one_burnt start n settled.entries left some settled.after settled.all).reservation in
       tried start left view before opened back opens is_fresh view_is back_is n made.0 made.4
 
-  uses_all : (n : ℕ) (sum : Sums) → sum ≡ plus (sums 0 0 0) (sums (min 1 n) n 0) → IsSettled start sum left → UsesAll n (state_of start) before back
+  uses_all : (n : ℕ) (sum : Sums) → sum ≡ plus (sums 0 0 0) (sums (min 1 n) n 0) → IsSettled start sum left
+      → UsesAll n (state_of start) before back
   uses_all zero sum is settled = leaves_none sum is settled
-  uses_all (suc n) sum is settled = stores_some (suc n) (omega arith) (subst (λ (s : Sums). IsSettled start s left) (is ∙ from_some n) settled)
+  uses_all (suc n) sum is settled =
+      stores_some (suc n) (omega arith) (subst (λ (s : Sums). IsSettled start s left) (is ∙ from_some n) settled)
 
   pub log_batch : (input rest : Option (List ℕ)) (signed : SignedJobs) → IsSignedByBook start input rest signed left
       → (signs : LogsBatch input rest signed.batch before back) × (signed.asked ≡ length signs.jobs)
@@ -142,7 +166,8 @@ module _ (start left : BookState) (view : StoreView) (before opened back : World
     asked,
   )
 
-  log_lines : (input rest : Option (List ℕ)) (fault : LinesFault) (sum : Sums) → IsUnsigned (at_one_desk start) input rest (sums 0 0 0) sum fault
+  log_lines : (input rest : Option (List ℕ)) (fault : LinesFault) (sum : Sums)
+      → IsUnsigned (at_one_desk start) input rest (sums 0 0 0) sum fault
       → IsSettled start sum left → LogsJobsUnsigned input rest (of_lines fault) (state_of start) before back
   log_lines input rest (lines.Jobs jobs.Read) sum is settled = inl (inl (inl refl), leaves_none sum is.1 settled)
   log_lines input rest (lines.Jobs (jobs.BadJob line)) sum is settled =
@@ -169,43 +194,57 @@ module _ (start left : BookState) (view : StoreView) (before opened back : World
   log_lines input rest (lines.Batch (unsigned.Book (book.Store first len))) sum is settled =
       let n = length is.jobs in
       let refused = (refused_so start n (book.Store first len) is.reserved).1 in
-      let tries = tries_some n is.some (subst (λ (s : Sums). IsSettled start s left) (is.counted.1 ∙ from_none _) settled) in
+      let tries = tries_some n is.some
+      (subst (λ (s : Sums). IsSettled start s left) (is.counted.1 ∙ from_none _) settled) in
       let at = ap₂ (λ (a b : ℕ). WriteStateBurnt a b) (refused.1 ∙ is_fresh.used) is.counted.0 in
       inr (is.jobs, is.read, is.some, inr (inr (inl (at, tries))))
   log_lines input rest (lines.Batch (unsigned.OutOfMemory burnt)) sum is settled =
       let n = length is.jobs in
-      let stores = stores_some n is.some (subst (λ (s : Sums). IsSettled start s left) (is.counted.1 ∙ from_none _) settled) in
+      let stores = stores_some n is.some
+      (subst (λ (s : Sums). IsSettled start s left) (is.counted.1 ∙ from_none _) settled) in
       inr (is.jobs, is.read, is.some, inr (inr (inr (ap (λ (m : ℕ). OutOfMemoryBurnt m) is.counted.0, stores))))
   log_lines input rest lines.Write sum is settled = absurd is
 
   pub log_refused : (input rest : Option (List ℕ)) (fault : Fault) → IsRefusedBy start input rest fault left
       → LogsJobsUnsigned input rest fault (state_of start) before back
   log_refused input rest fault (sum, (lines, same, is), settled) =
-      subst (λ (f : Fault). LogsJobsUnsigned input rest f (state_of start) before back) (sym same) (log_lines input rest lines sum is settled)
+      subst (λ (f : Fault). LogsJobsUnsigned input rest f (state_of start) before back) (sym same)
+      (log_lines input rest lines sum is settled)
 
 -- the only desk of a shared book counts all that was reserved
-pub settled_one : (start book left : BookState) (desks : List Sums) (counted : Sums) → book ≡ start → desks ≡ counted ∷ [] → IsSettled book (total desks) left
+pub settled_one : (start book left : BookState) (desks : List Sums) (counted : Sums) → book ≡ start
+    → desks ≡ counted ∷ [] → IsSettled book (total desks) left
     → IsSettled start counted left
 settled_one start book left desks counted same is settled =
-    subst (λ (s : Sums). IsSettled start s left) (ap total is ∙ total_one counted) (subst (λ (b : BookState). IsSettled b (total desks) left) same settled)
+    subst (λ (s : Sums). IsSettled start s left) (ap total is ∙ total_one counted)
+    (subst (λ (b : BookState). IsSettled b (total desks) left) same settled)
 
 -- what a list of one desk is once its slice was lent
-pub lent_one : (len : ℕ) (items lent : List Sums) (first counted : Sums) → len ≡ 1 → items ≡ first ∷ [] → lent ≡ counted ∷ []
+pub lent_one : (len : ℕ) (items lent : List Sums) (first counted : Sums) → len ≡ 1 → items ≡ first ∷ []
+    → lent ≡ counted ∷ []
     → take len (lent ++ drop (length lent) items) ≡ counted ∷ []
 lent_one len items lent first counted one was is =
-    ap (λ (n : ℕ). take n (lent ++ drop (length lent) items)) one ∙ ap (λ (ds : List Sums). take 1 (ds ++ drop (length ds) items)) is
+    ap (λ (n : ℕ). take n (lent ++ drop (length lent) items)) one
+    ∙ ap (λ (ds : List Sums). take 1 (ds ++ drop (length ds) items)) is
     ∙ ap (λ (ds : List Sums). take 1 (counted ∷ drop 1 ds)) was
 
-flushed : (before mid after : Option (List ℕ)) (text : List ℕ) → Appends before mid text → Keeps mid after → Appends before after text
+flushed : (before mid after : Option (List ℕ)) (text : List ℕ) → Appends before mid text → Keeps mid after
+    → Appends before after text
 flushed None mid after text appends keeps = tt
 flushed (Some x) None after text appends keeps = absurd appends
 flushed (Some x) (Some y) None text appends keeps = absurd keeps
 flushed (Some x) (Some y) (Some z) text appends keeps = keeps ∙ appends
 
 -- what was printed stays when it is passed on
-pub flushed_front : (before mid after : Option (List ℕ)) (text : List ℕ) → Appends before mid text → Keeps mid after → AppendsFront before after text
+pub flushed_front : (before mid after : Option (List ℕ)) (text : List ℕ) → Appends before mid text → Keeps mid after
+    → AppendsFront before after text
 flushed_front before mid after text appends keeps =
-    record { front = text; rest = []; whole = sym (append-nil _); appended = flushed before mid after text appends keeps }
+    record {
+      front = text;
+      rest = [];
+      whole = sym (append-nil _);
+      appended = flushed before mid after text appends keeps;
+    }
 
 -- of an input of which nothing is said
 pub says_nothing : (input : Option (List ℕ)) → IfSome input (λ text. Unit {0})
@@ -213,8 +252,10 @@ says_nothing None = tt
 says_nothing (Some text) = tt
 
 -- the calls of a batch whose lines are not all printed
-pub log_unprinted : (input rest : Option (List ℕ)) (before printed : List ℕ) (signed : SignedJobs) (old new : WorldCalls)
-    (answers : AnswersJobs input rest before signed.batch old new) → signed.asked ≡ length answers.signs.jobs → (fault : Fault)
+pub log_unprinted : (input rest : Option (List ℕ)) (before printed : List ℕ) (signed : SignedJobs)
+    (old new : WorldCalls)
+    (answers : AnswersJobs input rest before signed.batch old new) → signed.asked ≡ length answers.signs.jobs
+    → (fault : Fault)
     → IsUnprinted signed (Some before) (Some printed) fault → LogsUnprinted input rest before printed fault old new
 log_unprinted input rest before printed signed old new answers asked fault (inl (at, differ, lines)) =
     inl (signatures_in signed.batch, signed.asked, at, differ, (signed.batch, answers, refl, asked, lines))

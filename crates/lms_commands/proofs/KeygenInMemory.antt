@@ -1,5 +1,6 @@
 -- What `keygen` leaves in a world in memory, by its calls.
-use Rattle.std.proofs.Common.{◌≡◌, ◌∙◌, ◌∷◌, [], ◌++◌, ℕ, List, Option, Some, None, Ok, true, false, ap, subst, sym, inl, inr}
+use Rattle.std.proofs.Common.{◌≡◌, ◌∙◌, ◌∷◌, [], ◌++◌, ℕ, List, Option, Some, Ok, true, false, ap, subst, sym}
+use Rattle.std.proofs.Common.{refl, inl, inr}
 use Rattle.lms_spec.specs.Profile.{hss_public_key}
 use Rattle.lms_hss.specs.Keys.{hss_key_of}
 use Rattle.lms_hss.specs.declared.key.HssKey.{HssKey as KeyOfCode}
@@ -10,12 +11,15 @@ use Rattle.lms_world.specs.Events.{Acquired, Asked, Event, Locked, PutBack, Take
 use Rattle.lms_world.specs.Held.{Answers, Follows, Held}
 use Rattle.lms_world.specs.Outcomes.{files_after}
 use Rattle.lms_commands.specs.InMemory.{KeepsNodes}
-use Rattle.lms_commands.specs.KeygenInMemory.{FailsToMakeKey, FailsToMakeKeyInMemory, MakesKey, MakesKeyInMemory, MayMakeKey, PublishesIn}
+use Rattle.lms_commands.specs.KeygenInMemory.{FailsToMakeKey, FailsToMakeKeyInMemory, MakesKey, MakesKeyInMemory}
+use Rattle.lms_commands.specs.KeygenInMemory.{MayMakeKey, PublishesIn}
 use Rattle.lms_commands.specs.KeygenLogs.{LogsUnmade, PublishesKey, WritesKey}
-use Rattle.lms_commands.specs.Logs.{PutsBack, WorldCalls, write_cause}
+use Rattle.lms_commands.specs.Logs.{LogsUnopened, PutsBack, WorldCalls, write_cause}
 use Rattle.lms_commands.specs.declared.fault.Fault.{Fault}
-use Rattle.lms_commands.proofs.AtState.{left_by, not_locked}
-use Rattle.lms_commands.proofs.Telling.{Adds, IsRefused, KeepsOnly, Told, and_kept, and_then, keeps_only, same_held, told, unlocked, until_printing, written_file}
+use Rattle.lms_commands.specs.declared.fault.Fault.TheVariants.{OutOfMemory}
+use Rattle.lms_commands.proofs.AtState.{AreStill, left_by, not_locked, unopened}
+use Rattle.lms_commands.proofs.Telling.{Adds, IsRefused, KeepsOnly, Told, and_kept, and_then, keeps_only, same_held}
+use Rattle.lms_commands.proofs.Telling.{told, unlocked, until_printing, written_file}
 
 -- a key's state is stored, and its public key written to a file, or its write fails
 module _ {key : KeyOfCode} {state public : Bytes} {answer : Writing} {earlier last : WorldCalls}
@@ -46,6 +50,10 @@ module _ {key : KeyOfCode} {state public : Bytes} {answer : Writing} {earlier la
 
   no_other : (old : Held) → files_after (keeps.calls ++ first) old.files ≡ old.files
   no_other old = keeps.files first old.files
+
+-- the state was locked, and not there
+asked_still : {state : Bytes} → AreStill (Asked false ∷ Locked state Acquired ∷ [])
+asked_still = record { files = λ f. refl; state = λ s. refl; nodes = λ n. refl; may_fail = λ a b is. is }
 
 -- from the lock on until it is handed back
 module _ (key : KeyOfCode) (state public : Bytes) {earlier last now : WorldCalls} (calls : now ≡ Unlocked ∷ last)
@@ -79,6 +87,13 @@ module _ (key : KeyOfCode) (state public : Bytes) {earlier last now : WorldCalls
         left = left_by (image_of key 0 0 0) taken.view left old.state new.state fails found is.state;
       }
 
+  -- memory was refused, for the state's store or with that as it was
+  not_made : (fault : Fault) → fault ≡ OutOfMemory → LogsUnopened fault (Asked false ∷ locked) last
+      → FailsToMakeKey key public fault old new
+  not_made fault at never =
+      let is = unopened _ asked_still refl calls old new follows fault never in
+      inr (inr (inl (at, is.0.0.1, sym is.0.1, is.1.1)))
+
   unmade : (before printed : List ℕ) (fault : Fault) → LogsUnmade key public before printed fault locked last
       → FailsToMakeKey key public fault old new
   unmade before printed fault (inl (same, inl (at, asked))) =
@@ -86,22 +101,16 @@ module _ (key : KeyOfCode) (state public : Bytes) {earlier last now : WorldCalls
       let is = told old new (and_then found calls) follows in
       let stays = same_held old new is.files is.state is.may_fail is.in_use is.nodes is.nodes_fault in
       inr (inl (at, is.tell.0.0.1, sym is.tell.0.1, stays))
-  unmade before printed fault (inl (same, inr (inl (at, asked)))) =
-      let found : Adds earlier last = record { calls = Asked false ∷ Locked state Acquired ∷ []; are = asked } in
-      let is = told old new (and_then found calls) follows in
-      let stays = same_held old new is.files is.state is.may_fail is.in_use is.nodes is.nodes_fault in
-      inr (inr (inl (at, is.tell.0.0.1, sym is.tell.0.1, stays)))
-  unmade before printed fault (inl (same, inr (inr (inl (inl (at, untaken)))))) =
-      let first = Taken None ∷ Asked false ∷ Locked state Acquired ∷ [] in
-      let found : Adds earlier last = record { calls = first; are = untaken } in
-      let is = told old new (and_then found calls) follows in
-      let stays = same_held old new is.files is.state is.may_fail is.in_use is.nodes is.nodes_fault in
-      inr (inr (inl (at, is.tell.0.0.0.1, sym is.tell.0.0.1, stays)))
-  unmade before printed fault (inl (same, inr (inr (inl (inr (at, (taken, left, fails, back))))))) =
+  unmade before printed fault (inl (same, inr (inl (inl (at, untaken))))) = not_made fault at (inl (at, untaken))
+  unmade before printed fault (inl (same, inr (inl (inr (taken, left, inl (at, kept), back))))) =
+      let stays = subst (λ (v : StoreView). PutsBack taken v (Asked false ∷ locked) last) kept back in
+      not_made fault at (inr (taken, inl (at, stays)))
+  unmade before printed fault (inl (same, inr (inl (inr (taken, left, inr (at, fails), back))))) =
       inr (inr (inr (inl (at, missed taken left fails back))))
-  unmade before printed fault (inl (same, inr (inr (inr (refused, writes))))) =
+  unmade before printed fault (inl (same, inr (inr (refused, writes)))) =
       let is = unlocked (told old new (and_then (all_calls writes) calls) follows) in
-      let why = subst (λ (files : Answers). IsRefused public (write_cause fault) files) (no_other writes old) is.tell.1 in
+      let why = subst (λ (files : Answers). IsRefused public (write_cause fault) files)
+      (no_other writes old) is.tell.1 in
       inr (inr (inr (inr (makes writes old new is, inl (refused, why, is.files ∙ no_other writes old)))))
   unmade before printed fault (inr (at, publishes, line)) =
       let made = published before publishes in inr (inr (inr (inr (made.0, inr (at, made.1)))))

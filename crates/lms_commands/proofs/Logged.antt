@@ -1,5 +1,6 @@
 -- What a command logged, by what its steps did.
-use Rattle.std.proofs.Common.{◌≡◌, ◌∙◌, inl, inr, Ok, Err, sym, ℕ, ◌+◌, ◌-◌, ◌≤◌, List, ◌∷◌, Option, Some, refl, ap, ap₂, subst, arith}
+use Rattle.std.proofs.Common.{◌≡◌, ◌∙◌, inl, inr, Ok, Err, sym, ℕ, ◌+◌, ◌-◌, ◌≤◌, List, ◌∷◌, Option, Some, refl, ap}
+use Rattle.std.proofs.Common.{ap₂, subst, arith}
 use Rattle.lms_image.specs.Image.{HasImage}
 use Rattle.lms_book.specs.declared.fault.OpenFault.{OpenFault}
 use Rattle.lms_book.specs.declared.fault.OpenFault.TheVariants as opening
@@ -18,7 +19,8 @@ use Rattle.lms_commands.specs.KeygenLogs.{LogsUnmade, WritesKey, capacity_line}
 use Rattle.lms_commands.specs.declared.fault.Fault.{Fault}
 use Rattle.lms_commands.specs.declared.fault.Fault.TheVariants.{Exhausted, WriteStateBurnt}
 use Rattle.lms_commands.specs.Faults.{of_opening, of_signing}
-use Rattle.lms_commands.specs.Logs.{FailsToPublish, LeavesState, WorldCalls, LogsKeeping, LogsUnopened, LogsUnsigned, OpensState, ReadsState, StoresUse, TriesUse, state_of, write_cause}
+use Rattle.lms_commands.specs.Logs.{FailsToPublish, LeavesState, WorldCalls, LogsKeeping, LogsUnopened, LogsUnsigned}
+use Rattle.lms_commands.specs.Logs.{OpensState, ReadsState, StoresUse, TriesUse, state_of, write_cause}
 use Rattle.lms_commands.specs.SignLogs.{LogsSigned}
 use Rattle.lms_commands.specs.Signing.{GivesOne, SignsNothing}
 use Rattle.lms_commands.specs.declared.sign.NextFault.{NextFault}
@@ -47,12 +49,15 @@ unopened opening.OutOfMemory taken left old new is calls =
     inr (taken, inl (refl, calls ∙ ap (λ (v : StoreView). PutBack v ∷ Taken (Some taken) ∷ old) is))
 
 -- what a book read, in terms of its state
-pub state_read : (taken : StoreView) (book : BookState) → IsReadFrom taken book → HasImage book.key book.base book.openings book.burnt
+pub state_read : (taken : StoreView) (book : BookState) → IsReadFrom taken book
+    → HasImage book.key book.base book.openings book.burnt
     → ReadsState (state_of book) taken book.store
-state_read taken book is counted = record { text = is.text; left = is.left; counted = counted; image = is.image; given = is.given }
+state_read taken book is counted =
+    record { text = is.text; left = is.left; counted = counted; image = is.image; given = is.given }
 
 -- a book was opened, and its store put back
-module _ (before after_it : BookState) (view : StoreView) (old opened back : WorldCalls) (opens : OpensState before old opened)
+module _ (before after_it : BookState) (view : StoreView) (old opened back : WorldCalls)
+    (opens : OpensState before old opened)
     (is_fresh : IsJustOpened before) (view_is : view ≡ after_it.store) (back_is : back ≡ PutBack view ∷ opened) where
   abbrev taken : Taking
   taken = opens.0
@@ -63,7 +68,8 @@ module _ (before after_it : BookState) (view : StoreView) (old opened back : Wor
   put : (left : StoreView) → after_it.store ≡ left → back ≡ PutBack left ∷ Taken (Some taken) ∷ old
   put left is = all ∙ ap (λ (v : StoreView). PutBack v ∷ Taken (Some taken) ∷ old) (view_is ∙ is)
 
-  pub stored : (n : ℕ) → counter before + n ≤ capacity before → after_it.store ≡ after_write (next_image n before) before.store
+  pub stored : (n : ℕ) → counter before + n ≤ capacity before
+      → after_it.store ≡ after_write (next_image n before) before.store
       → StoresUse n (state_of before) old back
   stored n within is = (
     taken,
@@ -73,7 +79,8 @@ module _ (before after_it : BookState) (view : StoreView) (old opened back : Wor
     put _ (is ∙ ap (λ (image : List ℕ). after_write image before.store) (image_is n before is_fresh)),
   )
 
-  pub tried : (n : ℕ) → counter before + n ≤ capacity before → FailsToWrite (next_image n before) before.store after_it.store
+  pub tried : (n : ℕ) → counter before + n ≤ capacity before
+      → FailsToWrite (next_image n before) before.store after_it.store
       → TriesUse n (state_of before) old back
   tried n within failed = (
     taken,
@@ -88,9 +95,11 @@ module _ (before after_it : BookState) (view : StoreView) (old opened back : Wor
   pub left_so : after_it ≡ before → LeavesState (state_of before) old back
   left_so same = (taken, before.store, opens.1, put _ (ap (λ (b : BookState). b.store) same))
 
-  pub log_signed : (nodes : Option (List ℕ)) (random message : List ℕ) (index : ℕ) (signature : List ℕ) (trees : Option Way) (new : WorldCalls)
+  pub log_signed : (nodes : Option (List ℕ)) (random message : List ℕ) (index : ℕ) (signature : List ℕ)
+      (trees : Option Way) (new : WorldCalls)
       → GivesOne before after_it → index ≡ counter before → LogsKeeping trees back new
-      → IsSignedByText nodes before.key index random message signature trees → LogsSigned nodes random message index signature old new
+      → IsSignedByText nodes before.key index random message signature trees
+      → LogsSigned nodes random message index signature old new
   log_signed nodes random message index signature trees new gives at keeps signed = record {
     state = state_of before;
     trees = trees;
@@ -101,7 +110,8 @@ module _ (before after_it : BookState) (view : StoreView) (old opened back : Wor
     signed = signed;
   }
 
-  pub log_unsigned : (fault : NextFault) → SignsNothing before fault after_it → LogsUnsigned 1 (of_signing fault) (state_of before) old back
+  pub log_unsigned : (fault : NextFault) → SignsNothing before fault after_it
+      → LogsUnsigned 1 (of_signing fault) (state_of before) old back
   log_unsigned (unsigned.Book (book.Exhausted left)) (full, is, same) =
       let left_is : left ≡ capacity before - before.base = omega (arith, is, is_fresh.used) in
       inl (ap (λ (n : ℕ). Exhausted n) left_is, omega (arith, full, is_fresh.used), left_so same)
@@ -112,10 +122,13 @@ module _ (before after_it : BookState) (view : StoreView) (old opened back : Wor
 
 -- a key's state was stored, and its public key or capacity not published
 pub unmade : (key : KeyOfCode) (public : Bytes) (before printed : List ℕ) (old kept new : WorldCalls)
-    → ((answer : Writing) → WritesKey key public answer old (Written public (hss_public_key (hss_key_of key)) answer ∷ kept)) → (fault : Fault)
-    → FailsToPublish public (hss_public_key (hss_key_of key)) (capacity_line key) before printed fault kept new → LogsUnmade key public before printed fault old new
+    → ((answer : Writing) → WritesKey key public answer old
+    (Written public (hss_public_key (hss_key_of key)) answer ∷ kept)) → (fault : Fault)
+    → FailsToPublish public (hss_public_key (hss_key_of key)) (capacity_line key) before printed fault kept new
+    → LogsUnmade key public before printed fault old new
 unmade key public before printed old kept new writes fault (inl (refused, calls, same)) =
-    let written = subst (λ (log : WorldCalls). WritesKey key public (Err (write_cause fault)) old log) (sym calls) (writes (Err (write_cause fault))) in
-    inl (same, inr (inr (inr (refused, written))))
+    let written = subst (λ (log : WorldCalls). WritesKey key public (Err (write_cause fault)) old log) (sym calls)
+    (writes (Err (write_cause fault))) in
+    inl (same, inr (inr (refused, written)))
 unmade key public before printed old kept new writes fault (inr (at, calls, line)) =
     inr (at, record { until_written = _; writes = writes (Ok tt); prints = calls }, line)

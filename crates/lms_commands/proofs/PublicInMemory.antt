@@ -3,10 +3,10 @@ use Rattle.std.proofs.Common.{◌≡◌, ◌∙◌, ◌∷◌, ◌++◌, [], ℕ
 use Rattle.lms_spec.specs.Profile.{hss_public_key}
 use Rattle.lms_hss.specs.Keys.{hss_key_of}
 use Rattle.lms_book.specs.Stops.{StoreView}
-use Rattle.lms_lines.specs.AnswerLines.{AppendsFront}
+use Rattle.lms_blocks.specs.Writing.{AppendsFront}
 use Rattle.lms_world.specs.Names.{Bytes}
 use Rattle.lms_world.specs.declared.fault.WorldFault.{WorldFault}
-use Rattle.lms_world.specs.Events.{Acquired, Event, Locked, Printing, PutBack, Taken, Unlocked, Written}
+use Rattle.lms_world.specs.Events.{Acquired, Event, Locked, Printing, PutBack, Taken, Written}
 use Rattle.lms_world.specs.Held.{Follows, Held}
 use Rattle.lms_commands.specs.InMemory.{FindsState}
 use Rattle.lms_commands.specs.KeygenLogs.{capacity_line}
@@ -56,6 +56,7 @@ module _ {state : Bytes} {read : KeyState} {earlier last : WorldCalls} (is : Rea
             state = same_state old new found all.state;
             nodes = all.nodes;
             in_use = all.in_use;
+            nodes_fault = all.nodes_fault;
           };
         },
       )

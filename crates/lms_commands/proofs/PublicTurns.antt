@@ -21,7 +21,8 @@ reads read state last is =
       ap written_in is.unlocks ∙ locked.1.unwritten,
     )
 
-printing : (read : KeyState) (state public : Bytes) (before printed : List ℕ) (last whole : WorldCalls) → ReadsKey state read [] last
+printing : (read : KeyState) (state public : Bytes) (before printed : List ℕ) (last whole : WorldCalls)
+    → ReadsKey state read [] last
     → whole ≡ Printing before ∷ Written public (hss_public_key (hss_key_of read.key)) (Ok tt) ∷ last
     → Prints before printed (capacity_line read.key) → Ends HandsKeyAtMost whole before printed
 printing read state public before printed last whole is calls line =

@@ -1,13 +1,15 @@
 -- What `info` and `verify` find in a world in memory, by their calls.
-use Rattle.std.proofs.Common.{◌≡◌, ◌∙◌, ◌∷◌, ◌++◌, [], ℕ, List, Option, Some, None, Ok, Err, false, ap, refl, subst, sym, inl, inr, ⊎_elim}
+use Rattle.std.proofs.Common.{◌≡◌, ◌∙◌, ◌∷◌, ◌++◌, [], ℕ, List, Option, Some, None, Ok, Err, false, ap, refl, subst}
+use Rattle.std.proofs.Common.{sym, inl, inr, ⊎_elim}
 use Rattle.lms_book.specs.Stops.{StoreView}
-use Rattle.lms_lines.specs.AnswerLines.{AppendsFront}
+use Rattle.lms_blocks.specs.Writing.{AppendsFront}
 use Rattle.lms_world.specs.Names.{Bytes}
 use Rattle.lms_world.specs.Events.{Acquired, Locked, Opened, Printing, PutBack, Read, Taken, Unlocked}
 use Rattle.lms_world.specs.Held.{Follows, Held}
 use Rattle.lms_commands.specs.InMemory.{FindsState}
 use Rattle.lms_commands.specs.Logs.{KeyState, WorldCalls, read_cause}
-use Rattle.lms_commands.specs.ReadingInMemory.{DescribesInMemory, FailsToDescribeInMemory, FailsToJudge, FailsToJudgeInMemory, Judges, JudgesInMemory}
+use Rattle.lms_commands.specs.ReadingInMemory.{DescribesInMemory, FailsToDescribeInMemory, FailsToJudge}
+use Rattle.lms_commands.specs.ReadingInMemory.{FailsToJudgeInMemory, Judges, JudgesInMemory}
 use Rattle.lms_commands.specs.ReadingLogs.{info_of, IsHeld, LogsVerifyFailed, ReadsToPrint}
 use Rattle.lms_commands.specs.Verdicts.{IsRightFor}
 use Rattle.lms_commands.specs.declared.fault.Fault.{Fault}
@@ -34,6 +36,7 @@ found state before read {earlier} old new is calls follows =
         state = all.state ∙ (ap (λ (v : StoreView). v.now) reads.given ∙ found);
         nodes = all.nodes;
         in_use = all.in_use;
+        nodes_fault = all.nodes_fault;
       };
     } in
     (all.tell.0.0.0.0.1, (finds, refl))

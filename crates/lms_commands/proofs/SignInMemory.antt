@@ -1,5 +1,6 @@
 -- What `sign` leaves in a world in memory, by its calls.
-use Rattle.std.proofs.Common.{◌≡◌, ◌∙◌, ◌∷◌, [], ◌++◌, ℕ, List, Option, Some, Ok, Err, ap, refl, subst, sym, inl, inr, ⊎_elim}
+use Rattle.std.proofs.Common.{◌≡◌, ◌∙◌, ◌∷◌, [], ◌++◌, ℕ, List, Option, Some, Ok, Err, ap, refl, subst, sym, inl, inr}
+use Rattle.std.proofs.Common.{⊎_elim}
 use Rattle.lms_spec.specs.HashLength.{hash_length}
 use Rattle.lms_book.specs.Stops.{after_write}
 use Rattle.lms_world.specs.Names.{Bytes}
@@ -12,7 +13,9 @@ use Rattle.lms_commands.specs.Logs.{WorldCalls, image_using, lock_answer, read_c
 use Rattle.lms_commands.specs.SignInMemory.{FailsToSignInMemory, SignsInMemory, SignsMessage}
 use Rattle.lms_commands.specs.SignLogs.{IsRandomizer, WritesSignature}
 use Rattle.lms_commands.proofs.AtState.{AreStill, lock_refused, unopened, unsigned}
-use Rattle.lms_commands.proofs.Telling.{Adds, KeepsOnly, Told, and_kept, and_then, keeps_only, nothing_done, read_refused, same_held, told, unlocked, until_printing, was_state, written_file}
+use Rattle.lms_commands.proofs.Telling.{Adds, KeepsOnly, Told, and_kept, and_then, keeps_only, nothing_done}
+use Rattle.lms_commands.proofs.Telling.{read_refused, same_held, told, unlocked, until_printing, was_state}
+use Rattle.lms_commands.proofs.Telling.{written_file}
 
 -- a signature is written to its file, or its write fails
 module _ {message state out : Bytes} {c text : List ℕ} {answer : Writing} {earlier last : WorldCalls}

@@ -18,5 +18,6 @@ just_opened book none = record {
 }
 
 -- the image that counts n indices more
-pub image_is : (n : ℕ) (book : BookState) → IsJustOpened book → next_image n book ≡ image_of book.key (book.base + n) (book.openings + 1) book.burnt
+pub image_is : (n : ℕ) (book : BookState) → IsJustOpened book
+    → next_image n book ≡ image_of book.key (book.base + n) (book.openings + 1) book.burnt
 image_is n book is = ap₂ (λ (at lost : ℕ). image_of book.key (at + n) (book.openings + 1) lost) is.used is.lost

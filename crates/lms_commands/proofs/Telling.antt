@@ -1,11 +1,14 @@
 -- What calls tell of a world in memory, and what it holds after them.
-use Rattle.std.proofs.Common.{◌≡◌, ◌∙◌, ◌∷◌, ◌++◌, [], List, ℕ, Bool, true, false, Option, Some, None, Ok, Err, ap, refl, subst, sym, append_assoc, inl, inr}
+use Rattle.std.proofs.Common.{◌≡◌, ◌∙◌, ◌∷◌, ◌++◌, [], List, ℕ, Bool, true, false, Option, Some, None, Ok, Err, ap}
+use Rattle.std.proofs.Common.{refl, subst, sym, append_assoc, inl, inr}
 use Rattle.std.specs.Prelude.{◌⊎◌, IfSome}
 use Rattle.std.proofs.lemmas.List.{append_cancel_right}
 use Rattle.lms_book.specs.Stops.{IsAmong, StoreView, Texts}
 use Rattle.lms_kept.specs.Ways.{Way}
 use Rattle.lms_world.specs.Names.{Bytes}
-use Rattle.lms_world.specs.Events.{Event, Acquired, InUse, NoMemory, Read, Opened, Written, Locked, Unlocked, Asked, Taken, PutBack, NodesRead, NodesWritten, Printing, Printed}
+use Rattle.lms_world.specs.Events.{Event, Read, Opened, Written, Locked, Unlocked, Asked}
+use Rattle.lms_world.specs.Events.{Acquired, NotAvailable, NoMemory}
+use Rattle.lms_world.specs.Events.{Taken, PutBack, NodesRead, NodesWritten, Printing, Printed}
 use Rattle.lms_world.specs.Held.{Acts, Answers, Follows, Held, Replays, answer_in, is_there}
 use Rattle.lms_world.specs.Outcomes.{files_after, nodes_after, state_after}
 use Rattle.lms_world.specs.declared.fault.WorldFault.{WorldFault}
@@ -38,7 +41,7 @@ Tells (Opened name (Ok None)) earlier old = ⊥
 Tells (Opened name (Err fault)) earlier old = IsRefused name fault (files_after earlier old.files)
 Tells (Written name bytes (Err fault)) earlier old = IsRefused name fault (files_after earlier old.files)
 Tells (Locked name Acquired) earlier old = old.in_use ≡ false
-Tells (Locked name InUse) earlier old = old.in_use ≡ true
+Tells (Locked name NotAvailable) earlier old = old.in_use ≡ true
 Tells (Asked there) earlier old = there ≡ is_there (state_after earlier old.state)
 Tells (Taken (Some store)) earlier old =
     (store.view.now ≡ state_after earlier old.state) × MayFailAfter earlier old.may_fail store.may_fail
@@ -84,7 +87,7 @@ module _ (earlier : List Event) (old between new : Held) (is : Told earlier old 
   told_one (Written name bytes (Ok done)) acts = (tt, fails_as new.may_fail (ap (λ (h : Held). h.may_fail) acts))
   told_one (Written name bytes (Err fault)) acts = (refused name fault acts.1, still acts.0)
   told_one (Locked name Acquired) acts = (sym is.in_use ∙ acts.1, still acts.0)
-  told_one (Locked name InUse) acts = (sym is.in_use ∙ acts.1, still acts.0)
+  told_one (Locked name NotAvailable) acts = (sym is.in_use ∙ acts.1, still acts.0)
   told_one (Locked name NoMemory) acts = (tt, still acts)
   told_one Unlocked acts = (tt, still acts)
   told_one (Asked there) acts = (acts.1 ∙ ap is_there is.state, still acts.0)

@@ -6,7 +6,8 @@ use Rattle.lms_book.specs.Stops.{Texts, only}
 use Rattle.lms_batch.specs.Jobs.{JobText}
 use Rattle.lms_batch.specs.Answers.{IsAnswerTo, start_of}
 use Rattle.lms_batch.specs.declared.collector.Batch.{Batch}
-use Rattle.lms_lines.specs.AnswerLines.{answer_text, AppendsFront}
+use Rattle.lms_lines.specs.AnswerLines.{answer_text}
+use Rattle.lms_blocks.specs.Writing.{AppendsFront}
 use Rattle.lms_lines.specs.JobsTexts.{ReadsJobs}
 use Rattle.lms_lines.specs.SignedLines.{signatures_in}
 use Rattle.lms_texts.specs.Options.{AreWorkers}

@@ -3,13 +3,15 @@ use Rattle.std.specs.Prelude.{◌≡◌, ◌≢◌, ◌⊎◌, ◌≤◌, List, 
 use Rattle.lms_batch.specs.Jobs.{JobText}
 use Rattle.lms_batch.specs.Answers.{IsAnswerTo, start_of}
 use Rattle.lms_batch.specs.declared.collector.Batch.{Batch}
-use Rattle.lms_lines.specs.AnswerLines.{answer_text, AppendsFront}
+use Rattle.lms_lines.specs.AnswerLines.{answer_text}
+use Rattle.lms_blocks.specs.Writing.{AppendsFront}
 use Rattle.lms_lines.specs.JobsTexts.{HasTooManyJobs, IsFirstBadLine, ReadsJobs}
 use Rattle.lms_lines.specs.SignedLines.{signatures_in}
 use Rattle.lms_texts.specs.Options.{AreWorkers}
 use Rattle.lms_world.specs.Names.{Bytes}
 use Rattle.lms_world.specs.Events.{Acquired, Locked, Unlocked, Printing, after}
-use Rattle.lms_commands.specs.Logs.{IsLockRefused, IsReadRefused, KeyState, LeavesState, WorldCalls, LogsUnopened, LogsUnsigned, StoresUse, lock_answer}
+use Rattle.lms_commands.specs.Logs.{IsLockRefused, IsReadRefused, KeyState, LeavesState, WorldCalls, LogsUnopened}
+use Rattle.lms_commands.specs.Logs.{LogsUnsigned, StoresUse, lock_answer}
 use Rattle.lms_commands.specs.declared.fault.Fault.{Fault}
 use Rattle.lms_commands.specs.declared.fault.Fault.TheVariants.{BadWorkers, BadJob, TooManyJobs, Partial, WriteOutput}
 

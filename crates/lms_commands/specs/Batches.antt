@@ -1,7 +1,8 @@
 -- What `batch` prints, and where it fails to.
 use Rattle.std.specs.Prelude.{ℕ, ◌≡◌, ◌≢◌, ◌⊎◌, List, Option}
 use Rattle.std.specs.Io.KnownBytes.{Appends}
-use Rattle.lms_lines.specs.AnswerLines.{answer_text, AppendsFront}
+use Rattle.lms_lines.specs.AnswerLines.{answer_text}
+use Rattle.lms_blocks.specs.Writing.{AppendsFront}
 use Rattle.lms_lines.specs.SignedLines.{signatures_in}
 use Rattle.lms_lines.specs.declared.signing.SignedJobs.{SignedJobs}
 use Rattle.lms_commands.specs.declared.fault.Fault.{Fault}

@@ -12,13 +12,19 @@ use Rattle.lms_book.specs.declared.fault.OpenFault.TheVariants as opening
 use Rattle.lms_batch.specs.Faults.{batch_fault_text}
 use Rattle.lms_batch.specs.declared.fault.BatchFault.{BatchFault}
 use Rattle.lms_batch.specs.declared.fault.BatchFault.TheVariants as batch
-use Rattle.lms_lines.specs.Faults.{jobs_fault_text, write_fault_text}
+use Rattle.lms_lines.specs.Faults.{jobs_fault_text}
+use Rattle.lms_blocks.specs.Writing.{write_fault_text}
 use Rattle.lms_lines.specs.declared.fault.JobsFault.{JobsFault}
 use Rattle.lms_lines.specs.declared.fault.JobsFault.TheVariants as jobs
 use Rattle.lms_lines.specs.declared.fault.LinesFault.{LinesFault}
 use Rattle.lms_lines.specs.declared.fault.LinesFault.TheVariants as lines
 use Rattle.lms_commands.specs.declared.fault.Fault.{Fault}
-use Rattle.lms_commands.specs.declared.fault.Fault.TheVariants.{BadLevels, TooManyLevels, TooTall, BadSeed, BadId, BadRandom, BadWorkers, BadPublicKey, BadEndorsement, BadSignature, BadJob, TooManyJobs, StateExists, StateInUse, ReadState, BadState, WriteState, WriteStateBurnt, Exhausted, OutOfMemory, OutOfMemoryBurnt, Partial, ReadInput, WriteOutput}
+use Rattle.lms_commands.specs.declared.fault.Fault.TheVariants.{BadLevels, TooManyLevels, TooTall, BadSeed, BadId}
+use Rattle.lms_commands.specs.declared.fault.Fault.TheVariants.{BadRandom, BadWorkers, BadPublicKey, BadEndorsement}
+use Rattle.lms_commands.specs.declared.fault.Fault.TheVariants.{BadSignature, BadJob, TooManyJobs, StateExists}
+use Rattle.lms_commands.specs.declared.fault.Fault.TheVariants.{StateInUse, ReadState, BadState, WriteState}
+use Rattle.lms_commands.specs.declared.fault.Fault.TheVariants.{WriteStateBurnt, Exhausted, OutOfMemory}
+use Rattle.lms_commands.specs.declared.fault.Fault.TheVariants.{OutOfMemoryBurnt, Partial, ReadInput, WriteOutput}
 use Rattle.lms_texts.specs.Faults.{levels_fault_text, seed_fault_text}
 use Rattle.lms_texts.specs.declared.fault.LevelsTextFault.{LevelsTextFault}
 use Rattle.lms_texts.specs.declared.fault.LevelsTextFault.TheVariants as unread

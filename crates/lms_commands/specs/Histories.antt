@@ -1,6 +1,7 @@
 -- Runs of the program at one state, one after another, each perhaps cut off by a crash: what each
 -- does with the state, and which signatures leave it.
-use Rattle.std.specs.Prelude.{◌≡◌, ◌⊎◌, ◌+◌, ◌<◌, ◌≤◌, ℕ, List, [], ◌∷◌, ◌++◌, Bool, true, false, if◌then◌else◌, Contains, codes, filter, map, Option, Some, None}
+use Rattle.std.specs.Prelude.{◌≡◌, ◌⊎◌, ◌+◌, ◌<◌, ◌≤◌, ℕ, List, [], ◌∷◌, ◌++◌, Bool, true, false, if◌then◌else◌}
+use Rattle.std.specs.Prelude.{Contains, codes, filter, map, Option, Some, None}
 use Rattle.std.specs.List.{list_any}
 use Rattle.lms_spec.specs.Hss.{capacity_of}
 use Rattle.lms_spec.specs.Profile.{hss_public_key, hss_signature}
@@ -10,7 +11,8 @@ use Rattle.lms_image.specs.Image.{image_of}
 use Rattle.lms_book.specs.Stops.{StoreView, FailsToWrite, after_write}
 use Rattle.lms_kept.specs.Signed.{IsSignedBy}
 use Rattle.lms_kept.specs.Ways.{Way}
-use Rattle.lms_lines.specs.AnswerLines.{answer_line, AppendsFront}
+use Rattle.lms_lines.specs.AnswerLines.{answer_line}
+use Rattle.lms_blocks.specs.Writing.{AppendsFront}
 use Rattle.lms_world.specs.Events.{Event, Written, Asked, Taken, Taking, PutBack, Printing}
 use Rattle.lms_texts.specs.Descriptions.{number_line}
 use Rattle.lms_commands.specs.KeygenLogs.{capacity_line}

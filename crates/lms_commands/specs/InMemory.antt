@@ -11,7 +11,8 @@ use Rattle.lms_world.specs.Names.{Bytes}
 use Rattle.lms_world.specs.Held.{Answers, Held, answer_in}
 use Rattle.lms_commands.specs.Logs.{KeyState, image_using}
 use Rattle.lms_commands.specs.declared.fault.Fault.{Fault}
-use Rattle.lms_commands.specs.declared.fault.Fault.TheVariants.{BadState, Exhausted, OutOfMemory, OutOfMemoryBurnt, ReadState, StateInUse, WriteStateBurnt}
+use Rattle.lms_commands.specs.declared.fault.Fault.TheVariants.{BadState, Exhausted, OutOfMemory, OutOfMemoryBurnt}
+use Rattle.lms_commands.specs.declared.fault.Fault.TheVariants.{ReadState, StateInUse, WriteStateBurnt}
 
 -- nothing is changed but whether a read of the state may fail
 pub record Stays (old new : Held) : Type 0 where
@@ -19,6 +20,7 @@ pub record Stays (old new : Held) : Type 0 where
   pub state : new.state ≡ old.state
   pub nodes : new.nodes ≡ old.nodes
   pub in_use : new.in_use ≡ old.in_use
+  pub nodes_fault : new.nodes_fault ≡ old.nodes_fault
 
 -- nothing is changed but files
 abbrev pub OnlyFiles : Held → Held → Type 0

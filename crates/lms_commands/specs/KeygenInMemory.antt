@@ -8,7 +8,7 @@ use Rattle.lms_book.specs.Stops.{IsLeftBy, only}
 use Rattle.lms_kept.specs.Ways.{Way}
 use Rattle.lms_world.specs.Names.{Bytes}
 use Rattle.lms_world.specs.Held.{Follows, Held, MayRefuse, is_there}
-use Rattle.lms_commands.specs.InMemory.{FailsToLock, KeepsNodes, KeepsRight, WritesFile}
+use Rattle.lms_commands.specs.InMemory.{FailsToLock, KeepsNodes, KeepsRight, Stays, WritesFile}
 use Rattle.lms_commands.specs.KeygenLogs.{AreGenuineTrees, LogsKeygen, LogsKeygenFailed}
 use Rattle.lms_commands.specs.Logs.{IsWriteRefused, WorldCalls, write_cause}
 use Rattle.lms_commands.specs.declared.fault.Fault.{Fault}
@@ -50,7 +50,7 @@ abbrev pub FailsToMakeKey : KeyOfCode → Bytes → Fault → Held → Held → 
 FailsToMakeKey key public fault old new =
     FailsToLock fault old new
     ⊎ (((fault ≡ StateExists) × (old.in_use ≡ false) × (is_there old.state ≡ true) × (new ≡ old))
-    ⊎ (((fault ≡ OutOfMemory) × (old.in_use ≡ false) × (is_there old.state ≡ false) × (new ≡ old))
+    ⊎ (((fault ≡ OutOfMemory) × (old.in_use ≡ false) × (is_there old.state ≡ false) × Stays old new)
     ⊎ (((fault ≡ WriteState) × MayMakeKey key old new)
     ⊎ (MakesKey key old new
     × ((IsWriteRefused fault × MayRefuse old public (write_cause fault) × (new.files ≡ old.files))

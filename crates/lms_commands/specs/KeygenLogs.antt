@@ -6,12 +6,13 @@ use Rattle.lms_hss.specs.Keys.{hss_key_of}
 use Rattle.lms_hss.specs.declared.key.HssKey.{HssKey as KeyOfCode}
 use Rattle.lms_image.specs.Image.{image_of}
 use Rattle.lms_kept.specs.Ways.{AreGenuine, IsWay, Way}
-use Rattle.lms_lines.specs.AnswerLines.{AppendsFront}
+use Rattle.lms_blocks.specs.Writing.{AppendsFront}
 use Rattle.lms_texts.specs.Descriptions.{number_line}
 use Rattle.lms_book.specs.Stops.{StoreView, FailsToWrite, after_write}
 use Rattle.lms_world.specs.Names.{Bytes}
 use Rattle.lms_world.specs.Events.{Acquired, Written, Locked, Unlocked, Asked, Taken, Taking, Printing, Writing, after}
-use Rattle.lms_commands.specs.Logs.{IsLockRefused, IsWriteRefused, WorldCalls, LogsKeeping, PutsBack, lock_answer, write_cause}
+use Rattle.lms_commands.specs.Logs.{IsLockRefused, IsWriteRefused, WorldCalls, LogsKeeping, PutsBack, lock_answer}
+use Rattle.lms_commands.specs.Logs.{write_cause}
 use Rattle.lms_commands.specs.declared.fault.Fault.{Fault}
 use Rattle.lms_commands.specs.declared.fault.Fault.TheVariants.{StateExists, WriteState, OutOfMemory, WriteOutput}
 
@@ -20,13 +21,19 @@ abbrev pub StoresKey : KeyOfCode → WorldCalls → WorldCalls → Type 0
 StoresKey key old new =
     (taken : Taking) × PutsBack taken (after_write (image_of key 0 0 0) taken.view) old new
 
--- why it is not stored
+-- why it is not stored in a store that is taken out, and what is left of that: memory is refused for
+-- the tree of the public key, and it is as it was; or it fails
+abbrev pub LeavesUnstored : KeyOfCode → Fault → StoreView → StoreView → Type 0
+LeavesUnstored key fault taken left =
+    ((fault ≡ OutOfMemory) × (left ≡ taken))
+    ⊎ ((fault ≡ WriteState) × FailsToWrite (image_of key 0 0 0) taken left)
+
+-- why it is not stored: memory is refused for its store, or that is put back without it
 abbrev pub LogsUnstored : KeyOfCode → Fault → WorldCalls → WorldCalls → Type 0
 LogsUnstored key fault old new =
     ((fault ≡ OutOfMemory) × (new ≡ after (Taken None ∷ []) old))
-    ⊎ ((fault ≡ WriteState)
-    × ((taken : Taking) × (left : StoreView) × FailsToWrite (image_of key 0 0 0) taken.view left
-    × PutsBack taken left old new))
+    ⊎ ((taken : Taking) × (left : StoreView) × LeavesUnstored key fault taken.view left
+    × PutsBack taken left old new)
 
 -- trees of this key, where there are any, with the nodes that they have
 abbrev pub AreGenuineTrees : KeyOfCode → Option Way → Type 0
@@ -57,16 +64,14 @@ pub record PublishesKey (key : KeyOfCode) (public : Bytes) (before : List ℕ)
 abbrev pub capacity_line : KeyOfCode → List ℕ
 capacity_line key = number_line (codes "capacity") (capacity_of (hss_key_of key))
 
--- why no key is made under a lock: where memory is refused for the tree of the public key, nothing
--- is stored
+-- why no key is made under a lock
 abbrev pub LogsUnmade : KeyOfCode → Bytes → List ℕ → List ℕ → Fault → WorldCalls → WorldCalls
     → Type 0
 LogsUnmade key public before printed fault old new =
     ((printed ≡ before)
     × (((fault ≡ StateExists) × (new ≡ after (Asked true ∷ []) old))
-    ⊎ (((fault ≡ OutOfMemory) × (new ≡ after (Asked false ∷ []) old))
     ⊎ (LogsUnstored key fault (after (Asked false ∷ []) old) new
-    ⊎ (IsWriteRefused fault × WritesKey key public (Err (write_cause fault)) old new)))))
+    ⊎ (IsWriteRefused fault × WritesKey key public (Err (write_cause fault)) old new))))
     ⊎ ((fault ≡ WriteOutput) × PublishesKey key public before old new
     × AppendsFront (Some before) (Some printed) (capacity_line key))
 

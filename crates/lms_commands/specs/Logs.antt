@@ -1,5 +1,6 @@
 -- The calls that a command makes on its world, one after another, the newest first.
-use Rattle.std.specs.Prelude.{◌≡◌, ◌⊎◌, ◌+◌, ◌-◌, ◌<◌, ◌≤◌, ℕ, List, [], ◌∷◌, ◌++◌, true, Option, Some, None, Result, Ok, Err}
+use Rattle.std.specs.Prelude.{◌≡◌, ◌⊎◌, ◌+◌, ◌-◌, ◌<◌, ◌≤◌, ℕ, List, [], ◌∷◌, ◌++◌, true, Option, Some, None, Result}
+use Rattle.std.specs.Prelude.{Ok, Err}
 use Rattle.lms_spec.specs.Hss.{capacity_of}
 use Rattle.lms_hss.specs.Keys.{hss_key_of}
 use Rattle.lms_hss.specs.declared.key.HssKey.{HssKey as KeyOfCode}
@@ -9,14 +10,18 @@ use Rattle.lms_image.specs.declared.image.Image.{Image}
 use Rattle.lms_book.specs.States.{BookState}
 use Rattle.lms_book.specs.Stops.{StoreView, FailsToWrite, MayLeave, after_failure, after_write, having_given}
 use Rattle.lms_kept.specs.Ways.{Way, nodes_text}
-use Rattle.lms_lines.specs.AnswerLines.{AppendsFront}
-use Rattle.lms_world.specs.Events.{Event, Locking, Acquired, InUse, NoMemory, Taken, Taking, PutBack, NodesWritten, Printing, Writing, Written, after}
+use Rattle.lms_blocks.specs.Writing.{AppendsFront}
+use Rattle.lms_world.specs.Events.{Event, Taken, Taking, PutBack, NodesWritten}
+use Rattle.lms_world.specs.Events.{Locking, Acquired, NotAvailable, NoMemory}
+use Rattle.lms_world.specs.Events.{Printing, Writing, Written, after}
 use Rattle.lms_world.specs.Names.{Bytes}
 use Rattle.lms_world.specs.declared.fault.WorldFault.{WorldFault}
 use Rattle.lms_world.specs.declared.fault.WorldFault.TheVariants.{Device}
 use Rattle.lms_world.specs.declared.fault.WorldFault.TheVariants as world
 use Rattle.lms_commands.specs.declared.fault.Fault.{Fault}
-use Rattle.lms_commands.specs.declared.fault.Fault.TheVariants.{ReadState, BadState, WriteStateBurnt, Exhausted, StateInUse, ReadInput, WriteOutput, OutOfMemory, OutOfMemoryBurnt}
+use Rattle.lms_commands.specs.declared.fault.Fault.TheVariants.{ReadState, BadState, WriteStateBurnt, Exhausted}
+use Rattle.lms_commands.specs.declared.fault.Fault.TheVariants.{StateInUse, ReadInput, WriteOutput, OutOfMemory}
+use Rattle.lms_commands.specs.declared.fault.Fault.TheVariants.{OutOfMemoryBurnt}
 
 -- the calls up to some moment
 abbrev pub WorldCalls : Type 0
@@ -121,7 +126,7 @@ LogsKeeping trees old new =
 
 -- what was not locked, not read, or not written, at this fault
 abbrev pub lock_answer : Fault → Locking
-lock_answer StateInUse = InUse
+lock_answer StateInUse = NotAvailable
 lock_answer fault = NoMemory
 
 abbrev pub read_cause : Fault → WorldFault

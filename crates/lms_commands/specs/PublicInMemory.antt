@@ -2,7 +2,7 @@
 use Rattle.std.specs.Prelude.{ℕ, ◌≡◌, ◌⊎◌, List, ◌++◌, false, Some}
 use Rattle.lms_spec.specs.Profile.{hss_public_key}
 use Rattle.lms_hss.specs.Keys.{hss_key_of}
-use Rattle.lms_lines.specs.AnswerLines.{AppendsFront}
+use Rattle.lms_blocks.specs.Writing.{AppendsFront}
 use Rattle.lms_world.specs.Names.{Bytes}
 use Rattle.lms_world.specs.Held.{Follows, Held}
 use Rattle.lms_commands.specs.InMemory.{FailsToLock, FailsToOpen, FindsState, WasState, WritesFile}

@@ -6,7 +6,8 @@ use Rattle.lms_hss.specs.declared.key.HssKey.{HssKey as KeyOfCode}
 use Rattle.lms_world.specs.Names.{Bytes}
 use Rattle.lms_world.specs.Events.{Acquired, Locked, Unlocked, after}
 use Rattle.lms_commands.specs.KeygenLogs.{capacity_line}
-use Rattle.lms_commands.specs.Logs.{FailsToPublish, IsLockRefused, KeyState, LeavesState, LogsUnopened, Publishes, WorldCalls, lock_answer}
+use Rattle.lms_commands.specs.Logs.{FailsToPublish, IsLockRefused, KeyState, LeavesState, LogsUnopened, Publishes}
+use Rattle.lms_commands.specs.Logs.{WorldCalls, lock_answer}
 use Rattle.lms_commands.specs.declared.fault.Fault.{Fault}
 use Rattle.lms_commands.specs.declared.fault.Fault.TheVariants.{OutOfMemory}
 

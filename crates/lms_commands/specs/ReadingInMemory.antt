@@ -1,6 +1,6 @@
 -- What `info` and `verify` find in a world in memory, by their calls, and that they change nothing.
 use Rattle.std.specs.Prelude.{ℕ, ◌≡◌, ◌⊎◌, List, ◌++◌, false, Some, Ok, Err}
-use Rattle.lms_lines.specs.AnswerLines.{AppendsFront}
+use Rattle.lms_blocks.specs.Writing.{AppendsFront}
 use Rattle.lms_world.specs.Names.{Bytes}
 use Rattle.lms_world.specs.Held.{Follows, Held, answer_in}
 use Rattle.lms_world.specs.declared.fault.WorldFault.TheVariants.{Device}

@@ -1,10 +1,11 @@
 -- The calls that `info` and `verify` make on their world: they write nothing, and store nothing.
 use Rattle.std.specs.Prelude.{◌≡◌, ◌⊎◌, List, [], ◌∷◌, ◌++◌, ℕ, Option, Some, None, Ok, Err, IfSome}
-use Rattle.lms_lines.specs.AnswerLines.{AppendsFront}
+use Rattle.lms_blocks.specs.Writing.{AppendsFront}
 use Rattle.lms_world.specs.Names.{Bytes}
 use Rattle.lms_world.specs.Events.{Acquired, Read, Opened, Locked, Unlocked, Printing, after}
 use Rattle.lms_texts.specs.Descriptions.{info_text}
-use Rattle.lms_commands.specs.Logs.{IsLockRefused, IsReadRefused, KeyState, LeavesState, WorldCalls, LogsUnopened, lock_answer, read_cause}
+use Rattle.lms_commands.specs.Logs.{IsLockRefused, IsReadRefused, KeyState, LeavesState, WorldCalls, LogsUnopened}
+use Rattle.lms_commands.specs.Logs.{lock_answer, read_cause}
 use Rattle.lms_commands.specs.Verdicts.{IsRightFor, line_of}
 use Rattle.lms_commands.specs.declared.fault.Fault.{Fault}
 use Rattle.lms_commands.specs.declared.fault.Fault.TheVariants.{WriteOutput}

@@ -10,7 +10,8 @@ use Rattle.lms_texts.specs.Descriptions.{number_line}
 use Rattle.lms_world.specs.Names.{Bytes}
 use Rattle.lms_world.specs.Held.{Follows, Held, answer_in}
 use Rattle.lms_world.specs.declared.fault.WorldFault.TheVariants.{Device}
-use Rattle.lms_commands.specs.InMemory.{FailsToLock, FailsToOpen, KeepsNodes, KeepsRight, SignsNone, WasState, WritesFile}
+use Rattle.lms_commands.specs.InMemory.{FailsToLock, FailsToOpen, KeepsNodes, KeepsRight, SignsNone, WasState}
+use Rattle.lms_commands.specs.InMemory.{WritesFile}
 use Rattle.lms_texts.specs.Options.{IsHexOf}
 use Rattle.lms_commands.specs.Logs.{KeyState, WorldCalls, image_using}
 use Rattle.lms_commands.specs.SignLogs.{IsRandomizer, LogsSign, LogsSignFailed}

@@ -3,12 +3,13 @@ use Rattle.std.specs.Prelude.{◌≡◌, ◌⊎◌, List, [], ◌∷◌, ◌++�
 use Rattle.hex.specs.Hex.{decode_of}
 use Rattle.lms_kept.specs.Signed.{IsSignedByText}
 use Rattle.lms_kept.specs.Ways.{Way}
-use Rattle.lms_lines.specs.AnswerLines.{AppendsFront}
+use Rattle.lms_blocks.specs.Writing.{AppendsFront}
 use Rattle.lms_world.specs.Names.{Bytes}
 use Rattle.lms_world.specs.declared.fault.WorldFault.{WorldFault}
 use Rattle.lms_world.specs.Events.{Acquired, Read, Written, Locked, Unlocked, NodesRead, Printing, Writing, after}
 use Rattle.lms_texts.specs.Descriptions.{number_line}
-use Rattle.lms_commands.specs.Logs.{IsLockRefused, IsReadRefused, KeyState, WorldCalls, LogsKeeping, LogsUnopened, LogsUnsigned, StoresUse, lock_answer, read_cause}
+use Rattle.lms_commands.specs.Logs.{IsLockRefused, IsReadRefused, KeyState, WorldCalls, LogsKeeping, LogsUnopened}
+use Rattle.lms_commands.specs.Logs.{LogsUnsigned, StoresUse, lock_answer, read_cause}
 use Rattle.lms_texts.specs.Options.{IsHexOf}
 use Rattle.lms_spec.specs.HashLength.{hash_length}
 use Rattle.lms_commands.specs.declared.fault.Fault.{Fault}
@@ -84,17 +85,40 @@ LogsSign random message state out before printed old new =
     × (printed ≡ before ++ index_line delivers.writes))
     × (new ≡ after (Unlocked ∷ []) last)
 
--- the same, where it fails
+-- the option spells no randomizer, and no call is made
+abbrev pub HasNoRandomizer : Bytes → List ℕ → List ℕ → Fault → WorldCalls → WorldCalls → Type 0
+HasNoRandomizer random before printed fault old new =
+    (fault ≡ BadRandom) × (new ≡ old) × (printed ≡ before) × ¬ IsHexOf hash_length random
+
+-- the message is not read
+abbrev pub ReadsNoMessage : Bytes → Bytes → List ℕ → List ℕ → Fault → WorldCalls → WorldCalls
+    → Type 0
+ReadsNoMessage random message before printed fault old new =
+    IsReadRefused fault × (new ≡ after (Read message (Err (read_cause fault)) ∷ []) old)
+    × (printed ≡ before) × IsHexOf hash_length random
+
+-- the lock is not acquired
+abbrev pub LocksNoState : Bytes → Bytes → Bytes → List ℕ → List ℕ → Fault → WorldCalls → WorldCalls
+    → Type 0
+LocksNoState random message state before printed fault old new =
+    (text : List ℕ) × IsLockRefused fault
+    × (new ≡ after (Read message (Ok text) ∷ Locked state (lock_answer fault) ∷ []) old)
+    × (printed ≡ before) × IsHexOf hash_length random
+
+-- no signature is delivered under the lock
+abbrev pub DeliversNone : Bytes → Bytes → Bytes → Bytes → List ℕ → List ℕ → Fault → WorldCalls
+    → WorldCalls → Type 0
+DeliversNone random message state out before printed fault old new =
+    (c text : List ℕ) × (last : WorldCalls) × IsRandomizer random c
+    × LogsUndelivered c text out before printed fault
+    (after (Read message (Ok text) ∷ Locked state Acquired ∷ []) old) last
+    × (new ≡ after (Unlocked ∷ []) last)
+
+-- all calls of `sign` where it fails
 abbrev pub LogsSignFailed : Bytes → Bytes → Bytes → Bytes → List ℕ → List ℕ → Fault → WorldCalls
     → WorldCalls → Type 0
 LogsSignFailed random message state out before printed fault old new =
-    ((fault ≡ BadRandom) × (new ≡ old) × (printed ≡ before) × ¬ IsHexOf hash_length random)
-    ⊎ ((IsReadRefused fault × (new ≡ after (Read message (Err (read_cause fault)) ∷ []) old)
-    × (printed ≡ before) × IsHexOf hash_length random)
-    ⊎ (((text : List ℕ) × IsLockRefused fault
-    × (new ≡ after (Read message (Ok text) ∷ Locked state (lock_answer fault) ∷ []) old)
-    × (printed ≡ before) × IsHexOf hash_length random)
-    ⊎ ((c text : List ℕ) × (last : WorldCalls) × IsRandomizer random c
-    × LogsUndelivered c text out before printed fault
-    (after (Read message (Ok text) ∷ Locked state Acquired ∷ []) old) last
-    × (new ≡ after (Unlocked ∷ []) last))))
+    HasNoRandomizer random before printed fault old new
+    ⊎ (ReadsNoMessage random message before printed fault old new
+    ⊎ (LocksNoState random message state before printed fault old new
+    ⊎ DeliversNone random message state out before printed fault old new))

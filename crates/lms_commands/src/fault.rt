@@ -1,19 +1,20 @@
 //! Why the program ends with a fault, and its printed line.
 ghost use Rattle.std.specs.Prelude.{◌≡◌, OnErr, OnOk, Some};
 ghost use Rattle.std.specs.Io.KnownBytes.{Appends};
-ghost use Rattle.lms_lines.specs.AnswerLines.{AppendsFront};
+ghost use Rattle.lms_blocks.specs.Writing.{AppendsFront};
 ghost use Rattle.lms_commands.specs.Faults.{command_fault_text, fault_line, of_batch, of_book, of_jobs, of_key, of_lines, of_opening, of_seed, of_text, status_of};
 ghost use Rattle.lms_commands.specs.Logs.{IsReadRefused, read_cause};
 ghost use Rattle.lms_commands.specs.declared.fault.Fault.TheVariants.{OutOfMemory as FaultOfMemory, WriteOutput};
 
 use crate::status::Status;
 use lms_batch::BatchFault;
+use lms_blocks::{WriteFault, print_line};
 use lms_book::{BookFault, OpenFault, StoreFault};
 use lms_hss::KeyFault;
 use lms_image::ImageFault;
-use lms_lines::{JobsFault, LinesFault, WriteFault};
+use lms_lines::{JobsFault, LinesFault};
 use lms_params::OutOfMemory;
-use lms_texts::{LevelsTextFault, SeedFault, print_line};
+use lms_texts::{LevelsTextFault, SeedFault};
 use lms_world::WorldFault;
 use std::io::Write;
 use std::{error, fmt};

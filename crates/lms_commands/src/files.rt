@@ -6,8 +6,7 @@ ghost use Rattle.lms_commands.specs.Logs.{IsLockRefused, IsReadRefused, IsWriteR
 
 use crate::fault::Fault;
 use lms_book::Book;
-use lms_params::OutOfMemory;
-use lms_world::{Contents, Taker, World, WorldFault};
+use lms_world::{Contents, LockFault, Taker, World, WorldFault};
 use std::alloc::Global;
 
 /// The bytes of a file. `ReadInput` where it can't be read, `OutOfMemory` where memory for it was
@@ -100,8 +99,8 @@ fn unwritten(cause: WorldFault) -> Fault
     }
 }
 
-/// The lock of a state. `StateInUse` where it is not available, `OutOfMemory` where memory for its
-/// name was refused.
+/// The lock of a state. `StateInUse` where it is held, can't be acquired or can't be reached,
+/// `OutOfMemory` where memory for it was refused.
 pub(crate) fn lock_state<W: World>(
     alloc: Global,
     world: &mut W,
@@ -113,9 +112,9 @@ pub(crate) fn lock_state<W: World>(
         (W.memory world.old) (W.memory world.new) }
 {
     match world.lock(alloc, state) {
-        Ok(Some(lock)) => Ok(lock),
-        Ok(None) => Err(Fault::StateInUse),
-        Err(OutOfMemory) => Err(Fault::OutOfMemory),
+        Ok(lock) => Ok(lock),
+        Err(LockFault::InUse | LockFault::Unreachable) => Err(Fault::StateInUse),
+        Err(LockFault::OutOfMemory) => Err(Fault::OutOfMemory),
     }
 }
 

@@ -1,11 +1,11 @@
 //! `keygen`: a new key's state, and its public key.
-ghost use Rattle.std.specs.Prelude.{◌++◌, ◌≡◌, ◌⊎◌, IfErr, IfOk, OnOk};
+ghost use Rattle.std.specs.Prelude.{◌++◌, ◌≡◌, ◌⊎◌, Some, IfErr, IfOk, OnOk};
 ghost use Rattle.lms_image.specs.Image.{image_of};
-ghost use Rattle.lms_book.specs.Stops.{WritesStore};
+ghost use Rattle.lms_book.specs.Stops.{WritesStore, after_write};
 ghost use Rattle.lms_commands.specs.Keygen.{IsKeyOf, IsNoKey, IsTaken};
 ghost use Rattle.lms_texts.specs.Seeds.{on_input};
 ghost use Rattle.lms_commands.specs.Logs.{FailsToPublish, Publishes};
-ghost use Rattle.lms_commands.specs.KeygenLogs.{capacity_line, LogsKeygen, LogsKeygenFailed, LogsUnmade, LogsUnstored, PublishesKey, StoresKey};
+ghost use Rattle.lms_commands.specs.KeygenLogs.{AreGenuineTrees, capacity_line, LeavesUnstored, LogsKeygen, LogsKeygenFailed, LogsUnmade, LogsUnstored, PublishesKey, StoresKey};
 ghost use Rattle.lms_world.specs.Held.{Follows};
 
 use crate::fault::Fault;
@@ -114,8 +114,7 @@ fn make_locked<W: World, O: Write>(
     if world.exists(lock) {
         return Err(Fault::StateExists);
     }
-    let trees = KeptTrees::top(resources.rt, resources.alloc, key, resources.progress)?;
-    store_key(resources.alloc, world, lock, key)?;
+    let trees = store_key(resources, world, lock, key)?;
     keep_trees(resources.alloc, world, lock, &trees);
     let text = trees.public();
     publish(resources.alloc, world, public, &text, &key, output)
@@ -144,34 +143,54 @@ pub(crate) fn publish<W: World, O: Write>(
     Ok(print_capacity(output, key.capacity())?)
 }
 
-/// Stores a key's state, that of the lock, with no index used. `OutOfMemory`, or `WriteState` where
-/// it was not stored for certain.
+/// Computes a key's top tree and stores the key's state, that of the lock, with no index used.
+/// `OutOfMemory`, before a leaf is computed, where memory for the state's store or for the tree is
+/// refused, and nothing is written then; or `WriteState` where it was not stored for certain.
 fn store_key<W: World>(
-    alloc: Global,
+    resources: &Resources<impl Threads + Sync, impl Progress>,
     world: &mut W,
     lock: &W::Lock,
     key: HssKey,
-) -> Result<(), Fault>
+) -> Result<KeptTrees, Fault>
     ensures logged { OnOk result (StoresKey key (W.events world.old) (W.events world.new)) }
+    ensures trees { IfOk result (λ trees. AreGenuineTrees key (Some trees)) }
     ensures unstored { IfErr result (λ fault.
         LogsUnstored key fault (W.events world.old) (W.events world.new)) }
     ensures follows { Follows (W.memory world.old) (W.events world.old)
         (W.memory world.new) (W.events world.new) }
 {
-    let mut store = world.take_store(alloc, lock)?;
-    let stored = store_unused(&mut store, key);
+    let mut store = world.take_store(resources.alloc, lock)?;
+    let made = store_with_trees(resources, &mut store, key);
     world.put_back(lock, store);
-    match stored {
-        Ok(()) => Ok(()),
+    made
+}
+
+/// Computes a key's top tree, and then stores the key's image with no index used. `OutOfMemory`,
+/// before a leaf is computed, where memory for the tree is refused, and the store is as it was; or
+/// `WriteState` where the image was not stored for certain.
+fn store_with_trees<S: StateStore>(
+    resources: &Resources<impl Threads + Sync, impl Progress>,
+    store: &mut S,
+    key: HssKey,
+) -> Result<KeptTrees, Fault>
+    ensures stored { OnOk result (
+        S.seen store.new ≡ after_write (image_of key 0 0 0) (S.seen store.old)) }
+    ensures trees { IfOk result (λ trees. AreGenuineTrees key (Some trees)) }
+    ensures unstored { IfErr result (λ fault.
+        LeavesUnstored key fault (S.seen store.old) (S.seen store.new)) }
+{
+    let trees = KeptTrees::top(resources.rt, resources.alloc, key, resources.progress)?;
+    match store_unused(store, &key) {
+        Ok(()) => Ok(trees),
         Err(_) => Err(Fault::WriteState),
     }
 }
 
 /// Stores a key's image with no index used. A crash at any moment leaves what it could leave
 /// before, or that image.
-fn store_unused<S: StateStore>(store: &mut S, key: HssKey) -> Result<(), StoreFault>
-    ensures { WritesStore (image_of key 0 0 0) (S.seen store.old) result (S.seen store.new) }
+fn store_unused<S: StateStore>(store: &mut S, key: &HssKey) -> Result<(), StoreFault>
+    ensures { WritesStore (image_of key.now 0 0 0) (S.seen store.old) result (S.seen store.new) }
 {
-    let image = encode_image(&Image::unused(key));
+    let image = encode_image(&Image::unused(*key));
     store.replace(image.as_slice())
 }

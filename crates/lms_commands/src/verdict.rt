@@ -1,12 +1,11 @@
 //! What verification says, and its printed line.
 ghost use Rattle.std.specs.Prelude.{◌≡◌, OnErr, OnOk};
 ghost use Rattle.std.specs.Io.KnownBytes.{Appends};
-ghost use Rattle.lms_lines.specs.AnswerLines.{AppendsFront};
+ghost use Rattle.lms_blocks.specs.Writing.{AppendsFront};
 ghost use Rattle.lms_commands.specs.Verdicts.{line_of, verdict_status};
 
 use crate::status::Status;
-use lms_lines::WriteFault;
-use lms_texts::print_line;
+use lms_blocks::{WriteFault, print_line};
 use std::io::Write;
 
 /// What verification says of a signature.

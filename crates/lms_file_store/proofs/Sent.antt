@@ -21,6 +21,8 @@ text_is_sent = search (sendable, crosses) depth 20
 record_is_sent : IsSend entry.the_row
 record_is_sent = search (text_is_sent, sendable, crosses) depth 20
 
-pub store_is_sent : (κ : NamedLft) (files file names : RattleType) (reads : read.Ghosts file.Denot) (wrote : written.Ghosts file.Denot) (seeks : seek.Ghosts file.Denot) (listed : read.Ghosts names.Denot)
+pub store_is_sent : (κ : NamedLft) (files file names : RattleType) (reads : read.Ghosts file.Denot)
+    (wrote : written.Ghosts file.Denot) (seeks : seek.Ghosts file.Denot) (listed : read.Ghosts names.Denot)
     → IsSync files → IsSend (store.the_row κ files file names reads wrote seeks listed)
-store_is_sent κ files file names reads wrote seeks listed shared = search (shared, last_read_is_sent, record_is_sent, sendable, crosses) depth 20
+store_is_sent κ files file names reads wrote seeks listed shared =
+    search (shared, last_read_is_sent, record_is_sent, sendable, crosses) depth 20

@@ -1,5 +1,6 @@
 -- A store in a file: what it wrote since it was made, and what a crash leaves by that.
-use Rattle.std.specs.Prelude.{◌≡◌, ◌⊎◌, ℕ, ◌<◌, ◌≤◌, List, [], ◌∷◌, ◌++◌, codes, length, reverse, take, Contains, if◌then◌else◌, Bool, true, false, Result, Ok, Err, Option, Some, None}
+use Rattle.std.specs.Prelude.{◌≡◌, ◌⊎◌, ℕ, ◌<◌, ◌≤◌, List, [], ◌∷◌, ◌++◌, codes, length, reverse, take, Contains}
+use Rattle.std.specs.Prelude.{if◌then◌else◌, Bool, true, false, Result, Ok, Err, Option, Some, None}
 use Rattle.std.specs.Global.{Vec}
 use Rattle.std.specs.Path.{dot, path_parent}
 use Rattle.lms_book.specs.declared.fault.ReadFault.{ReadFault}

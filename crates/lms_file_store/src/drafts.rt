@@ -30,22 +30,11 @@ pub(crate) fn place_draft<R: Files>(
     draft: &str,
     name: &str,
 ) -> io::Result<()> {
-    let placed = fill_and_rename(files, file, text, draft, name);
+    let placed = fill(file, text).and_then(|()| fs::rename(files, draft, name));
     if placed.is_err() {
         let _ = fs::remove_file(files, draft);
     }
     placed
-}
-
-fn fill_and_rename<R: Files>(
-    files: &R,
-    file: R::File,
-    text: &[u8],
-    draft: &str,
-    name: &str,
-) -> io::Result<()> {
-    fill(file, text)?;
-    fs::rename(files, draft, name)
 }
 
 /// Writes the bytes to a file, flushes it and closes it.

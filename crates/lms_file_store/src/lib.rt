@@ -12,6 +12,7 @@
 #![tactic(auto)]
 
 mod drafts;
+mod fault;
 mod file_store;
 mod locking;
 mod nodes;
@@ -19,6 +20,7 @@ mod outputs;
 mod paths;
 mod record;
 
+pub use crate::fault::LockFault;
 pub use crate::file_store::FileStore;
 pub use crate::locking::{StateLock, TryLock, lock};
 pub use crate::outputs::{write_flushed, write_output};

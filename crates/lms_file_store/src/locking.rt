@@ -1,8 +1,8 @@
 //! The lock on a store's file.
-ghost use Rattle.std.specs.Prelude.{◌≡◌, IfOk, IfSome, IsTrue, string_bytes};
+ghost use Rattle.std.specs.Prelude.{◌≡◌, IfOk, IsTrue, string_bytes};
 
+use crate::fault::LockFault;
 use crate::paths::{OWNER_ONLY, exists, resolve, sibling};
-use lms_params::OutOfMemory;
 use std::alloc::Global;
 use std::fs::{File, OpenOptions};
 use std::io::ErrorKind;
@@ -52,35 +52,35 @@ impl<F> StateLock<F> {
 }
 
 /// Locks the state of this name, without waiting, against other programs that call this, until the
-/// lock is dropped. `None` where another holds the lock, its file can't be made, or the name can't
-/// be resolved. `OutOfMemory` where memory for its path, or to open its file, is refused.
+/// lock is dropped. `Unreachable` where the state's name can't be resolved or the lock's file can't
+/// be opened, `InUse` where that file can't be locked, `OutOfMemory` where memory for its path, or
+/// to open it, is refused.
 ///
 /// The locked file is `NAME.lock` beside the state, where NAME is that of the state's file after
 /// symbolic links. It stays there and must not be removed: two programs could then hold a lock
 /// each, one on the old file and one on a new one.
-pub fn lock<R: Files>(
-    files: &R,
-    alloc: Global,
-    name: &str,
-) -> Result<Option<StateLock<R::File>>, OutOfMemory>
+pub fn lock<R: Files>(files: &R, alloc: Global, name: &str) -> Result<StateLock<R::File>, LockFault>
 where
     R::File: TryLock,
-    ensures { IfOk result (λ locked. IfSome locked (λ lock. R.File.is_locked lock.file)) }
+    ensures { IfOk result (λ lock. R.File.is_locked lock.file) }
 {
     let path = match resolve(files, alloc, name) {
         Ok(path) => path,
-        Err(error) if error.kind() == ErrorKind::OutOfMemory => return Err(OutOfMemory),
-        Err(_) => return Ok(None),
+        Err(error) if error.kind() == ErrorKind::OutOfMemory => return Err(LockFault::OutOfMemory),
+        Err(_) => return Err(LockFault::Unreachable),
     };
-    let beside = sibling(alloc, path.as_str(), ".lock")?;
+    let Ok(beside) = sibling(alloc, path.as_str(), ".lock") else {
+        return Err(LockFault::OutOfMemory);
+    };
     let opened = OpenOptions::new()
         .write(true)
         .create(true)
         .mode(OWNER_ONLY)
         .open(files, beside.as_str());
     match opened {
-        Ok(file) if file.try_lock() => Ok(Some(StateLock { path, file })),
-        Err(error) if error.kind() == ErrorKind::OutOfMemory => Err(OutOfMemory),
-        _ => Ok(None),
+        Ok(file) if file.try_lock() => Ok(StateLock { path, file }),
+        Ok(_) => Err(LockFault::InUse),
+        Err(error) if error.kind() == ErrorKind::OutOfMemory => Err(LockFault::OutOfMemory),
+        Err(_) => Err(LockFault::Unreachable),
     }
 }

@@ -1,8 +1,9 @@
+mod locks;
 mod nodes;
 mod outputs;
 
 use lms_book::{ReadFault, StateStore, StoreFault};
-use lms_file_store::{FileStore, StateLock, lock};
+use lms_file_store::{FileStore, LockFault, StateLock, lock};
 use std::fs;
 use std::fs::{File, Permissions};
 use std::io::ErrorKind;
@@ -36,8 +37,8 @@ fn reads(rt: &HostRuntime, store: &mut FileStore<HostRuntime>, text: &[u8]) -> b
 /// another store. `None` where the lock can't be had, or memory is refused.
 fn store_over<'a>(rt: &'a HostRuntime, name: &str) -> Option<FileStore<'a, HostRuntime>> {
     match lock(rt, rt.alloc(), name) {
-        Ok(Some(held)) => FileStore::locked(rt.alloc(), rt, &held).ok(),
-        _ => None,
+        Ok(held) => FileStore::locked(rt.alloc(), rt, &held).ok(),
+        Err(_) => None,
     }
 }
 
@@ -145,9 +146,12 @@ fn is_lost_with(rt: &HostRuntime, folder: &str, name: &str) -> Result<bool, Fail
     Ok(refuses(&mut store, b"b") && reads_none(rt, &mut store, ReadFault::Device))
 }
 
-/// Whether the lock on a state of this name can be had.
-fn can_be_locked(rt: &HostRuntime, name: &str) -> Result<bool, Fail> {
-    Ok(lock(rt, rt.alloc(), name)?.is_some())
+/// Why the lock on a state of this name can't be had. `None` where it can.
+fn lock_fault(rt: &HostRuntime, name: &str) -> Option<LockFault> {
+    match lock(rt, rt.alloc(), name) {
+        Ok(_) => None,
+        Err(fault) => Some(fault),
+    }
 }
 
 #[test]
@@ -163,9 +167,16 @@ fn what_can_not_be_reached_fails(rt: HostRuntime) -> Result<(), Fail> {
             "file_store_faults/folder/state"
         )?
     );
-    assert!(rt; !can_be_locked(&rt, "file_store_faults/file/state")?);
-    assert!(rt; !can_be_locked(&rt, "file_store_faults/none/state")?);
-    assert!(rt; !can_be_locked(&rt, "file_store_faults/link")?);
+    for name in [
+        "file_store_faults/file/state",
+        "file_store_faults/none/state",
+        "file_store_faults/link",
+    ] {
+        assert!(rt;
+            lock_fault(&rt, name) == Some(LockFault::Unreachable),
+            "{name}"
+        );
+    }
     assert!(rt; holds(&rt, "file_store_faults/file", b"a")?);
     fs::remove_dir_all(&rt, "file_store_faults")?;
     Ok(())
@@ -298,9 +309,7 @@ fn a_link_is_followed(rt: HostRuntime) -> Result<(), Fail> {
 /// Whether the lock on a state is had by this name, and still leads to it once the name is removed:
 /// the state is there, and its store takes a write.
 fn leads_past(rt: &HostRuntime, name: &str, text: &[u8]) -> Result<bool, Fail> {
-    let Some(held) = lock(rt, rt.alloc(), name)? else {
-        return Ok(false);
-    };
+    let held = lock(rt, rt.alloc(), name)?;
     fs::remove_file(rt, name)?;
     let mut store = FileStore::locked(rt.alloc(), rt, &held)?;
     Ok(held.is_of_a_state(rt) && takes(&mut store, text) && reads(rt, &mut store, text))
@@ -314,35 +323,6 @@ fn a_lock_leads_to_its_store(rt: HostRuntime) -> Result<(), Fail> {
     assert!(rt; holds(&rt, "file_store_links/real/state", b"b")?);
     assert!(rt; is_missing(&rt, "file_store_links/link"));
     fs::remove_dir_all(&rt, "file_store_links")?;
-    Ok(())
-}
-
-/// Whether the lock on a state can be had by one name, and while it is held, not by another.
-fn locks_both(rt: &HostRuntime, name: &str, other: &str) -> Result<bool, Fail> {
-    let held = lock(rt, rt.alloc(), name)?;
-    Ok(held.is_some() && !can_be_locked(rt, other)?)
-}
-
-#[test]
-fn a_link_is_locked_as_its_state(rt: HostRuntime) -> Result<(), Fail> {
-    make_link(&rt)?;
-    assert!(rt; locks_both(&rt, "file_store_links/link", "file_store_links/real/state")?);
-    fs::remove_dir_all(&rt, "file_store_links")?;
-    Ok(())
-}
-
-#[test]
-fn one_holds_the_lock(rt: HostRuntime) -> Result<(), Fail> {
-    empty_folder(&rt, "file_store_lock")?;
-    let first = lock(&rt, rt.alloc(), "file_store_lock/state")?;
-    assert!(rt; first.is_some());
-    assert!(rt; !can_be_locked(&rt, "file_store_lock/state")?);
-    assert!(rt; can_be_locked(&rt, "file_store_lock/other")?);
-    assert!(rt; !can_be_locked(&rt, "file_store_lock/none/state")?);
-    drop(first);
-    assert!(rt; can_be_locked(&rt, "file_store_lock/state")?);
-    assert!(rt; mode_of(&rt, "file_store_lock/state.lock")? == 0o600);
-    fs::remove_dir_all(&rt, "file_store_lock")?;
     Ok(())
 }
 
@@ -379,7 +359,7 @@ fn what_can_not_be_looked_up_exists(rt: HostRuntime) -> Result<(), Fail> {
     empty_folder(&rt, "file_store_names")?;
     fs::create_dir(&rt, "file_store_names/folder")?;
     let name = "file_store_names/folder/state";
-    let held = lock(&rt, rt.alloc(), name)?.ok_or("the lock is free")?;
+    let held = lock(&rt, rt.alloc(), name)?;
     assert!(rt; !held.is_of_a_state(&rt));
     assert!(rt; takes_each_thing(&rt, &held, name)?);
     assert!(rt; !held.is_of_a_state(&rt));

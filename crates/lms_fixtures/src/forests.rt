@@ -1,22 +1,22 @@
 //! What signs the indices of a key.
-ghost use Rattle.std.specs.Prelude.{◌≡◌, ◌≤◌, IfOk};
-ghost use Rattle.lms_hss.specs.Covered.{most_covered};
+ghost use Rattle.std.specs.Prelude.{◌≡◌, IfOk};
 
 use lms_hss::{Forest, HssKey};
 use lms_params::OutOfMemory;
 use std::thread::Threads;
 
-/// What signs `len` indices of a key from `start` on.
+/// What signs `len` indices of a key from `start` on, 1 to 1024.
 pub fn forest_of(
     rt: &(impl AllocGlobal + Threads + Sync),
     key: HssKey,
     start: u64,
     len: u64,
 ) -> Result<Forest, &'static str>
-    requires some { 1 ≤ len }
-    requires at_most { len ≤ most_covered }
     ensures { IfOk result (λ forest. forest ≡ record { key = key; start = start; len = len }) }
 {
+    if len < 1 || len > 1024 {
+        return Err("as many indices as a forest covers");
+    }
     if key.capacity() < len || key.capacity() - len < start {
         return Err("the key has these indices");
     }

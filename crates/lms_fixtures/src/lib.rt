@@ -1,6 +1,7 @@
-//! What crates of tests share: keys, stores, books, leases, and what signs their indices. The merge
-//! check runs tests with each request for memory refused in turn (`tests/run refused_memory`), so
-//! each call here asks a second time. An error says what was expected.
+//! What crates of tests share: keys, stores, books, leases, what signs their indices, and counts of
+//! what is reported. The merge check runs tests with each request for memory refused in turn
+//! (`tests/run refused_memory`), so each call here asks a second time. An error says what was
+//! expected.
 #![tactic(auto)]
 
 mod books;

@@ -1,9 +1,12 @@
 -- The trees of a level, and those of the next.
-use Rattle.std.proofs.Common.{ℕ, suc, ◌≡◌, ◌+◌, ◌-◌, ◌*◌, ◌/◌, ◌^◌, ◌<◌, ◌≤◌, List, [], ◌∷◌, ◌++◌, length, map, drop, get_or, refl, sym, ◌∙◌, ap, ap₂, arith, subst, ⊎_elim, pow_pos, append_assoc, length-append, shr-shr}
+use Rattle.std.proofs.Common.{ℕ, suc, ◌≡◌, ◌+◌, ◌-◌, ◌*◌, ◌/◌, ◌^◌, ◌<◌, ◌≤◌, List, [], ◌∷◌, ◌++◌, length, map, drop}
+use Rattle.std.proofs.Common.{get_or, refl, sym, ◌∙◌, ap, ap₂, arith, subst, ⊎_elim, pow_pos, append_assoc}
+use Rattle.std.proofs.Common.{length-append, shr-shr}
 use Rattle.std.specs.List.{concat}
 use Rattle.std.proofs.lemmas.List.{get_or_append_left}
 use Rattle.std.proofs.Math.Seq.{get_or-append_seam}
-use Rattle.std.proofs.Math.Nat.{eq-or-lt_of_le, div-eq_of_lt, mul-div_cancel, div-mul-le_self, div-lt_iff_lt-mul, le-div_iff_mul-le}
+use Rattle.std.proofs.Math.Nat.{eq-or-lt_of_le, div-eq_of_lt, mul-div_cancel, div-mul-le_self, div-lt_iff_lt-mul}
+use Rattle.std.proofs.Math.Nat.{le-div_iff_mul-le}
 use Rattle.std.proofs.lemmas.Nat.{le-div}
 use Rattle.lms_spec.specs.Bytes.{below, u32str}
 use Rattle.lms_spec.specs.Tree.{Tree, public_key_of, lms_signature}
@@ -40,7 +43,8 @@ pub number-order : (key : HssKey) (k g g' : ℕ) → g ≤ g' → tree_number ke
 number-order key k g g' order = part-order g g' (height_of (drop k key.levels)) order
 
 -- an index from a range goes through each tree between those of its ends
-pub some-index : (key : HssKey) (k start last n : ℕ) → start ≤ last → tree_number key start k ≤ n → n ≤ tree_number key last k
+pub some-index : (key : HssKey) (k start last n : ℕ) → start ≤ last → tree_number key start k ≤ n
+    → n ≤ tree_number key last k
     → (g : ℕ) × (start ≤ g) × (g ≤ last) × (tree_number key g k ≡ n)
 some-index key k start last n order from to =
     let size = 2 ^ height_of (drop k key.levels) in
@@ -69,8 +73,10 @@ pub top-number : (key : HssKey) (g : ℕ) → g < capacity_of key → tree_numbe
 top-number key g low = div-eq_of_lt low
 
 -- the tree of level 0 is the key's top tree
-pub top-is : (key : HssKey) (start last : ℕ) (level : LevelTrees) (tree : SignedTree) → HoldsLevel key 0 start last level → start ≤ last
-    → last < capacity_of key → tree ≡ get_or level.trees.items (0 - level.first) tree → tree_of tree.tree.key ≡ tree_at key 0 0
+pub top-is : (key : HssKey) (start last : ℕ) (level : LevelTrees) (tree : SignedTree)
+    → HoldsLevel key 0 start last level → start ≤ last
+    → last < capacity_of key → tree ≡ get_or level.trees.items (0 - level.first) tree
+    → tree_of tree.tree.key ≡ tree_at key 0 0
 top-is key start last level tree held order within found =
     let zero = top-number key start (omega arith) in
     let here : tree ≡ get_or level.trees.items (tree_number key start 0 - level.first) tree
@@ -80,38 +86,45 @@ top-is key start last level tree held order within found =
     (subst (IsSignedTree key start 0) (sym here) is).tree
 
 -- the tree below a leaf
-pub tree-below : (key : HssKey) (g k : ℕ) → tree_at key g (k + 1) ≡ child (tree_at key g k) (leaf_at key g k) (level_at key (k + 1))
+pub tree-below : (key : HssKey) (g k : ℕ)
+    → tree_at key g (k + 1) ≡ child (tree_at key g k) (leaf_at key g k) (level_at key (k + 1))
 tree-below key g k =
     let next : suc k ≡ k + 1 = omega arith in
     subst (λ n. tree_at key g n ≡ child (tree_at key g k) (leaf_at key g k) (level_at key n)) next refl
 
 -- the tree below the leaf that an index goes through
-pub signed-child : (key : HssKey) (g k q : ℕ) (sets : LmsType × OtsType) (leaves : Leaves) (parent tree : SignedTree) → IsSignedTree key g k parent → q ≡ leaf_at key g k
+pub signed-child : (key : HssKey) (g k q : ℕ) (sets : LmsType × OtsType) (leaves : Leaves) (parent tree : SignedTree)
+    → IsSignedTree key g k parent → q ≡ leaf_at key g k
     → level_of sets ≡ level_at key (k + 1) → leaves.first ≤ leaf_at key g (k + 1) → leaf_at key g (k + 1) ≤ leaves.last
     → IsChild parent q sets leaves tree → IsSignedTree key g (k + 1) tree
 unfolding signed_key
 signed-child key g k q sets leaves parent tree is leaf at from to made =
     let count = u32str (length key.levels - 1) in
     let before = concat (map (signed_key key g) (below k)) in
-    let signed : Tree → ℕ → Tree → List ℕ = λ t q next. lms_signature t q (derived t q for_randomizer) (public_key_of next) in
+    let signed : Tree → ℕ → Tree → List ℕ =
+    λ t q next. lms_signature t q (derived t q for_randomizer) (public_key_of next) in
     let here : tree_of tree.tree.key ≡ tree_at key g (k + 1)
     = made.tree
     ∙ (ap (child (tree_of parent.tree.key) q) at
     ∙ (ap₂ (λ t q. child t q (level_at key (k + 1))) is.tree leaf ∙ sym (tree-below key g k))) in
     let parts : tree.head.items ≡ (count ++ before) ++ signed_key key g k
     = made.head
-    ∙ (ap₂ (λ head t. head ++ signed t q (tree_of tree.tree.key) ++ public_key_of (tree_of tree.tree.key)) is.head is.tree
+    ∙ (ap₂ (λ head t.
+    head ++ signed t q (tree_of tree.tree.key) ++ public_key_of (tree_of tree.tree.key)) is.head is.tree
     ∙ (ap₂ (λ q next. (count ++ before) ++ signed (tree_at key g k) q next ++ public_key_of next) leaf here
-    ∙ append_assoc (count ++ before) (signed (tree_at key g k) (leaf_at key g k) (tree_at key g (k + 1))) (public_key_of (tree_at key g (k + 1))))) in
+    ∙ append_assoc (count ++ before) (signed (tree_at key g k) (leaf_at key g k) (tree_at key g (k + 1)))
+    (public_key_of (tree_at key g (k + 1))))) in
     record {
       tree = here;
       from = omega (arith, made.first, from);
       to = omega (arith, made.last, to);
-      head = parts ∙ (append_assoc count before (signed_key key g k) ∙ ap (λ text. count ++ text) (sym (concat-below-suc (signed_key key g) k)));
+      head = parts ∙ (append_assoc count before (signed_key key g k)
+          ∙ ap (λ text. count ++ text) (sym (concat-below-suc (signed_key key g) k)));
     }
 
 -- one more tree of a level
-pub holds-more : (key : HssKey) (k start last first n : ℕ) (trees : List SignedTree) (tree : SignedTree) → HoldsTrees key k start last first trees
+pub holds-more : (key : HssKey) (k start last first n : ℕ) (trees : List SignedTree) (tree : SignedTree)
+    → HoldsTrees key k start last first trees
     → first + length trees ≡ n → ((g : ℕ) → start ≤ g → g ≤ last → tree_number key g k ≡ n → IsSignedTree key g k tree)
     → HoldsTrees key k start last first (trees ++ tree ∷ [])
 holds-more key k start last first n trees tree held count is g other after before from to =
@@ -131,21 +144,29 @@ pub parent-is : (key : HssKey) (k start last n p : ℕ) (level : LevelTrees) (pa
     → parent ≡ get_or level.trees.items (p - level.first) parent
     → (g : ℕ) → start ≤ g → g ≤ last → tree_number key g (k + 1) ≡ n → IsSignedTree key g k parent
 parent-is key k start last n p level parent there held at found g from to e =
-    let same : tree_number key g k ≡ p = sym (number-above key g k there) ∙ (ap (λ m. m / 2 ^ (level_at key k).lms.h) e ∙ sym at) in
+    let same : tree_number key g k ≡ p =
+    sym (number-above key g k there) ∙ (ap (λ m. m / 2 ^ (level_at key k).lms.h) e ∙ sym at) in
     let after = number-order key k start g from in
     let before = number-order key k g last to in
     let here = held.held g parent from to (omega (arith, held.first, after)) (omega (arith, held.count, before)) in
-    subst (IsSignedTree key g k) (sym found) (subst (λ m. IsSignedTree key g k (get_or level.trees.items (m - level.first) parent)) same here)
+    subst (IsSignedTree key g k) (sym found)
+    (subst (λ m. IsSignedTree key g k (get_or level.trees.items (m - level.first) parent)) same here)
 
 -- the bottom tree of an index that is covered is among those held
-pub bottom-to : (key : KeyOfCode) (start len g : ℕ) (bottom : LevelTrees) → HoldsBottom key start len bottom → g < start + len
+pub bottom-to : (key : KeyOfCode) (start len g : ℕ) (bottom : LevelTrees) → HoldsBottom key start len bottom
+    → g < start + len
     → tree_number (hss_key_of key) g (length key.levels - 1) < bottom.first + length bottom.trees.items
 bottom-to key start len g bottom held to =
     let k = length key.levels - 1 in
-    omega (arith, held.level.count, number-order (hss_key_of key) k g (start + (len - 1)) (omega (arith, held.some_index)))
+    omega (
+      arith,
+      held.level.count,
+      number-order (hss_key_of key) k g (start + (len - 1)) (omega (arith, held.some_index)),
+    )
 
 -- the bottom tree of an index that is covered
-pub bottom-is : (key : KeyOfCode) (start len g : ℕ) (bottom : LevelTrees) (tree : SignedTree) → HoldsBottom key start len bottom
+pub bottom-is : (key : KeyOfCode) (start len g : ℕ) (bottom : LevelTrees) (tree : SignedTree)
+    → HoldsBottom key start len bottom
     → start ≤ g → g < start + len
     → tree ≡ get_or bottom.trees.items (tree_number (hss_key_of key) g (length key.levels - 1) - bottom.first) tree
     → IsSignedTree (hss_key_of key) g (length key.levels - 1) tree
@@ -154,11 +175,14 @@ bottom-is key start len g bottom tree held from to found =
     let k = length key.levels - 1 in
     let after = number-order whole k start g from in
     subst (IsSignedTree whole g k) (sym found)
-    (held.level.held g tree from (omega (arith, held.some_index, to)) (omega (arith, held.level.first, after)) (bottom-to key start len g bottom held to))
+    (held.level.held g tree from (omega (arith, held.some_index, to)) (omega (arith, held.level.first, after))
+    (bottom-to key start len g bottom held to))
 
 -- what the bottom tree of an index signs is the signature by that index
-pub signature-is : (key : HssKey) (g k q : ℕ) (tree : SignedTree) (randomizer message : List ℕ) → IsSignedTree key g k tree → k ≡ length key.levels - 1
-    → q ≡ leaf_at key g k → tree.head.items ++ lms_signature (tree_of tree.tree.key) q randomizer message ≡ hss_signature key g randomizer message
+pub signature-is : (key : HssKey) (g k q : ℕ) (tree : SignedTree) (randomizer message : List ℕ)
+    → IsSignedTree key g k tree → k ≡ length key.levels - 1
+    → q ≡ leaf_at key g k → tree.head.items ++ lms_signature (tree_of tree.tree.key) q randomizer message
+    ≡ hss_signature key g randomizer message
 signature-is key g k q tree randomizer message is bottom leaf =
     ap₂ (λ head t. head ++ lms_signature t q randomizer message) is.head is.tree
     ∙ (ap (λ q. signature_head key g k ++ lms_signature (tree_at key g k) q randomizer message) leaf

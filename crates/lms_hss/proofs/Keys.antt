@@ -16,10 +16,13 @@ pub capacity-limit : (key : HssKey) → IsAdmitted key.levels → capacity_of (h
 capacity-limit key admitted = pow_mono {i = height_of (levels_of key.levels)} {j = most_height} admitted.not_too_tall
 
 -- its signatures are accepted
-pub key-accepts : (key : HssKey) (g : ℕ) (randomizer message : List ℕ) → IsAdmitted key.levels → length key.i ≡ 16 → length randomizer ≡ 32
+pub key-accepts : (key : HssKey) (g : ℕ) (randomizer message : List ℕ) → IsAdmitted key.levels → length key.i ≡ 16
+    → length randomizer ≡ 32
     → HssAccepts (hss_public_key (hss_key_of key)) message (hss_signature (hss_key_of key) g randomizer message)
 key-accepts key g randomizer message admitted sixteen long =
     let count = length-map key.levels level_of in
     let known : All HasKnownSets (levels_of key.levels)
-    = All-map HasKnownSets level_of key.levels (λ i other h. let sets = get_or key.levels i other in (known_lms_set sets.0, known_ots_set sets.1)) in
-    hss-accepts (hss_key_of key) g randomizer message (omega (arith, count, admitted.some_level)) (omega (arith, count, admitted.eight_at_most)) known sixteen long
+    = All-map HasKnownSets level_of key.levels
+    (λ i other h. let sets = get_or key.levels i other in (known_lms_set sets.0, known_ots_set sets.1)) in
+    hss-accepts (hss_key_of key) g randomizer message (omega (arith, count, admitted.some_level))
+    (omega (arith, count, admitted.eight_at_most)) known sixteen long

@@ -1,5 +1,6 @@
 -- The leaves of a tree that a range of indices goes through.
-use Rattle.std.proofs.Common.{ℕ, ◌≡◌, ◌+◌, ◌-◌, ◌*◌, ◌/◌, ◌^◌, ◌<◌, ◌≤◌, length, sym, ◌∙◌, ap, arith, lit≤, pow_pos, drop}
+use Rattle.std.proofs.Common.{ℕ, ◌≡◌, ◌+◌, ◌-◌, ◌*◌, ◌/◌, ◌^◌, ◌<◌, ◌≤◌, length, sym, ◌∙◌, ap, arith, lit≤, pow_pos}
+use Rattle.std.proofs.Common.{drop}
 use Rattle.std.proofs.Math.Nat.{mul-le-mul_left, add-mul-div_right, div-lt_iff_lt-mul, le-div_iff_mul-le}
 use Rattle.std.proofs.Math.Pow.{shr_mono}
 use Rattle.std.proofs.lemmas.Nat.{shr_split}
@@ -41,8 +42,13 @@ range-leaves key k start last number there order from to =
     let low = number-above key start k there in
     let high = number-above key last k there in
     let before : number * 2 ^ h ≤ tree_number key last (k + 1) = (le-div_iff_mul-le (pow_pos h)).0 (omega arith) in
-    let after : tree_number key start (k + 1) < (number + 1) * 2 ^ h = (div-lt_iff_lt-mul (pow_pos h)).0 (omega arith) in
-    (before, omega arith, number-order key (k + 1) start last order, shr-near last start (height_of (drop (k + 1) key.levels)) order)
+    let after : tree_number key start (k + 1) < (number + 1) * 2 ^ h =
+    (div-lt_iff_lt-mul (pow_pos h)).0 (omega arith) in (
+      before,
+      omega arith,
+      number-order key (k + 1) start last order,
+      shr-near last start (height_of (drop (k + 1) key.levels)) order,
+    )
 
 -- where an index's leaf is in its level
 pub leaf-place : (key : HssKey) (g k number : ℕ) → k < length key.levels → tree_number key g k ≡ number

@@ -19,10 +19,12 @@ levels_are_sent : IsSend levels.the_row
 levels_are_sent = search sendable depth 20
 
 pub key_is_shared : IsSync (Struct (shape key.the_type))
-key_is_shared = struct_sync (shape key.the_type) (levels_are_shared, (search sendable depth 20, (search sendable depth 20, tt)))
+key_is_shared =
+    struct_sync (shape key.the_type) (levels_are_shared, (search sendable depth 20, (search sendable depth 20, tt)))
 
 pub key_is_sent : IsSend (Struct (shape key.the_type))
-key_is_sent = struct_send (shape key.the_type) (levels_are_sent, (search sendable depth 20, (search sendable depth 20, tt)))
+key_is_sent =
+    struct_send (shape key.the_type) (levels_are_sent, (search sendable depth 20, (search sendable depth 20, tt)))
 
 tree_is_shared : IsSync band_tree.the_row
 tree_is_shared = search (sendable, crosses) depth 20
@@ -31,10 +33,20 @@ signed_is_shared : IsSync (Struct (shape signed.the_type))
 signed_is_shared = struct_sync (shape signed.the_type) (tree_is_shared, (Vec-sync u8 (search sendable depth 20), tt))
 
 trees_are_shared : IsSync (Struct (shape level_trees.the_type))
-trees_are_shared = struct_sync (shape level_trees.the_type) (search sendable depth 20, (search (signed_is_shared, sendable, crosses) depth 20, tt))
+trees_are_shared = struct_sync (shape level_trees.the_type)
+    (search sendable depth 20, (search (signed_is_shared, sendable, crosses) depth 20, tt))
 
 pub forest_is_shared : IsSync forest.the_row
 forest_is_shared =
-    let fields : IsSync (Struct (shape inside.the_type)) = struct_sync (shape inside.the_type)
-    (key_is_shared, (search sendable depth 20, (search sendable depth 20, (search sendable depth 20, (trees_are_shared, (search (sendable, crosses) depth 20, tt)))))) in
-    view_sync inside.the_row _ _ _ _ (recorded_sync (Struct (shape inside.the_type)) inside.the_type.D inside.the_type.to inside.the_type.to_one fields)
+    let fields : IsSync (Struct (shape inside.the_type)) = struct_sync (shape inside.the_type) (
+      key_is_shared,
+      (
+        search sendable depth 20,
+        (
+          search sendable depth 20,
+          (search sendable depth 20, (trees_are_shared, (search (sendable, crosses) depth 20, tt))),
+        ),
+      ),
+    ) in
+    view_sync inside.the_row _ _ _ _
+    (recorded_sync (Struct (shape inside.the_type)) inside.the_type.D inside.the_type.to inside.the_type.to_one fields)

@@ -17,7 +17,9 @@ level-there levels k other there =
     ∙ get_or_default (levels_of levels) k (level_of other) no_level (omega (arith, length-map levels level_of))
 
 -- the sets of level k of a key, by its list of levels
-pub sets-of : (key : KeyOfCode) (levels : List (LmsType × OtsType)) (k : ℕ) (other : LmsType × OtsType) → levels ≡ key.levels → k < length key.levels
+pub sets-of : (key : KeyOfCode) (levels : List (LmsType × OtsType)) (k : ℕ) (other : LmsType × OtsType)
+    → levels ≡ key.levels → k < length key.levels
     → level_of (get_or levels k other) ≡ level_at (hss_key_of key) k
 sets-of key levels k other same there =
-    level-there levels k other (omega (arith, there, ap length same)) ∙ ap (λ levels. get_or (levels_of levels) k no_level) same
+    level-there levels k other (omega (arith, there, ap length same))
+    ∙ ap (λ levels. get_or (levels_of levels) k no_level) same

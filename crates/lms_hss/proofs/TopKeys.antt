@@ -15,7 +15,8 @@ accepts-by-numbers levels signed_keys public_key top_key message signature signa
       let most_of_a = a.eight_at_most in
       let number : a.levels ≡ levels = first-number-same a.levels levels a.top_key top_key (omega arith) fits front in
       let top : a.top_key ≡ top_key = rest-same a.levels levels a.top_key top_key front in
-      let others : a.signatures ≡ signatures = rest-same (a.levels - 1) signed_keys a.signatures signatures (sym a.signature_parts ∙ es) in
+      let others : a.signatures ≡ signatures =
+      rest-same (a.levels - 1) signed_keys a.signatures signatures (sym a.signature_parts ∙ es) in
       let count : a.levels - 1 ≡ signed_keys = ap (λ n. n - 1) number ∙ sym one_less in
       rw (count, top, others) at a.accepted,
   λ accepted. record {

@@ -1,8 +1,8 @@
 -- The trees that a range of indices goes through, and what is above them.
-use Rattle.std.specs.Prelude.{ℕ, ◌≡◌, ◌+◌, ◌-◌, ◌^◌, ◌<◌, ◌≤◌, List, ◌++◌, length, map, slice_index_or}
+use Rattle.std.specs.Prelude.{ℕ, ◌≡◌, ◌+◌, ◌-◌, ◌*◌, ◌^◌, ◌<◌, ◌≤◌, List, ◌++◌, length, map, min, slice_index_or}
 use Rattle.std.specs.List.{concat}
 use Rattle.lms_spec.specs.Bytes.{below, u32str}
-use Rattle.lms_spec.specs.Hss.{HssKey}
+use Rattle.lms_spec.specs.Hss.{HssKey, level as level_at}
 use Rattle.lms_spec.specs.Profile.{tree_at, leaf_at, signed_key, child, derived, for_randomizer}
 use Rattle.lms_spec.specs.Tree.{lms_signature, public_key_of}
 use Rattle.lms_params.specs.declared.lms_type.LmsType.{LmsType}
@@ -21,6 +21,15 @@ pub record AreLeaves (h : ℕ) (leaves : Leaves) : Type 0 where
   pub order : leaves.first ≤ leaves.last
   pub in_tree : leaves.last < 2 ^ h
   pub at_most : leaves.last - leaves.first < most_served
+
+-- the leaves of tree `number` of level k that the indices from `start` to `end` go through
+pub record AreLeavesOf (key : HssKey) (k number start end : ℕ) (leaves : Leaves) : Type 0 where
+  pub first : leaves.first ≡ tree_number key start (k + 1) - number * 2 ^ (level_at key k).lms.h
+  pub last : leaves.last
+      ≡ min (tree_number key end (k + 1) - number * 2 ^ (level_at key k).lms.h) (2 ^ (level_at key k).lms.h - 1)
+  pub served : AreLeaves (level_at key k).lms.h leaves
+  pub from : (g : ℕ) → start ≤ g → tree_number key g k ≡ number → leaves.first ≤ leaf_at key g k
+  pub to : (g : ℕ) → g ≤ end → tree_number key g k ≡ number → leaf_at key g k ≤ leaves.last
 
 -- what a signature by index g has before level k's own (6.2)
 abbrev pub signature_head : HssKey → ℕ → ℕ → List ℕ

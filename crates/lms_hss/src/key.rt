@@ -1,5 +1,5 @@
 //! The private key of HSS, and what its indices go through.
-ghost use Rattle.std.specs.Prelude.{ℕ, ◌≡◌, ◌↔◌, ◌+◌, ◌-◌, ◌*◌, ◌/◌, ◌%◌, ◌^◌, ◌<◌, ◌≤◌, ◌++◌, length, map, min, replicate, IfOk, IsTrue};
+ghost use Rattle.std.specs.Prelude.{◌≡◌, ◌↔◌, ◌-◌, ◌/◌, ◌%◌, ◌^◌, ◌<◌, ◌≤◌, ◌++◌, length, map, replicate, IfOk, IsTrue};
 ghost use Rattle.lms_spec.specs.Bytes.{below, u32str};
 ghost use Rattle.lms_spec.specs.Hss.{hss_signature_length, capacity_of, level, most_levels};
 ghost use Rattle.lms_spec.specs.Profile.{hss_public_key, leaf_at, tree_at};
@@ -7,7 +7,7 @@ ghost use Rattle.lms_tree.specs.TreeKey.{tree_of};
 ghost use Rattle.lms_hss.specs.Levels.{levels_of, most_height};
 ghost use Rattle.lms_hss.specs.Covered.{most_covered};
 ghost use Rattle.lms_hss.specs.Keys.{hss_key_of, tree_number as number_of};
-ghost use Rattle.lms_hss.specs.Forests.{AreLeaves};
+ghost use Rattle.lms_hss.specs.Forests.{AreLeavesOf};
 
 use crate::child_key::child_key;
 use crate::levels::{Levels, MOST_LEVELS};
@@ -157,19 +157,7 @@ impl HssKey {
         requires at_most { last - start < most_covered }
         requires from { number_of (hss_key_of self.now) start k ≤ number }
         requires to { number ≤ number_of (hss_key_of self.now) last k }
-        ensures first { result.first
-            ≡ number_of (hss_key_of self.now) start (k + 1) - number * 2 ^
-            (level (hss_key_of self.now) k).lms.h }
-        ensures last { result.last
-            ≡ min
-            (number_of (hss_key_of self.now) last (k + 1) - number * 2 ^
-            (level (hss_key_of self.now) k).lms.h)
-            (2 ^ (level (hss_key_of self.now) k).lms.h - 1) }
-        ensures leaves { AreLeaves (level (hss_key_of self.now) k).lms.h result }
-        ensures from { (g : ℕ) → start ≤ g → number_of (hss_key_of self.now) g k ≡ number
-            → result.first ≤ leaf_at (hss_key_of self.now) g k }
-        ensures to { (g : ℕ) → g ≤ last → number_of (hss_key_of self.now) g k ≡ number
-            → leaf_at (hss_key_of self.now) g k ≤ result.last }
+        ensures { AreLeavesOf (hss_key_of self.now) k number start last result }
     {
         let (lms, _) = self.levels.as_slice()[k];
         let before = number << lms.height();

@@ -7,14 +7,10 @@ mod keys;
 mod pieces;
 mod verification;
 
-use lms_hss::{Forest, HssKey, KeyFault, Levels};
 use lms_params::{LmsType, OtsType};
 use lms_slow::vectors::{VECTORS, Vector};
 use lms_slow::{PlantedTexts, SlowKey, slow_public, slow_sign};
 use std::alloc::{AllocError, Global};
-use std::process::Abort;
-use std::test::Fail;
-use std::thread::Threads;
 
 const RANDOMIZER: [u8; 32] = [0x33; 32];
 
@@ -56,33 +52,4 @@ fn signed(alloc: Global, levels: &[(LmsType, OtsType)], g: u64) -> Result<Plante
     let public = slow_public(alloc, &key)?;
     let signature = slow_sign(alloc, &key, g, &RANDOMIZER, b"abc")?;
     Ok(PlantedTexts { public, signature })
-}
-
-/// The key of these levels.
-fn key_of(levels: &[(LmsType, OtsType)]) -> Result<HssKey, KeyFault> {
-    Ok(HssKey::new(Levels::new(levels)?, [0x11; 32], [0x22; 16]))
-}
-
-/// What signs these indices, which a key has.
-fn cover(
-    rt: &(impl Abort + AllocGlobal + Threads + Sync),
-    key: HssKey,
-    start: u64,
-    len: u64,
-) -> Result<Forest, Fail> {
-    let capacity = key.capacity();
-    assert!(rt; len >= 1 && len <= 1024 && start <= capacity && len <= capacity - start);
-    Ok(Forest::cover(rt, rt.alloc(), key, start, len)?)
-}
-
-/// The signature of a message by an index that is covered.
-fn sign(
-    rt: &impl Abort,
-    forest: &Forest,
-    g: u64,
-    c: &[u8; 32],
-    msg: &[u8],
-) -> Result<Vec<u8>, Fail> {
-    assert!(rt; forest.covers(g), "{g}");
-    Ok(forest.sign(g, c, msg)?)
 }

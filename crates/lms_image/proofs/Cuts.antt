@@ -1,5 +1,6 @@
 -- Bytes, cut into the parts of an image.
-use Rattle.std.proofs.Common.{ℕ, zero, suc, ◌≡◌, ◌+◌, ◌*◌, ◌^◌, ◌<◌, ◌≤◌, List, ◌++◌, length, take, drop, get_or, All, ⊎_elim, refl, sym, ◌∙◌, ap, ap₂, arith, subst, length-take, length-drop, take-append-drop}
+use Rattle.std.proofs.Common.{ℕ, zero, suc, ◌≡◌, ◌+◌, ◌*◌, ◌^◌, ◌<◌, ◌≤◌, List, ◌++◌, length, take, drop, get_or, All}
+use Rattle.std.proofs.Common.{⊎_elim, refl, sym, ◌∙◌, ap, ap₂, arith, subst, length-take, length-drop, take-append-drop}
 use Rattle.std.specs.List.{concat}
 use Rattle.std.specs.Simd.{first_chunks}
 use Rattle.std.specs.Int.{w32, w64, from_be_bytes}
@@ -23,7 +24,8 @@ pub bytes-take : (k : ℕ) (bytes : List ℕ) → IsBytes bytes → IsBytes (tak
 bytes-take k bytes small i =
     ⊎_elim
     (λ (lt : i < k). omega (arith, small i, get_or-take k bytes i 0 lt))
-    (λ (ge : k ≤ i). let past : get_or (take k bytes) i 0 ≡ 0 = get_or_past (take k bytes) i 0 (omega (arith, length-take k bytes)) in omega arith)
+    (λ (ge : k ≤ i). let past : get_or (take k bytes) i 0 ≡ 0 =
+    get_or_past (take k bytes) i 0 (omega (arith, length-take k bytes)) in omega arith)
     (cases_lt i k)
 
 pub bytes-drop : (k : ℕ) (bytes : List ℕ) → IsBytes bytes → IsBytes (drop k bytes)
@@ -78,21 +80,27 @@ reads-later Second text small long =
     let behind_long = length-drop 8 text in
     let openings = from_be_bytes w64 (take 8 text) in
     let burnt = from_be_bytes w64 (take 8 behind) in
-    let first : text ≡ u64str openings ++ behind = eight-and-rest text (take 8 text) behind openings small (omega (arith, long)) refl refl refl in
+    let first : text ≡ u64str openings ++ behind =
+    eight-and-rest text (take 8 text) behind openings small (omega (arith, long)) refl refl refl in
     let second : behind ≡ u64str burnt ++ drop 8 behind
-    = eight-and-rest behind (take 8 behind) (drop 8 behind) burnt behind_small (omega (arith, long, behind_long)) refl refl refl in (
+    = eight-and-rest behind (take 8 behind) (drop 8 behind) burnt behind_small
+    (omega (arith, long, behind_long)) refl refl refl in (
       openings,
       burnt,
       drop 8 behind,
       record {
-        are = (eight-fit (take 8 text) (bytes-take 8 text small), eight-fit (take 8 behind) (bytes-take 8 behind behind_small));
+        are = (
+          eight-fit (take 8 text) (bytes-take 8 text small),
+          eight-fit (take 8 behind) (bytes-take 8 behind behind_small),
+        );
         parts = first ∙ ap (λ x. u64str openings ++ x) second;
         long = omega (arith, long, behind_long, length-drop 8 behind);
       },
     )
 
 -- what follows a count of levels, cut at their length
-pub cut-parts : (count : ℕ) (rest front after seed after_seed id after_id after_counter digest : List ℕ) (levels : List (List ℕ))
+pub cut-parts : (count : ℕ) (rest front after seed after_seed id after_id after_counter digest : List ℕ)
+    (levels : List (List ℕ))
     (v : Version) (counter openings burnt : ℕ)
     → IsBytes rest → length rest ≡ 88 + later_length v + 8 * count
     → front ≡ take (8 * count) rest → after ≡ drop (8 * count) rest
@@ -102,17 +110,29 @@ pub cut-parts : (count : ℕ) (rest front after seed after_seed id after_id afte
     → after_id ≡ u64str counter ++ after_counter → counter < 2 ^ 64
     → ReadsLater v after_counter openings burnt digest
     → IsCut count rest
-    (record { version = v; levels = levels; seed = seed; id = id; counter = counter; openings = openings; burnt = burnt }) digest
-cut-parts count rest front after seed after_seed id after_id after_counter digest levels v counter openings burnt small long ef ea es eas ei eai el ec fits later =
+    (record {
+      version = v;
+      levels = levels;
+      seed = seed;
+      id = id;
+      counter = counter;
+      openings = openings;
+      burnt = burnt;
+    }) digest
+cut-parts count rest front after seed after_seed id after_id after_counter digest levels v counter openings burnt small
+    long ef ea es eas ei eai el ec fits later =
     let k = 8 * count in
     let after_small : IsBytes after = subst IsBytes (sym ea) (bytes-drop k rest small) in
     let after_seed_small : IsBytes after_seed = subst IsBytes (sym eas) (bytes-drop 32 after after_small) in
     let front_long : length front ≡ k = ap length ef ∙ length-take-le k rest (omega arith) in
     let after_long : length after ≡ 88 + later_length v = ap length ea ∙ omega (arith, length-drop k rest) in
-    let after_seed_long : length after_seed ≡ 56 + later_length v = ap length eas ∙ omega (arith, length-drop 32 after) in
-    let after_id_long : length after_id ≡ 40 + later_length v = ap length eai ∙ omega (arith, length-drop 16 after_seed) in
+    let after_seed_long : length after_seed ≡ 56 + later_length v =
+    ap length eas ∙ omega (arith, length-drop 32 after) in
+    let after_id_long : length after_id ≡ 40 + later_length v =
+    ap length eai ∙ omega (arith, length-drop 16 after_seed) in
     let pieces : concat levels ≡ front = ap concat el ∙ concat-chunks count front front_long in
-    let last : u64str counter ++ (later_text v openings burnt ++ digest) ≡ after_id = ap (λ x. u64str counter ++ x) (sym later.parts) ∙ sym ec in
+    let last : u64str counter ++ (later_text v openings burnt ++ digest) ≡ after_id =
+    ap (λ x. u64str counter ++ x) (sym later.parts) ∙ sym ec in
     let behind_seed : id ++ (u64str counter ++ (later_text v openings burnt ++ digest)) ≡ after_seed
     = ap₂ (λ x y. x ++ y) ei (last ∙ eai) ∙ take-append-drop 16 after_seed in
     let behind : seed ++ (id ++ (u64str counter ++ (later_text v openings burnt ++ digest))) ≡ after

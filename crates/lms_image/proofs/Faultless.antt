@@ -1,9 +1,12 @@
 -- Bytes without a fault are an image of some key and its numbers.
-use Rattle.std.proofs.Common.{ℕ, ◌≡◌, ◌+◌, ◌*◌, ◌^◌, ◌<◌, ◌≤◌, List, [], ◌∷◌, ◌++◌, length, map, take, drop, get_or, All, Bool, true, false, cond, Option, Some, None, ◌==◌, ◌||◌, nat_lt, is_some, sum_by, refl, sym, ◌∙◌, ap, ap₂, arith, ⊎_elim, length-drop, take-append-drop}
+use Rattle.std.proofs.Common.{ℕ, ◌≡◌, ◌+◌, ◌*◌, ◌^◌, ◌<◌, ◌≤◌, List, [], ◌∷◌, ◌++◌, length, map, take, drop, get_or}
+use Rattle.std.proofs.Common.{All, Bool, true, false, cond, Option, Some, None, ◌==◌, ◌||◌, nat_lt, is_some, sum_by}
+use Rattle.std.proofs.Common.{refl, sym, ◌∙◌, ap, ap₂, arith, ⊎_elim, length-drop, take-append-drop}
 use Rattle.std.specs.List.{list_all}
 use Rattle.std.specs.Simd.{first_chunks}
 use Rattle.std.specs.Int.{w32, w64, from_be_bytes}
-use Rattle.std.proofs.lemmas.Bool.{cases_lt, not_from_true, not-false, eqb-true, eqb-false, ltb-false, or_parts, and_parts, false≢true}
+use Rattle.std.proofs.lemmas.Bool.{cases_lt, not_from_true, not-false, eqb-true, eqb-false, ltb-false, or_parts}
+use Rattle.std.proofs.lemmas.Bool.{and_parts, false≢true}
 use Rattle.std.proofs.lemmas.Slice.Eq.{bytes_eq-Decides}
 use Rattle.std.proofs.lemmas.List.{length-take-le, length-map, drop-drop, get_or_past}
 use Rattle.std.proofs.lemmas.List.Elements.{All-head, All-tail}
@@ -24,28 +27,35 @@ use Rattle.lms_hss.specs.Levels.{levels_of, IsAdmitted}
 use Rattle.lms_hss.specs.Keys.{hss_key_of}
 use Rattle.lms_hss.specs.declared.key.HssKey.{HssKey as KeyOfCode}
 use Rattle.lms_image.specs.declared.fault.ImageFault.{ImageFault}
-use Rattle.lms_image.specs.declared.fault.ImageFault.TheVariants.{Truncated, NotAnImage, UnknownVersion, BadLevels, WrongLength, Damaged, BadType, TooTall, CounterTooHigh, OpeningTooHigh, BurntTooHigh}
+use Rattle.lms_image.specs.declared.fault.ImageFault.TheVariants.{Truncated, NotAnImage, UnknownVersion, BadLevels}
+use Rattle.lms_image.specs.declared.fault.ImageFault.TheVariants.{WrongLength, Damaged, BadType, TooTall}
+use Rattle.lms_image.specs.declared.fault.ImageFault.TheVariants.{CounterTooHigh, OpeningTooHigh, BurntTooHigh}
 use Rattle.lms_image.specs.declared.version.Version.{Version}
 use Rattle.lms_image.specs.declared.version.Version.TheVariants.{First, Second}
-use Rattle.lms_image.specs.Image.{Fields, magic, code_of, level_text, is_level, height_in, heights_in, number_at, stated_length, version_in, count_in, levels_in, counter_in, openings_in, burnt_in, body_in, digest_in, has_fault, faults, fault_of, IsImage, HasImage, later_length}
+use Rattle.lms_image.specs.Image.{Fields, magic, code_of, level_text, is_level, height_in, heights_in, number_at}
+use Rattle.lms_image.specs.Image.{stated_length, version_in, count_in, levels_in, counter_in, openings_in, burnt_in}
+use Rattle.lms_image.specs.Image.{body_in, digest_in, has_fault, faults, fault_of, IsImage, HasImage, later_length}
 use Rattle.lms_image.specs.Reading.{IsHeaded, IsCut, ReadsLater}
 use Rattle.lms_image.specs.Laws.{IsText, FaultlessAreImages}
 use Rattle.lms_image.proofs.Fields.{u32-at}
 use Rattle.lms_image.proofs.LevelTexts.{Is8, level-read, heights-of-texts}
 use Rattle.lms_image.proofs.Faults.{first_among, fault-of}
 use Rattle.lms_image.proofs.Parts.{laid-out, whole, length-by-code}
-use Rattle.lms_image.proofs.Cuts.{IsBytes, bytes-take, bytes-drop, four-fit, eight-fit, number-back, chunks-are-bytes, reads-later, cut-parts}
+use Rattle.lms_image.proofs.Cuts.{IsBytes, bytes-take, bytes-drop, four-fit, eight-fit, number-back, chunks-are-bytes}
+use Rattle.lms_image.proofs.Cuts.{reads-later, cut-parts}
 use Rattle.lms_image.proofs.Images.{read-image, read-counted, image-has-no-fault}
 
 -- ---- levels
 
-from_lms : (a : ℕ) (set : Option LmsSet) → lms_set a ≡ set → is_some set ≡ true → (t : LmsType) × (lms_set a ≡ Some (lms_set_of t))
+from_lms : (a : ℕ) (set : Option LmsSet) → lms_set a ≡ set → is_some set ≡ true
+    → (t : LmsType) × (lms_set a ≡ Some (lms_set_of t))
 from_lms a None e known = absurd (false≢true known)
 from_lms a (Some m) e known =
     by_lms_set (λ m. lms_set a ≡ Some m → (t : LmsType) × (lms_set a ≡ Some (lms_set_of t)))
     (λ e. (H5, e)) (λ e. (H10, e)) (λ e. (H15, e)) (λ e. (H20, e)) (λ e. (H25, e)) a m e e
 
-from_ots : (b : ℕ) (set : Option OtsSet) → ots_set b ≡ set → is_some set ≡ true → (t : OtsType) × (ots_set b ≡ Some (ots_set_of t))
+from_ots : (b : ℕ) (set : Option OtsSet) → ots_set b ≡ set → is_some set ≡ true
+    → (t : OtsType) × (ots_set b ≡ Some (ots_set_of t))
 from_ots b None e known = absurd (false≢true known)
 from_ots b (Some s) e known =
     by_ots_set (λ s. ots_set b ≡ Some s → (t : OtsType) × (ots_set b ≡ Some (ots_set_of t)))
@@ -57,7 +67,8 @@ named-lms a known = from_lms a (lms_set a) refl known
 named-ots : (b : ℕ) → is_some (ots_set b) ≡ true → (t : OtsType) × (ots_set b ≡ Some (ots_set_of t))
 named-ots b known = from_ots b (ots_set b) refl known
 
-named-level : (text : List ℕ) → length text ≡ 8 → IsBytes text → is_level text ≡ true → (sets : LmsType × OtsType) × (level_text sets ≡ text)
+named-level : (text : List ℕ) → length text ≡ 8 → IsBytes text → is_level text ≡ true
+    → (sets : LmsType × OtsType) × (level_text sets ≡ text)
 unfolding is_level
 named-level text eight small known =
     let a = from_be_bytes w32 (take 4 text) in
@@ -65,12 +76,15 @@ named-level text eight small known =
     let rest_long : length rest ≡ 4 = omega (arith, length-drop 4 text) in
     let b = from_be_bytes w32 (take 4 rest) in
     let rest_small = bytes-drop 4 text small in
-    let first : text ≡ u32str a ++ rest = number-and-rest text (take 4 text) rest a small (omega arith) refl refl refl in
-    let second : rest ≡ u32str b ++ drop 4 rest = number-and-rest rest (take 4 rest) (drop 4 rest) b rest_small (omega arith) refl refl refl in
+    let first : text ≡ u32str a ++ rest =
+    number-and-rest text (take 4 text) rest a small (omega arith) refl refl refl in
+    let second : rest ≡ u32str b ++ drop 4 rest =
+    number-and-rest rest (take 4 rest) (drop 4 rest) b rest_small (omega arith) refl refl refl in
     let fa = four-fit (take 4 text) (bytes-take 4 text small) in
     let fb = four-fit (take 4 rest) (bytes-take 4 rest rest_small) in
     let at_a : number_at 0 4 text ≡ a = u32-at 0 a text [] rest refl fa first in
-    let at_b : number_at 4 4 text ≡ b = u32-at 4 b text (u32str a) (drop 4 rest) refl fb (first ∙ ap (λ x. u32str a ++ x) second) in
+    let at_b : number_at 4 4 text ≡ b =
+    u32-at 4 b text (u32str a) (drop 4 rest) refl fb (first ∙ ap (λ x. u32str a ++ x) second) in
     let both = and_parts _ _ known in
     let lms = named-lms a (sym (ap (λ code. is_some (lms_set code)) at_a) ∙ both.0) in
     let ots = named-ots b (sym (ap (λ code. is_some (ots_set code)) at_b) ∙ both.1) in
@@ -87,7 +101,8 @@ named-levels (text ∷ texts) eight small known =
 
 -- ---- the faults that bytes have not
 
-not-taken : {X : Type 0} (b : Bool) (x : X) (rest : Option X) → cond b (Some x) rest ≡ None → (b ≡ false) × (rest ≡ None)
+not-taken : {X : Type 0} (b : Bool) (x : X) (rest : Option X) → cond b (Some x) rest ≡ None
+    → (b ≡ false) × (rest ≡ None)
 not-taken true x rest e = absurd (none-some x (sym e))
 not-taken false x rest e = (refl, e)
 
@@ -156,7 +171,8 @@ head-of text small is =
     let behind_small = bytes-drop 4 text small in
     let behind_long : 8 ≤ length behind = omega (arith, length-drop 4 text) in
     let version : take 4 behind ≡ u32str (code_of is.version)
-    = number-back (take 4 behind) (length-take-le 4 behind (omega arith)) (bytes-take 4 behind behind_small) ∙ ap u32str is.version_is in
+    = number-back (take 4 behind) (length-take-le 4 behind (omega arith)) (bytes-take 4 behind behind_small)
+    ∙ ap u32str is.version_is in
     let after = drop 8 text in
     let after_long : 4 ≤ length after = omega (arith, length-drop 8 text) in
     let count : take 4 after ≡ u32str (count_in text)
@@ -194,7 +210,8 @@ fields_in v text openings burnt = record {
 }
 
 text-long : (text : List ℕ) (is : IsClear text) → length text ≡ 100 + later_length is.version + 8 * count_in text
-text-long text is = is.length_is ∙ (ap (λ n. stated_length n (count_in text)) is.version_is ∙ length-by-code is.version (count_in text))
+text-long text is =
+    is.length_is ∙ (ap (λ n. stated_length n (count_in text)) is.version_is ∙ length-by-code is.version (count_in text))
 
 id-long : (text : List ℕ) (is : IsClear text) → length (after_id text) ≡ 40 + later_length is.version
 unfolding after_levels after_id
@@ -221,22 +238,26 @@ cut-of text small is openings burnt digest later =
     let all = text-long text is in
     let behind = id-long text is in
     let bytes = id-bytes text small in
-    cut-parts (count_in text) (drop 12 text) _ _ _ _ _ _ (drop 8 (after_id text)) digest _ is.version _ openings burnt (bytes-drop 12 text small)
+    cut-parts (count_in text) (drop 12 text) _ _ _ _ _ _ (drop 8 (after_id text)) digest _ is.version _ openings burnt
+    (bytes-drop 12 text small)
     (omega (arith, all, length-drop 12 text)) refl refl refl refl refl refl refl
-    (eight-and-rest (after_id text) (take 8 (after_id text)) (drop 8 (after_id text)) _ bytes (omega (arith, behind)) refl refl refl)
+    (eight-and-rest (after_id text) (take 8 (after_id text)) (drop 8 (after_id text)) _ bytes
+    (omega (arith, behind)) refl refl refl)
     (eight-fit (take 8 (after_id text)) (bytes-take 8 (after_id text) bytes)) later
 
 key_of : List (LmsType × OtsType) → List ℕ → List ℕ → KeyOfCode
 key_of levels seed id = record { levels = levels; seed = seed; i = id }
 
-admitted-of : (text : List ℕ) (texts : List (List ℕ)) (levels : List (LmsType × OtsType)) → IsClear text → levels_in text ≡ texts
+admitted-of : (text : List ℕ) (texts : List (List ℕ)) (levels : List (LmsType × OtsType)) → IsClear text
+    → levels_in text ≡ texts
     → length texts ≡ count_in text → map level_text levels ≡ texts → IsAdmitted levels
 admitted-of text texts levels is same counted e =
     let count = ap length e ∙ counted in
     let some = is.some_level in
     let most = is.eight_at_most in
     let low = is.heights in
-    let heights : heights_in text ≡ height_of (levels_of levels) = ap (sum_by height_in) (same ∙ sym e) ∙ heights-of-texts levels in
+    let heights : heights_in text ≡ height_of (levels_of levels) =
+    ap (sum_by height_in) (same ∙ sym e) ∙ heights-of-texts levels in
     record {
       some_level = omega (arith, length-map levels level_text);
       eight_at_most = omega (arith, length-map levels level_text);
@@ -245,24 +266,28 @@ admitted-of text texts levels is same counted e =
 
 -- an image of some key and its numbers
 IsSomeImage : List ℕ → Type 0
-IsSomeImage text = (key : KeyOfCode) × (counter openings burnt : ℕ) × HasImage key counter openings burnt × IsImage text key counter openings burnt
+IsSomeImage text = (key : KeyOfCode) × (counter openings burnt : ℕ) × HasImage key counter openings burnt
+    × IsImage text key counter openings burnt
 
 image-of-parts : (text : List ℕ) (f : Fields) (digest : List ℕ) → IsClear text
-    → IsHeaded text (drop 12 text) f.version (count_in text) → IsCut (count_in text) (drop 12 text) f digest → All IsBytes f.levels
+    → IsHeaded text (drop 12 text) f.version (count_in text) → IsCut (count_in text) (drop 12 text) f digest
+    → All IsBytes f.levels
     → IsSomeImage text
 unfolding key_of IsSomeImage
 image-of-parts text f digest clear head cut small =
     let laid = laid-out text (drop 12 text) (count_in text) f digest head cut in
     let right : digest ≡ sha256 (body_in text) = sym laid.digest_is ∙ clear.digest in
     let all = whole text f digest laid (not_from_true _ ((bytes_eq-Decides digest (sha256 (body_in text))).1 right)) in
-    let named = named-levels f.levels cut.level_lengths small (ap (list_all is_level) (sym laid.levels_are) ∙ clear.types) in
+    let named = named-levels f.levels cut.level_lengths small
+    (ap (list_all is_level) (sym laid.levels_are) ∙ clear.types) in
     let levels = named.0 in
     let admitted = admitted-of text f.levels levels clear laid.levels_are cut.level_count named.1 in
     let key = key_of levels f.seed f.id in
     let power : 2 ^ heights_in text ≡ capacity_of (hss_key_of key)
     = ap (λ h. 2 ^ h) (ap (sum_by height_in) (laid.levels_are ∙ sym named.1) ∙ heights-of-texts levels) in
     let counted = read-counted f (count_in text) (drop 12 text) digest key levels cut admitted refl refl refl
-    (omega (arith, laid.counter_is, clear.counter, power)) (omega (arith, laid.counter_is, laid.openings_are, clear.openings))
+    (omega (arith, laid.counter_is, clear.counter, power))
+    (omega (arith, laid.counter_is, laid.openings_are, clear.openings))
     (omega (arith, laid.counter_is, laid.burnt_are, clear.burnt)) in
     (key, f.counter, f.openings, f.burnt, counted, read-image text f key levels all named.1 refl refl refl cut.later)
 

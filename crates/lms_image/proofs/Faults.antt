@@ -1,6 +1,9 @@
 -- The first fault of bytes, fault by fault.
-use Rattle.std.proofs.Common.{ℕ, ◌≡◌, ◌+◌, ◌^◌, ◌<◌, ◌⊎◌, List, [], ◌∷◌, ◌++◌, length, take, drop, true, false, ◌==◌, ◌||◌, find, Option, Some, not, ⊎_elim, refl, sym, ◌∙◌, ap, subst, arith, append_assoc, length-append}
-use Rattle.std.proofs.lemmas.Bool.{cond-true, cond-false, lt-ltb, le-ltb, eq-eqb, ne_eqb, or_left, or_right, or_from, not_from_true, not_from_false, not-false}
+use Rattle.std.proofs.Common.{ℕ, ◌≡◌, ◌+◌, ◌^◌, ◌<◌, ◌⊎◌, List, [], ◌∷◌, ◌++◌, length, take, drop, true, false, ◌==◌}
+use Rattle.std.proofs.Common.{◌||◌, find, Option, Some, not, ⊎_elim, refl, sym, ◌∙◌, ap, subst, arith, append_assoc}
+use Rattle.std.proofs.Common.{length-append}
+use Rattle.std.proofs.lemmas.Bool.{cond-true, cond-false, lt-ltb, le-ltb, eq-eqb, ne_eqb, or_left, or_right, or_from}
+use Rattle.std.proofs.lemmas.Bool.{not_from_true, not_from_false, not-false}
 use Rattle.std.proofs.lemmas.Slice.Eq.{bytes_eq-Decides}
 use Rattle.std.specs.Str.{bytes_eq}
 use Rattle.lms_spec.specs.Bytes.{u32str}
@@ -20,10 +23,12 @@ pub fault-of : (text : List ℕ) → fault_of text ≡ first_among faults text
 unfolding fault_of
 fault-of text = refl
 
-pub found : (text : List ℕ) (f : ImageFault) (fs : List ImageFault) → has_fault f text ≡ true → first_among (f ∷ fs) text ≡ Some f
+pub found : (text : List ℕ) (f : ImageFault) (fs : List ImageFault) → has_fault f text ≡ true
+    → first_among (f ∷ fs) text ≡ Some f
 found text f fs e = cond-true (has_fault f text) (Some f) (first_among fs text) e
 
-pub missed : (text : List ℕ) (f : ImageFault) (fs : List ImageFault) → has_fault f text ≡ false → first_among (f ∷ fs) text ≡ first_among fs text
+pub missed : (text : List ℕ) (f : ImageFault) (fs : List ImageFault) → has_fault f text ≡ false
+    → first_among (f ∷ fs) text ≡ first_among fs text
 missed text f fs e = cond-false (has_fault f text) (Some f) (first_among fs text) e
 
 -- the first 12 bytes, cut into magic, version and count
@@ -33,23 +38,28 @@ pub record IsFront (text start rest : List ℕ) (version count : ℕ) : Type 0 w
   pub count_fits : count < 2 ^ 32
   pub parts : text ≡ start ++ (u32str version ++ (u32str count ++ rest))
 
-pub front-length : (text start rest : List ℕ) (version count : ℕ) → IsFront text start rest version count → length text ≡ 12 + length rest
+pub front-length : (text start rest : List ℕ) (version count : ℕ) → IsFront text start rest version count
+    → length text ≡ 12 + length rest
 front-length text start rest version count is =
     let four = is.start_length in
     ap length is.parts ∙ (length-append start (u32str version ++ (u32str count ++ rest)) ∙ omega arith)
 
-pub start-of : (text start rest : List ℕ) (version count : ℕ) → IsFront text start rest version count → take 4 text ≡ start
+pub start-of : (text start rest : List ℕ) (version count : ℕ) → IsFront text start rest version count
+    → take 4 text ≡ start
 start-of text start rest version count is =
     part-at 0 4 text [] start (u32str version ++ (u32str count ++ rest)) refl is.start_length is.parts
 
-pub version-of : (text start rest : List ℕ) (version count : ℕ) → IsFront text start rest version count → version_in text ≡ version
+pub version-of : (text start rest : List ℕ) (version count : ℕ) → IsFront text start rest version count
+    → version_in text ≡ version
 version-of text start rest version count is =
     u32-at 4 version text start (u32str count ++ rest) is.start_length is.version_fits is.parts
 
-pub count-of : (text start rest : List ℕ) (version count : ℕ) → IsFront text start rest version count → count_in text ≡ count
+pub count-of : (text start rest : List ℕ) (version count : ℕ) → IsFront text start rest version count
+    → count_in text ≡ count
 count-of text start rest version count is =
     let four = is.start_length in
-    u32-at 8 count text (start ++ u32str version) rest (length-append start (u32str version) ∙ omega arith) is.count_fits
+    u32-at 8 count text (start ++ u32str version) rest
+    (length-append start (u32str version) ∙ omega arith) is.count_fits
     (is.parts ∙ sym (append_assoc start (u32str version) (u32str count ++ rest)))
 
 pub truncated : (text : List ℕ) → length text < 12 → fault_of text ≡ Some Truncated
@@ -68,16 +78,19 @@ pub not-an-image : (text start rest : List ℕ) (version count : ℕ) → IsFron
 unfolding has_fault
 not-an-image text start rest version count is other =
     long-enough text start rest version count is
-    ∙ found text NotAnImage (drop 2 faults) (ap (λ t. not (bytes_eq t magic)) (start-of text start rest version count is) ∙ other)
+    ∙ found text NotAnImage (drop 2 faults)
+    (ap (λ t. not (bytes_eq t magic)) (start-of text start rest version count is) ∙ other)
 
 an-image : (text rest : List ℕ) (version count : ℕ) → IsFront text magic rest version count
     → fault_of text ≡ first_among (drop 2 faults) text
 unfolding has_fault
 an-image text rest version count is =
     long-enough text magic rest version count is
-    ∙ missed text NotAnImage (drop 2 faults) (ap (λ t. not (bytes_eq t magic)) (start-of text magic rest version count is))
+    ∙ missed text NotAnImage (drop 2 faults)
+    (ap (λ t. not (bytes_eq t magic)) (start-of text magic rest version count is))
 
-pub unknown-version : (text rest : List ℕ) (version count : ℕ) → IsFront text magic rest version count → (version ≡ 1 → ⊥) → (version ≡ 2 → ⊥)
+pub unknown-version : (text rest : List ℕ) (version count : ℕ) → IsFront text magic rest version count
+    → (version ≡ 1 → ⊥) → (version ≡ 2 → ⊥)
     → fault_of text ≡ Some UnknownVersion
 unfolding has_fault
 unknown-version text rest version count is not_first not_second =
@@ -100,7 +113,8 @@ known-version text rest v count is =
     ∙ missed text UnknownVersion (drop 3 faults)
     (not_from_true _ (is-known v (version_in text) (version-of text magic rest (code_of v) count is)))
 
-pub bad-levels : (text rest : List ℕ) (v : Version) (count : ℕ) → IsFront text magic rest (code_of v) count → (count ≡ 0) ⊎ (8 < count)
+pub bad-levels : (text rest : List ℕ) (v : Version) (count : ℕ) → IsFront text magic rest (code_of v) count
+    → (count ≡ 0) ⊎ (8 < count)
     → fault_of text ≡ Some BadLevels
 unfolding has_fault
 bad-levels text rest v count is bad =
@@ -115,7 +129,8 @@ code-fits First = omega arith
 code-fits Second = omega arith
 
 -- what is known of bytes that begin as an image
-pub front-of : (text rest : List ℕ) (v : Version) (count : ℕ) → IsHeaded text rest v count → IsFront text magic rest (code_of v) count
+pub front-of : (text rest : List ℕ) (v : Version) (count : ℕ) → IsHeaded text rest v count
+    → IsFront text magic rest (code_of v) count
 front-of text rest v count is =
     let most = is.eight_at_most in
     record { start_length = refl; version_fits = code-fits v; count_fits = omega arith; parts = is.parts }
@@ -129,7 +144,9 @@ clear-head text rest v count is =
     let some = is.some_level in
     let most = is.eight_at_most in
     known-version text rest v count front
-    ∙ missed text BadLevels (drop 4 faults) (or_from _ _ (ne_eqb (count_in text) 0 (λ (e : count_in text ≡ 0). absurd (omega arith))) (le-ltb 8 (count_in text) (omega arith)))
+    ∙ missed text BadLevels (drop 4 faults)
+    (or_from _ _ (ne_eqb (count_in text) 0 (λ (e : count_in text ≡ 0). absurd (omega arith)))
+    (le-ltb 8 (count_in text) (omega arith)))
 
 -- the first four bytes are those of an image
 pub headed : (text start rest : List ℕ) (version count : ℕ) → IsFront text start rest version count
@@ -144,6 +161,7 @@ headed text start rest version count is same =
     }
 
 -- the version is one that is read
-pub versioned : (text rest : List ℕ) (version count : ℕ) (v : Version) → IsFront text magic rest version count → version ≡ code_of v
+pub versioned : (text rest : List ℕ) (version count : ℕ) (v : Version) → IsFront text magic rest version count
+    → version ≡ code_of v
     → IsFront text magic rest (code_of v) count
 versioned text rest version count v is same = subst (λ n. IsFront text magic rest n count) same is

@@ -1,10 +1,13 @@
 -- The eight bytes of a level, and what they name.
-use Rattle.std.proofs.Common.{ℕ, ◌≡◌, ◌+◌, ◌*◌, ◌^◌, ◌<◌, ◌≤◌, List, [], ◌∷◌, ◌++◌, length, map, take, get_or, All, true, false, ◌==◌, if◌then◌else◌, Some, None, option_map, is_some, refl, sym, ◌∙◌, ap, ap₂, arith, sum_by, length-append, append_assoc}
+use Rattle.std.proofs.Common.{ℕ, ◌≡◌, ◌+◌, ◌*◌, ◌^◌, ◌<◌, ◌≤◌, List, [], ◌∷◌, ◌++◌, length, map, take, get_or, All}
+use Rattle.std.proofs.Common.{true, false, ◌==◌, if◌then◌else◌, Some, None, option_map, is_some, refl, sym, ◌∙◌, ap}
+use Rattle.std.proofs.Common.{ap₂, arith, sum_by, length-append, append_assoc}
 use Rattle.std.specs.Prelude.{unwrap_or, slice_set}
 use Rattle.std.specs.Prelude.Result.{Err}
 use Rattle.std.specs.List.{concat, list_all}
 use Rattle.std.proofs.lemmas.Bool.{and_from, and_left, and_right}
-use Rattle.std.proofs.lemmas.List.{take_more, take_more_set, take_all, append-nil, map-append, nil_from_length, length-map}
+use Rattle.std.proofs.lemmas.List.{take_more, take_more_set, take_all, append-nil, map-append, nil_from_length}
+use Rattle.std.proofs.lemmas.List.{length-map}
 use Rattle.std.proofs.lemmas.List.Folds.{concat-append}
 use Rattle.std.proofs.lemmas.List.Elements.{All-head, All-tail, All-map}
 use Rattle.std.proofs.lemmas.List.Sums.{sum_by-cons}
@@ -93,14 +96,16 @@ level_back text = (lms_of_code (number_at 0 4 text), ots_of_code (number_at 4 4 
 level-back : (sets : LmsType × OtsType) → level_back (level_text sets) ≡ sets
 unfolding level_back pair
 level-back sets =
-    ap₂ (λ lms ots. pair lms ots) (ap lms_of_code (lms-code sets) ∙ lms-back sets.0) (ap ots_of_code (ots-code sets) ∙ ots-back sets.1)
+    ap₂ (λ lms ots. pair lms ots) (ap lms_of_code (lms-code sets) ∙ lms-back sets.0)
+    (ap ots_of_code (ots-code sets) ∙ ots-back sets.1)
 
 levels-back : (levels : List (LmsType × OtsType)) → map level_back (map level_text levels) ≡ levels
 levels-back [] = refl
 levels-back (l ∷ levels) = ap₂ (λ x xs. x ∷ xs) (level-back l) (levels-back levels)
 
 -- levels with the same bytes are the same
-pub levels-same : (levels others : List (LmsType × OtsType)) → map level_text levels ≡ map level_text others → levels ≡ others
+pub levels-same : (levels others : List (LmsType × OtsType)) → map level_text levels ≡ map level_text others
+    → levels ≡ others
 levels-same levels others e = sym (levels-back levels) ∙ (ap (map level_back) e ∙ levels-back others)
 
 -- of several levels
@@ -108,7 +113,8 @@ pub levels-of-texts : (levels : List (LmsType × OtsType)) → list_all is_level
 levels-of-texts [] = refl
 levels-of-texts (l ∷ levels) = and_from _ _ (level-of-text l) (levels-of-texts levels)
 
-pub heights-of-texts : (levels : List (LmsType × OtsType)) → sum_by height_in (map level_text levels) ≡ height_of (levels_of levels)
+pub heights-of-texts : (levels : List (LmsType × OtsType))
+    → sum_by height_in (map level_text levels) ≡ height_of (levels_of levels)
 heights-of-texts [] = refl
 heights-of-texts (l ∷ levels) =
     let first = height-of-text l in
@@ -128,7 +134,8 @@ length-texts (text ∷ texts) long =
 
 -- one level more
 pub levels-more : (levels : List (LmsType × OtsType)) (i : ℕ) (other : LmsType × OtsType) → i < length levels
-    → concat (map level_text (take (i + 1) levels)) ≡ concat (map level_text (take i levels)) ++ level_text (get_or levels i other)
+    → concat (map level_text (take (i + 1) levels))
+    ≡ concat (map level_text (take i levels)) ++ level_text (get_or levels i other)
 levels-more levels i other there =
     ap (λ ls. concat (map level_text ls)) (take_more levels i other there)
     ∙ (ap concat (map-append level_text (take i levels) (get_or levels i other ∷ []))
@@ -136,7 +143,8 @@ levels-more levels i other there =
     ∙ ap (λ rest. concat (map level_text (take i levels)) ++ rest) (append-nil (level_text (get_or levels i other)))))
 
 -- the bytes of levels, with those of one more after them
-pub head-more : (prefix text next last : List ℕ) (levels : List (LmsType × OtsType)) (i a b : ℕ) (other : LmsType × OtsType) → i < length levels
+pub head-more : (prefix text next last : List ℕ) (levels : List (LmsType × OtsType)) (i a b : ℕ)
+    (other : LmsType × OtsType) → i < length levels
     → text ≡ prefix ++ concat (map level_text (take i levels)) → next ≡ text ++ u32str a → last ≡ next ++ u32str b
     → a ≡ (lms_set_of (get_or levels i other).0).code → b ≡ (ots_set_of (get_or levels i other).1).code
     → last ≡ prefix ++ concat (map level_text (take (i + 1) levels))
@@ -149,31 +157,38 @@ head-more prefix text next last levels i a b other there et en el ea eb =
     ∙ ap (λ x. prefix ++ x) (sym (levels-more levels i other there))))))
 
 -- the bytes of all levels
-pub head-whole : (text : List ℕ) (v : Version) (code i : ℕ) (levels own : List (LmsType × OtsType)) → code ≡ code_of v → levels ≡ own → length levels ≤ i
+pub head-whole : (text : List ℕ) (v : Version) (code i : ℕ) (levels own : List (LmsType × OtsType)) → code ≡ code_of v
+    → levels ≡ own → length levels ≤ i
     → text ≡ magic ++ u32str code ++ u32str (length levels) ++ concat (map level_text (take i levels))
     → text ≡ head_text v (map level_text own)
 unfolding head_text
 head-whole text v code i levels own is same all e =
-    e ∙ (ap₂ (λ n ls. magic ++ u32str n ++ u32str (length levels) ++ concat (map level_text ls)) is (take_all i levels all ∙ same)
-    ∙ ap (λ n. magic ++ u32str (code_of v) ++ u32str n ++ concat (map level_text own)) (ap length same ∙ sym (length-map own level_text)))
+    e ∙ (ap₂ (λ n ls. magic ++ u32str n ++ u32str (length levels) ++ concat (map level_text ls)) is
+    (take_all i levels all ∙ same)
+    ∙ ap (λ n. magic ++ u32str (code_of v) ++ u32str n ++ concat (map level_text own))
+    (ap length same ∙ sym (length-map own level_text)))
 
 -- a level whose typecodes are not both known
-pub unknown-lms : (text rest : List ℕ) (a : ℕ) → a < 2 ^ 32 → text ≡ u32str a ++ rest → None ≡ lms_set a → is_level text ≡ false
+pub unknown-lms : (text rest : List ℕ) (a : ℕ) → a < 2 ^ 32 → text ≡ u32str a ++ rest → None ≡ lms_set a
+    → is_level text ≡ false
 unfolding is_level
 unknown-lms text rest a small e none =
     and_left _ _
     (ap (λ code. is_some (lms_set code)) (u32-at 0 a text [] rest refl small e) ∙ ap is_some (sym none))
 
-pub unknown-ots : (text rest last : List ℕ) (a b : ℕ) → b < 2 ^ 32 → text ≡ u32str a ++ rest → rest ≡ u32str b ++ last → None ≡ ots_set b
+pub unknown-ots : (text rest last : List ℕ) (a b : ℕ) → b < 2 ^ 32 → text ≡ u32str a ++ rest → rest ≡ u32str b ++ last
+    → None ≡ ots_set b
     → is_level text ≡ false
 unfolding is_level
 unknown-ots text rest last a b small e e' none =
     and_right _ _
-    (ap (λ code. is_some (ots_set code)) (u32-at 4 b text (u32str a) last refl small (e ∙ ap (λ x. u32str a ++ x) e')) ∙ ap is_some (sym none))
+    (ap (λ code. is_some (ots_set code)) (u32-at 4 b text (u32str a) last refl small (e ∙ ap (λ x. u32str a ++ x) e'))
+    ∙ ap is_some (sym none))
 
 -- a level whose typecodes are known
 pub level-read : (text rest last : List ℕ) (a b : ℕ) (lms : LmsType) (ots : OtsType) → length text ≡ 8
-    → text ≡ u32str a ++ rest → rest ≡ u32str b ++ last → lms_set a ≡ Some (lms_set_of lms) → ots_set b ≡ Some (ots_set_of ots)
+    → text ≡ u32str a ++ rest → rest ≡ u32str b ++ last → lms_set a ≡ Some (lms_set_of lms)
+    → ots_set b ≡ Some (ots_set_of ots)
     → level_text (lms, ots) ≡ text
 unfolding level_text
 level-read text rest last a b lms ots eight e e' el eo =
@@ -184,7 +199,8 @@ level-read text rest last a b lms ots eight e e' el eo =
 -- ---- bytes that are read
 
 -- one level more is read
-pub sets-more : (sets : List (LmsType × OtsType)) (texts : List (List ℕ)) (k : ℕ) (s : LmsType × OtsType) → k < length sets → k < length texts
+pub sets-more : (sets : List (LmsType × OtsType)) (texts : List (List ℕ)) (k : ℕ) (s : LmsType × OtsType)
+    → k < length sets → k < length texts
     → map level_text (take k sets) ≡ take k texts → level_text s ≡ get_or texts k []
     → map level_text (take (k + 1) (slice_set sets k s)) ≡ take (k + 1) texts
 sets-more sets texts k s in_sets in_texts before e =
@@ -193,10 +209,13 @@ sets-more sets texts k s in_sets in_texts before e =
     ∙ (ap₂ (λ x y. x ++ y ∷ []) before e ∙ sym (take_more texts k [] in_texts)))
 
 -- what `Levels::new` refuses is a fault of the bytes
-pub refused-reads : (levels : List (LmsType × OtsType)) (texts : List (List ℕ)) → map level_text levels ≡ texts → 1 ≤ length texts → length texts ≤ 8
+pub refused-reads : (levels : List (LmsType × OtsType)) (texts : List (List ℕ)) → map level_text levels ≡ texts
+    → 1 ≤ length texts → length texts ≤ 8
     → (fault : KeyFault) → JudgesLevels levels (Err fault) → ReadsLevels texts (Err (refused_as fault))
-refused-reads levels texts e some most NoLevels judged = absurd (omega (arith, ap length e, length-map levels level_text))
-refused-reads levels texts e some most TooManyLevels judged = absurd (omega (arith, ap length e, length-map levels level_text))
+refused-reads levels texts e some most NoLevels judged =
+    absurd (omega (arith, ap length e, length-map levels level_text))
+refused-reads levels texts e some most TooManyLevels judged =
+    absurd (omega (arith, ap length e, length-map levels level_text))
 refused-reads levels texts e some most TooTall judged = (
   sym (ap (list_all is_level) e) ∙ levels-of-texts levels,
   omega (arith, judged.2, heights-of-texts levels, ap (sum_by height_in) e),

@@ -1,7 +1,9 @@
 -- What the faults of a state image print: their names.
 use Rattle.std.specs.Prelude.{ℕ, List, codes}
 use Rattle.lms_image.specs.declared.fault.ImageFault.{ImageFault}
-use Rattle.lms_image.specs.declared.fault.ImageFault.TheVariants.{Truncated, NotAnImage, UnknownVersion, BadLevels, WrongLength, Damaged, BadType, TooTall, CounterTooHigh, OpeningTooHigh, BurntTooHigh}
+use Rattle.lms_image.specs.declared.fault.ImageFault.TheVariants.{Truncated, NotAnImage, UnknownVersion, BadLevels}
+use Rattle.lms_image.specs.declared.fault.ImageFault.TheVariants.{WrongLength, Damaged, BadType, TooTall}
+use Rattle.lms_image.specs.declared.fault.ImageFault.TheVariants.{CounterTooHigh, OpeningTooHigh, BurntTooHigh}
 
 -- a fault's name, as it is printed
 abbrev pub image_fault_text : ImageFault → List ℕ

@@ -1,7 +1,9 @@
 -- The state image, in its two versions: the bytes that a store keeps of a key, of how many of its
 -- indices are used, of how many openings stored something and of how many indices were burnt. Its
 -- numbers are big-endian. Bytes are a list of numbers below 256.
-use Rattle.std.specs.Prelude.{ℕ, ◌≡◌, ◌⊎◌, ◌+◌, ◌-◌, ◌*◌, ◌^◌, ◌<◌, ◌≤◌, Bool, not, ◌||◌, ◌&&◌, ◌==◌, nat_lt, if◌then◌else◌, List, [], ◌∷◌, ◌++◌, length, map, take, drop, sum_by, find, All, Option, is_some, option_map, unwrap_or, codes}
+use Rattle.std.specs.Prelude.{ℕ, ◌≡◌, ◌⊎◌, ◌+◌, ◌-◌, ◌*◌, ◌^◌, ◌<◌, ◌≤◌, Bool, not, ◌||◌, ◌&&◌, ◌==◌, nat_lt}
+use Rattle.std.specs.Prelude.{if◌then◌else◌, List, [], ◌∷◌, ◌++◌, length, map, take, drop, sum_by, find, All, Option}
+use Rattle.std.specs.Prelude.{is_some, option_map, unwrap_or, codes}
 use Rattle.std.specs.List.{concat, list_all}
 use Rattle.std.specs.Str.{bytes_eq}
 use Rattle.std.specs.Simd.{first_chunks}
@@ -18,7 +20,9 @@ use Rattle.lms_hss.specs.Levels.{IsAdmitted, most_height}
 use Rattle.lms_hss.specs.Keys.{hss_key_of}
 use Rattle.lms_hss.specs.declared.key.HssKey.{HssKey as KeyOfCode}
 use Rattle.lms_image.specs.declared.fault.ImageFault.{ImageFault}
-use Rattle.lms_image.specs.declared.fault.ImageFault.TheVariants.{Truncated, NotAnImage, UnknownVersion, BadLevels, WrongLength, Damaged, BadType, TooTall, CounterTooHigh, OpeningTooHigh, BurntTooHigh}
+use Rattle.lms_image.specs.declared.fault.ImageFault.TheVariants.{Truncated, NotAnImage, UnknownVersion, BadLevels}
+use Rattle.lms_image.specs.declared.fault.ImageFault.TheVariants.{WrongLength, Damaged, BadType, TooTall}
+use Rattle.lms_image.specs.declared.fault.ImageFault.TheVariants.{CounterTooHigh, OpeningTooHigh, BurntTooHigh}
 use Rattle.lms_image.specs.declared.version.Version.{Version}
 use Rattle.lms_image.specs.declared.version.Version.TheVariants.{First, Second}
 

@@ -1,5 +1,6 @@
 -- What the functions that read an image say of its parts.
-use Rattle.std.specs.Prelude.{ℕ, ◌≡◌, ◌+◌, ◌*◌, ◌^◌, ◌<◌, ◌≤◌, List, ◌++◌, length, map, sum_by, All, Result, true, false}
+use Rattle.std.specs.Prelude.{ℕ, ◌≡◌, ◌+◌, ◌*◌, ◌^◌, ◌<◌, ◌≤◌, List, ◌++◌, length, map, sum_by, All, Result, true}
+use Rattle.std.specs.Prelude.{false}
 use Rattle.std.specs.Prelude.Result.{Ok, Err}
 use Rattle.std.specs.List.{concat, list_all}
 use Rattle.lms_spec.specs.Bytes.{u32str, u64str}
@@ -13,7 +14,8 @@ use Rattle.lms_image.specs.declared.fault.ImageFault.{ImageFault}
 use Rattle.lms_image.specs.declared.fault.ImageFault.TheVariants.{BadType, TooTall}
 use Rattle.lms_image.specs.declared.version.Version.{Version}
 use Rattle.lms_image.specs.declared.version.Version.TheVariants.{First, Second}
-use Rattle.lms_image.specs.Image.{Fields, magic, code_of, later_length, later_text, level_text, is_level, height_in, head_size, level_size, seed_size, id_size, digest_size}
+use Rattle.lms_image.specs.Image.{Fields, magic, code_of, later_length, later_text, level_text, is_level, height_in}
+use Rattle.lms_image.specs.Image.{head_size, level_size, seed_size, id_size, digest_size}
 
 -- bytes that begin as the image of this version and of this many levels does, and go on with these
 pub record IsHeaded (text rest : List ℕ) (version : Version) (count : ℕ) : Type 0 where

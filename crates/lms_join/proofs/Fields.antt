@@ -1,10 +1,12 @@
 -- What the fields of an endorsement say of the keys and the signature that contracts see.
-use Rattle.std.proofs.Common.{ℕ, ◌≡◌, ◌+◌, ◌-◌, ◌^◌, ◌<◌, ◌≤◌, ◌↔◌, List, ◌++◌, length, refl, sym, ◌∙◌, ap, arith, inl, inr, subst}
+use Rattle.std.proofs.Common.{ℕ, ◌≡◌, ◌+◌, ◌-◌, ◌^◌, ◌<◌, ◌≤◌, ◌↔◌, List, ◌++◌, length, refl, sym, ◌∙◌, ap, arith, inl}
+use Rattle.std.proofs.Common.{inr, subst}
 use Rattle.lms_spec.specs.Bytes.{u32str}
 use Rattle.lms_spec.specs.Hss.{HssAccepts}
 use Rattle.lms_hss.proofs.TopKeys.{accepts-by-numbers}
 use Rattle.lms_join.specs.Joined.{count_of, after_count, joined_public, joined_signature}
-use Rattle.lms_join.specs.Endorsements.{EndorsementParts, HoldsEndorsement, endorsement_of, HasCountUnder, LacksCountUnder}
+use Rattle.lms_join.specs.Endorsements.{EndorsementParts, HoldsEndorsement, endorsement_of, HasCountUnder}
+use Rattle.lms_join.specs.Endorsements.{LacksCountUnder}
 use Rattle.lms_join.proofs.Through.{cut-of-accepted}
 use Rattle.lms_join.proofs.Joins.{count-is, rest-is, joined-public-parts, joined-signature-parts, joined-exactly}
 
@@ -24,7 +26,8 @@ pub count-of-accepted : (public_key message signature : List ℕ) → HssAccepts
 count-of-accepted public_key message signature a =
     let most = a.eight_at_most in
     let levels : count_of public_key ≡ a.levels = count-is a.levels public_key a.top_key (omega arith) a.key_parts in
-    has-count (a.levels - 1) public_key signature a.signatures (omega arith) a.signature_parts (ap (λ n. n - 1) (sym levels))
+    has-count (a.levels - 1) public_key signature a.signatures (omega arith) a.signature_parts
+    (ap (λ n. n - 1) (sym levels))
 
 -- so none is accepted that lacks it
 pub never-accepted : (public_key signature message : List ℕ) → LacksCountUnder public_key signature
@@ -37,24 +40,30 @@ never-accepted public_key signature message (inr other) a =
 
 -- the number of levels of the signer's key
 pub signer-count : (top_levels signer_levels : ℕ) (top_key signatures signer_key : List ℕ) (parts : EndorsementParts)
-    → HoldsEndorsement top_levels signer_levels top_key signatures signer_key → endorsement_of top_levels signer_levels top_key signatures signer_key ≡ parts
+    → HoldsEndorsement top_levels signer_levels top_key signatures signer_key
+    → endorsement_of top_levels signer_levels top_key signatures signer_key ≡ parts
     → count_of parts.signer_public ≡ signer_levels
 signer-count top_levels signer_levels top_key signatures signer_key parts holds e =
     let most = holds.eight_at_most in
     ap (λ (parts : EndorsementParts). count_of parts.signer_public) (sym e)
     ∙ count-is signer_levels (u32str signer_levels ++ signer_key) signer_key (omega arith) refl
 
-pub public-of-fields : (top_levels signer_levels : ℕ) (top_key signatures signer_key : List ℕ) (parts : EndorsementParts)
-    → HoldsEndorsement top_levels signer_levels top_key signatures signer_key → endorsement_of top_levels signer_levels top_key signatures signer_key ≡ parts
+pub public-of-fields : (top_levels signer_levels : ℕ) (top_key signatures signer_key : List ℕ)
+    (parts : EndorsementParts)
+    → HoldsEndorsement top_levels signer_levels top_key signatures signer_key
+    → endorsement_of top_levels signer_levels top_key signatures signer_key ≡ parts
     → u32str (top_levels + signer_levels) ++ top_key ≡ joined_public parts.top_public parts.signer_public
 public-of-fields top_levels signer_levels top_key signatures signer_key parts holds e =
     let most = holds.eight_at_most in
-    sym (joined-public-parts top_levels signer_levels (u32str top_levels ++ top_key) top_key (u32str signer_levels ++ signer_key) signer_key
+    sym (joined-public-parts top_levels signer_levels (u32str top_levels ++ top_key) top_key
+    (u32str signer_levels ++ signer_key) signer_key
     (omega arith) (omega arith) refl refl)
     ∙ ap (λ (parts : EndorsementParts). joined_public parts.top_public parts.signer_public) e
 
-pub signature-of-fields : (top_levels signer_levels : ℕ) (top_key signatures signer_key : List ℕ) (parts : EndorsementParts) (n : ℕ) (signature text : List ℕ)
-    → HoldsEndorsement top_levels signer_levels top_key signatures signer_key → endorsement_of top_levels signer_levels top_key signatures signer_key ≡ parts
+pub signature-of-fields : (top_levels signer_levels : ℕ) (top_key signatures signer_key : List ℕ)
+    (parts : EndorsementParts) (n : ℕ) (signature text : List ℕ)
+    → HoldsEndorsement top_levels signer_levels top_key signatures signer_key
+    → endorsement_of top_levels signer_levels top_key signatures signer_key ≡ parts
     → signature ≡ u32str n ++ text
     → u32str (top_levels + signer_levels - 1) ++ signatures ++ signer_key ++ text
     ≡ joined_signature parts.top_public parts.endorsement parts.signer_public signature
@@ -64,11 +73,14 @@ signature-of-fields top_levels signer_levels top_key signatures signer_key parts
     (u32str top_levels ++ top_key) top_key (u32str (top_levels - 1) ++ signatures) signatures
     (u32str signer_levels ++ signer_key) signer_key signature text
     (omega arith) (omega arith) refl refl refl es)
-    ∙ ap (λ (parts : EndorsementParts). joined_signature parts.top_public parts.endorsement parts.signer_public signature) e
+    ∙ ap (λ (parts : EndorsementParts).
+    joined_signature parts.top_public parts.endorsement parts.signer_public signature) e
 
 -- what is joined is accepted exactly where the signer's signature is
-pub exact-of-fields : (top_levels signer_levels : ℕ) (top_key signatures signer_key : List ℕ) (parts : EndorsementParts) (signature text message : List ℕ)
-    → HoldsEndorsement top_levels signer_levels top_key signatures signer_key → endorsement_of top_levels signer_levels top_key signatures signer_key ≡ parts
+pub exact-of-fields : (top_levels signer_levels : ℕ) (top_key signatures signer_key : List ℕ) (parts : EndorsementParts)
+    (signature text message : List ℕ)
+    → HoldsEndorsement top_levels signer_levels top_key signatures signer_key
+    → endorsement_of top_levels signer_levels top_key signatures signer_key ≡ parts
     → signature ≡ u32str (signer_levels - 1) ++ text
     → (HssAccepts (joined_public parts.top_public parts.signer_public) message
     (joined_signature parts.top_public parts.endorsement parts.signer_public signature)

@@ -1,5 +1,6 @@
 -- What is joined, by its parts, and when it is accepted.
-use Rattle.std.proofs.Common.{ℕ, ◌≡◌, ◌+◌, ◌-◌, ◌^◌, ◌<◌, ◌≤◌, ◌↔◌, List, ◌++◌, refl, sym, ◌∙◌, ap, ap₂, arith, subst, subst₂, append_assoc}
+use Rattle.std.proofs.Common.{ℕ, ◌≡◌, ◌+◌, ◌-◌, ◌^◌, ◌<◌, ◌≤◌, ◌↔◌, List, ◌++◌, refl, sym, ◌∙◌, ap, ap₂, arith, subst}
+use Rattle.std.proofs.Common.{subst₂, append_assoc}
 use Rattle.std.proofs.lemmas.List.{take_at, drop_at}
 use Rattle.lms_spec.specs.Bytes.{number_of, u32str}
 use Rattle.lms_spec.specs.Hss.{most_levels, AcceptsThrough, HssAccepts}
@@ -22,18 +23,22 @@ pub joined-public-parts : (top_levels signer_levels : ℕ) (top_public top_key s
     → joined_public top_public signer_public ≡ u32str (top_levels + signer_levels) ++ top_key
 joined-public-parts top_levels signer_levels top_public top_key signer_public signer_key most most' eu el =
     ap₂ (λ n rest. u32str n ++ rest)
-    (ap₂ (λ m n. m + n) (count-is top_levels top_public top_key (omega arith) eu) (count-is signer_levels signer_public signer_key (omega arith) el))
+    (ap₂ (λ m n. m + n) (count-is top_levels top_public top_key (omega arith) eu)
+    (count-is signer_levels signer_public signer_key (omega arith) el))
     (rest-is top_levels top_public top_key eu)
 
-pub joined-signature-parts : (top_levels signer_levels n m : ℕ) (top_public top_key endorsement top_signatures signer_public signer_key signature signer_signatures : List ℕ)
+pub joined-signature-parts : (top_levels signer_levels n m : ℕ)
+    (top_public top_key endorsement top_signatures signer_public signer_key signature signer_signatures : List ℕ)
     → top_levels ≤ 8 → signer_levels ≤ 8
     → top_public ≡ u32str top_levels ++ top_key → endorsement ≡ u32str n ++ top_signatures
     → signer_public ≡ u32str signer_levels ++ signer_key → signature ≡ u32str m ++ signer_signatures
     → joined_signature top_public endorsement signer_public signature
     ≡ u32str (top_levels + signer_levels - 1) ++ top_signatures ++ signer_key ++ signer_signatures
-joined-signature-parts top_levels signer_levels n m top_public top_key endorsement top_signatures signer_public signer_key signature signer_signatures most most' eu es el et =
+joined-signature-parts top_levels signer_levels n m top_public top_key endorsement top_signatures signer_public
+    signer_key signature signer_signatures most most' eu es el et =
     let levels_are : joined_levels top_public signer_public ≡ top_levels + signer_levels
-    = ap₂ (λ m n. m + n) (count-is top_levels top_public top_key (omega arith) eu) (count-is signer_levels signer_public signer_key (omega arith) el) in
+    = ap₂ (λ m n. m + n) (count-is top_levels top_public top_key (omega arith) eu)
+    (count-is signer_levels signer_public signer_key (omega arith) el) in
     let first = rest-is n endorsement top_signatures es in
     let second = rest-is signer_levels signer_public signer_key el in
     let third = rest-is m signature signer_signatures et in
@@ -44,7 +49,8 @@ joined-signature-parts top_levels signer_levels n m top_public top_key endorseme
 -- of parts that are cut, what is joined is accepted exactly where both are
 pub joined-exactly : (top_public endorsement signer_public signature message : List ℕ)
     → AreCut top_public endorsement signer_public signature
-    → (HssAccepts (joined_public top_public signer_public) message (joined_signature top_public endorsement signer_public signature)
+    → (HssAccepts (joined_public top_public signer_public) message
+    (joined_signature top_public endorsement signer_public signature)
     ↔ HssAccepts top_public (after_count signer_public) endorsement × HssAccepts signer_public message signature)
 joined-exactly top_public endorsement signer_public signature message is =
     let u = is.top_levels in
@@ -53,9 +59,11 @@ joined-exactly top_public endorsement signer_public signature message is =
     let least' = is.some_signer in
     let most = is.eight_at_most in
     let text = is.top_signatures ++ is.signer_key ++ is.signer_signatures in
-    let public_is = joined-public-parts u l top_public is.top_key signer_public is.signer_key (omega arith) (omega arith) is.top_parts is.signer_parts in
+    let public_is = joined-public-parts u l top_public is.top_key signer_public is.signer_key (omega arith)
+    (omega arith) is.top_parts is.signer_parts in
     let signature_is : joined_signature top_public endorsement signer_public signature ≡ u32str (u + l - 1) ++ text
-    = joined-signature-parts u l (u - 1) (l - 1) top_public is.top_key endorsement is.top_signatures signer_public is.signer_key signature is.signer_signatures
+    = joined-signature-parts u l (u - 1) (l - 1) top_public is.top_key endorsement is.top_signatures signer_public
+    is.signer_key signature is.signer_signatures
     (omega arith) (omega arith) is.top_parts is.endorsement_parts is.signer_parts is.signature_parts
     ∙ (ap (λ t. t ++ is.signer_signatures) (append_assoc (u32str (u + l - 1)) is.top_signatures is.signer_key)
     ∙ append_assoc (u32str (u + l - 1)) (is.top_signatures ++ is.signer_key) is.signer_signatures) in
@@ -69,7 +77,8 @@ joined-exactly top_public endorsement signer_public signature message is =
     let key_is : after_count signer_public ≡ is.signer_key = rest-is l signer_public is.signer_key is.signer_parts in
     let count : u - 1 + 1 + (l - 1) ≡ u + l - 1 = omega arith in (
       λ a.
-          let both = joined-apart (u - 1) (l - 1) is.top_key is.signer_key message is.top_signatures is.signer_signatures is.key_length is.endorsement_cut
+          let both = joined-apart (u - 1) (l - 1) is.top_key is.signer_key message is.top_signatures
+          is.signer_signatures is.key_length is.endorsement_cut
           (subst (λ n. AcceptsThrough n is.top_key message text) (sym count) (whole.0 a)) in
           (subst (λ key. HssAccepts top_public key endorsement) (sym key_is) (upper.1 both.0), lower.1 both.1),
       λ both.
@@ -87,7 +96,8 @@ cut-of-both top_public endorsement signer_public signature message a b together 
     let most = a.eight_at_most in
     let most' = b.eight_at_most in
     let levels : count_of top_public ≡ a.levels = count-is a.levels top_public a.top_key (omega arith) a.key_parts in
-    let signer_levels : count_of signer_public ≡ b.levels = count-is b.levels signer_public b.top_key (omega arith) b.key_parts in
+    let signer_levels : count_of signer_public ≡ b.levels =
+    count-is b.levels signer_public b.top_key (omega arith) b.key_parts in
     let key_is = rest-is b.levels signer_public b.top_key b.key_parts in
     record {
       top_levels = a.levels;
@@ -110,7 +120,8 @@ cut-of-both top_public endorsement signer_public signature message a b together 
 pub joined-accepted : (top_public endorsement signer_public signature message : List ℕ)
     → HssAccepts top_public (after_count signer_public) endorsement → HssAccepts signer_public message signature
     → joined_levels top_public signer_public ≤ most_levels
-    → HssAccepts (joined_public top_public signer_public) message (joined_signature top_public endorsement signer_public signature)
+    → HssAccepts (joined_public top_public signer_public) message
+    (joined_signature top_public endorsement signer_public signature)
 joined-accepted top_public endorsement signer_public signature message a b together =
     (joined-exactly top_public endorsement signer_public signature message
     (cut-of-both top_public endorsement signer_public signature message a b together)).1 (a, b)

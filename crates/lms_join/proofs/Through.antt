@@ -10,7 +10,8 @@ use Rattle.lms_hss.proofs.SignedKeys.{accepted-parts}
 use Rattle.lms_join.specs.Cuts.{IsCut}
 
 -- a key under which something is accepted has 56 bytes
-pub key-length : (count : ℕ) (signer message text : List ℕ) → AcceptsThrough count signer message text → length signer ≡ 56
+pub key-length : (count : ℕ) (signer message text : List ℕ) → AcceptsThrough count signer message text
+    → length signer ≡ 56
 key-length zero signer message text a = (length-lms signer message text a).0
 key-length (suc count) signer message text (first, next, rest, parts, a, others) = (length-lms signer next first a).0
 
@@ -25,7 +26,8 @@ signatures-of signer message text a = record {
 }
 
 -- what is accepted is cut where the typecodes say
-pub cut-of-accepted : (count : ℕ) (signer message text : List ℕ) → AcceptsThrough count signer message text → IsCut count signer text
+pub cut-of-accepted : (count : ℕ) (signer message text : List ℕ) → AcceptsThrough count signer message text
+    → IsCut count signer text
 cut-of-accepted zero signer message text a = signatures-of signer message text a
 cut-of-accepted (suc count) signer message text (first, next, rest, parts, a, others) = (
   first,
@@ -51,7 +53,8 @@ pub accepts-joined : (count lower : ℕ) (signer key message upper_text lower_te
     → AcceptsThrough (count + 1 + lower) signer message (upper_text ++ key ++ lower_text)
 accepts-joined zero lower signer key message upper_text lower_text a b =
     let e : suc lower ≡ zero + 1 + lower = omega arith in
-    subst (λ n. AcceptsThrough n signer message (upper_text ++ key ++ lower_text)) e (upper_text, key, lower_text, refl, a, b)
+    subst (λ n. AcceptsThrough n signer message (upper_text ++ key ++ lower_text)) e
+    (upper_text, key, lower_text, refl, a, b)
 accepts-joined (suc count) lower signer key message upper_text lower_text (first, next, rest, parts, a, others) b =
     let below = accepts-joined count lower next key message rest lower_text others b in
     let e : suc (count + 1 + lower) ≡ suc count + 1 + lower = omega arith in

@@ -1,5 +1,6 @@
 pub mod Cuts
 pub mod Endorsements
+pub mod Faults
 pub mod Joined
 pub mod Keys
 pub mod Laws

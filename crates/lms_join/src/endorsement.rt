@@ -1,12 +1,14 @@
 //! A top key's signature of a signer's key, and what it is joined with.
-ghost use Rattle.std.specs.Prelude.{ℕ, ◌≡◌, ◌↔◌, ◌-◌, ◌++◌, List, IfOk, IfSome, IfNone};
+ghost use Rattle.std.specs.Prelude.{ℕ, ◌≡◌, ◌↔◌, ◌-◌, ◌++◌, List, IfOk, IfErr, IfSome, IfNone};
 ghost use Rattle.lms_spec.specs.Bytes.{u32str};
 ghost use Rattle.lms_spec.specs.Hss.{HssAccepts};
 ghost use Rattle.lms_join.specs.Joined.{count_of, joined_public, joined_signature};
 ghost use Rattle.lms_join.specs.Endorsements.{IsEndorsed, HasCountUnder, LacksCountUnder};
+ghost use Rattle.lms_join.specs.Faults.{IsRefused};
 
+use crate::fault::EndorsementFault;
 use crate::keys::Keys;
-use lms_hss::{ChainEnds, HSS_KEY_LEN, LMS_KEY_LEN, OutOfMemory, public_key_bytes, verify_with};
+use lms_hss::{ChainEnds, HSS_KEY_LEN, LMS_KEY_LEN, OutOfMemory, verify_with};
 use lms_params::split_u32;
 use std::alloc::Global;
 use std::marker::Model;
@@ -16,11 +18,8 @@ use std::marker::Model;
 /// is verified again. Contracts see the two public keys and the top key's signature.
 #[derive(Drop)]
 pub struct Endorsement<'a> {
-    top_levels: u32,
-    signer_levels: u32,
-    top_key: &'a [u8; LMS_KEY_LEN],
+    keys: Keys<'a>,
     signatures: &'a [u8],
-    signer_key: &'a [u8; LMS_KEY_LEN],
 }
 
 impl<'a> Model for Endorsement<'a> {
@@ -29,60 +28,56 @@ impl<'a> Model for Endorsement<'a> {
     ghost Value = { EndorsementParts };
 
     ghost view = { λ a. endorsement_of
-        a.top_levels a.signer_levels a.top_key.now a.signatures.now a.signer_key.now };
+        a.keys.top.levels a.keys.signer.levels
+        a.keys.top.lms_key.now a.signatures.now a.keys.signer.lms_key.now };
 
     ghost invariant = { λ a. HoldsEndorsement
-        a.top_levels a.signer_levels a.top_key.now a.signatures.now a.signer_key.now };
+        a.keys.top.levels a.keys.signer.levels
+        a.keys.top.lms_key.now a.signatures.now a.keys.signer.lms_key.now };
 }
 
 impl<'a> Endorsement<'a> {
     /// Verifies the top key's signature of the signer's LMS public key, which is `signer_public`
-    /// without its first four bytes. The three may have any length. Chains are taken to their ends
-    /// by `ends`. `None` exactly where the two keys can't be joined (`join_public`) or the
-    /// signature is not accepted.
+    /// without its first four bytes (RFC 8554, 6.3). The three may have any length. Chains are
+    /// taken to their ends by `ends`. `NotJoinable` exactly where the two keys can't be joined
+    /// (`join_public`), `NotAccepted` exactly where they can be and the signature is not accepted.
     pub fn new<C: ChainEnds>(
         top_public: &'a [u8],
         endorsement: &'a [u8],
         signer_public: &'a [u8],
         ends: C,
-    ) -> Option<Self>
-        ensures some { IfSome result (λ it. it ≡ record {
+    ) -> Result<Self, EndorsementFault>
+        ensures value { IfOk result (λ it. it ≡ record {
           top_public = top_public.now;
           endorsement = endorsement.now;
           signer_public = signer_public.now;
         }) }
-        ensures endorsed { IfSome result (λ _.
+        ensures endorsed { IfOk result (λ _.
             IsEndorsed top_public.now endorsement.now signer_public.now) }
-        ensures none { IfNone result
-            (¬ IsEndorsed top_public.now endorsement.now signer_public.now) }
+        ensures refused { IfErr result (λ fault.
+            IsRefused top_public.now endorsement.now signer_public.now fault) }
     {
-        let Keys { top, signer } = Keys::parse(top_public, signer_public)?;
-        let signer_key = signer.lms_key;
+        let keys = Keys::parse(top_public, signer_public).ok_or(EndorsementFault::NotJoinable)?;
+        let signer_key = keys.signer.lms_key;
         if !verify_with(top_public, signer_key, endorsement, ends) {
-            return None;
+            return Err(EndorsementFault::NotAccepted);
         }
-        let (_, signatures) = split_u32(endorsement)?;
-        Some(Endorsement {
-            top_levels: top.levels,
-            signer_levels: signer.levels,
-            top_key: top.lms_key,
-            signatures,
-            signer_key,
-        })
+        let (_, signatures) = split_u32(endorsement).ok_or(EndorsementFault::NotAccepted)?;
+        Ok(Endorsement { keys, signatures })
     }
 
-    /// The public key of joined signatures: the top one with the levels of both.
+    /// The public key of joined signatures: the top one with the levels of both (RFC 8554, 6.1).
     pub fn public(&self) -> [u8; HSS_KEY_LEN]
         ensures { result ≡ joined_public self.now.top_public self.now.signer_public }
     {
-        public_key_bytes(self.top_levels + self.signer_levels, self.top_key)
+        self.keys.joined()
     }
 
     /// The joined signature of the endorsement and a signature by the signer's key, which may have
-    /// any length: it is accepted for just the messages for which the signer's is. `None` exactly
-    /// where the signer's has fewer than four bytes, or counts another number of signed keys in
-    /// them than signatures by the signer's key have: it is accepted for no message then.
-    /// `OutOfMemory` where memory is refused.
+    /// any length (RFC 8554, 6.2): it is accepted for just the messages for which the signer's is.
+    /// `None` exactly where the signer's has fewer than four bytes, or counts another number of
+    /// signed keys in them than signatures by the signer's key have: it is accepted for no message
+    /// then. `OutOfMemory` where the count is right, and memory is refused.
     pub fn join(&self, alloc: Global, signature: &[u8]) -> Result<Option<Vec<u8>>, OutOfMemory>
         ensures text { IfOk result (λ answer. IfSome answer (λ text. text.items
             ≡ joined_signature self.now.top_public self.now.endorsement
@@ -97,16 +92,18 @@ impl<'a> Endorsement<'a> {
             (LacksCountUnder self.now.signer_public signature.now)) }
         ensures never { IfOk result (λ answer. IfNone answer ((message : List ℕ)
             → ¬ HssAccepts self.now.signer_public message signature.now)) }
+        ensures memory { IfErr result (λ _. HasCountUnder self.now.signer_public signature.now) }
     {
         let Some(signatures) = self.signatures_in(signature) else {
             return Ok(None);
         };
-        let signed_keys = self.top_levels + self.signer_levels - 1;
+        let Keys { top, signer } = self.keys;
+        let signed_keys = top.levels + signer.levels - 1;
         let text = joined_text(
             alloc,
             signed_keys,
             self.signatures,
-            self.signer_key,
+            signer.lms_key,
             signatures,
         )?;
         Ok(Some(text))
@@ -122,7 +119,7 @@ impl<'a> Endorsement<'a> {
         ensures none { IfNone result (LacksCountUnder self.now.signer_public signature.now) }
     {
         let (signed_keys, signatures) = split_u32(signature)?;
-        if signed_keys != self.signer_levels - 1 {
+        if signed_keys != self.keys.signer.levels - 1 {
             return None;
         }
         Some(signatures)

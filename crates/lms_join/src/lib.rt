@@ -5,8 +5,10 @@
 #![tactic(auto)]
 
 mod endorsement;
+mod fault;
 mod keys;
 pub mod laws;
 
 pub use crate::endorsement::Endorsement;
+pub use crate::fault::EndorsementFault;
 pub use crate::keys::join_public;

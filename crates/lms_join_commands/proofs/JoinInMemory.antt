@@ -8,7 +8,8 @@ use Rattle.lms_commands.specs.Logs.{WorldCalls, read_cause}
 use Rattle.lms_commands.specs.declared.fault.Fault.{Fault}
 use Rattle.lms_commands.proofs.Telling.{Adds, Told, and_then, read_refused, same_held, told, written_file}
 use Rattle.lms_join_commands.specs.JoinLogs.{JoinNames, JoinParts, LogsJoinFailed, ReadsParts, ReadsTwo}
-use Rattle.lms_join_commands.specs.JoinInMemory.{FailsToJoin, FailsToJoinInMemory, FailsToJoinKeysInMemory, HoldsParts, JoinsInMemory, JoinsKeysInMemory}
+use Rattle.lms_join_commands.specs.JoinInMemory.{FailsToJoin, FailsToJoinInMemory, FailsToJoinKeysInMemory, HoldsParts}
+use Rattle.lms_join_commands.specs.JoinInMemory.{JoinsInMemory, JoinsKeysInMemory}
 
 -- ---- `join`
 
@@ -17,7 +18,8 @@ four_reads names parts =
     Read names.signature (Ok parts.signature) ∷ Read names.signer (Ok parts.signer)
     ∷ Read names.endorsement (Ok parts.endorsement) ∷ Read names.public (Ok parts.public) ∷ []
 
-abbrev read_so : (names : JoinNames) (parts : JoinParts) {earlier last : WorldCalls} → ReadsParts names parts earlier last
+abbrev read_so : (names : JoinNames) (parts : JoinParts) {earlier last : WorldCalls}
+    → ReadsParts names parts earlier last
     → Adds earlier last
 read_so names parts reads = record { calls = four_reads names parts; are = reads }
 
@@ -45,7 +47,8 @@ joins_in_memory names old new earlier now (parts, joined, last, reads, joins, ca
       };
       joins = joins;
       file = written_file names.out joined old.files new.files is.files;
-      only = same_held (record old { files = new.files }) new refl is.state is.may_fail is.in_use is.nodes is.nodes_fault;
+      only = same_held (record old { files = new.files }) new refl is.state is.may_fail is.in_use
+          is.nodes is.nodes_fault;
     }
 
 module _ (names : JoinNames) (earlier : WorldCalls) (old new : Held) where
@@ -104,26 +107,29 @@ module _ (names : JoinNames) (earlier : WorldCalls) (old new : Held) where
       )
 
 pub fails_to_join_in_memory : FailsToJoinInMemory
-fails_to_join_in_memory names fault old new earlier now failed follows = unjoined names earlier old new fault now failed follows
+fails_to_join_in_memory names fault old new earlier now failed follows =
+    unjoined names earlier old new fault now failed follows
 
 -- ---- `join-public`
 
-abbrev both_read : (public signer : Bytes) (top lower : List ℕ) {earlier last : WorldCalls}
-    → ReadsTwo public signer top lower earlier last → Adds earlier last
-both_read public signer top lower reads =
-    record { calls = Read signer (Ok lower) ∷ Read public (Ok top) ∷ []; are = reads }
+abbrev both_read : (public signer : Bytes) (top_public signer_public : List ℕ) {earlier last : WorldCalls}
+    → ReadsTwo public signer top_public signer_public earlier last → Adds earlier last
+both_read public signer top_public signer_public reads =
+    record { calls = Read signer (Ok signer_public) ∷ Read public (Ok top_public) ∷ []; are = reads }
 
 pub joins_keys_in_memory : JoinsKeysInMemory
-joins_keys_in_memory public signer out old new earlier now (top, lower, last, reads, joinable, calls) follows =
-    let is = told old new (and_then (both_read public signer top lower reads) calls) follows in
+joins_keys_in_memory public signer out old new earlier now
+    (top_public, signer_public, last, reads, joinable, calls) follows =
+    let is = told old new (and_then (both_read public signer top_public signer_public reads) calls) follows in
     record {
-      top = top;
-      lower = lower;
-      top_is = is.tell.0.0.1;
-      lower_is = is.tell.0.1;
+      top_public = top_public;
+      signer_public = signer_public;
+      top_public_is = is.tell.0.0.1;
+      signer_public_is = is.tell.0.1;
       joinable = joinable;
-      file = written_file out (joined_public top lower) old.files new.files is.files;
-      only = same_held (record old { files = new.files }) new refl is.state is.may_fail is.in_use is.nodes is.nodes_fault;
+      file = written_file out (joined_public top_public signer_public) old.files new.files is.files;
+      only = same_held (record old { files = new.files }) new refl is.state is.may_fail is.in_use
+          is.nodes is.nodes_fault;
     }
 
 pub fails_to_join_keys_in_memory : FailsToJoinKeysInMemory
@@ -142,16 +148,16 @@ fails_to_join_keys_in_memory public signer out fault old new earlier now (inl (r
       same_held old new is.files is.state is.may_fail is.in_use is.nodes is.nodes_fault,
     )
 fails_to_join_keys_in_memory public signer out fault old new earlier now
-    (inr (top, lower, last, reads, inl (at, apart, none))) follows =
-    let first = Read signer (Ok lower) ∷ Read public (Ok top) ∷ [] in
+    (inr (top_public, signer_public, last, reads, inl (at, apart, none))) follows =
+    let first = Read signer (Ok signer_public) ∷ Read public (Ok top_public) ∷ [] in
     let added : Adds earlier now = record { calls = first; are = none ∙ reads } in
     let is = told old new added follows in (
-      inr (inr (top, lower, is.tell.0.1, is.tell.1, inl (at, apart))),
+      inr (inr (top_public, signer_public, is.tell.0.1, is.tell.1, inl (at, apart))),
       same_held old new is.files is.state is.may_fail is.in_use is.nodes is.nodes_fault,
     )
 fails_to_join_keys_in_memory public signer out fault old new earlier now
-    (inr (top, lower, last, reads, inr (joinable, refused, calls))) follows =
-    let is = told old new (and_then (both_read public signer top lower reads) calls) follows in (
-      inr (inr (top, lower, is.tell.0.0.1, is.tell.0.1, inr (refused, joinable))),
+    (inr (top_public, signer_public, last, reads, inr (joinable, refused, calls))) follows =
+    let is = told old new (and_then (both_read public signer top_public signer_public reads) calls) follows in (
+      inr (inr (top_public, signer_public, is.tell.0.0.1, is.tell.0.1, inr (refused, joinable))),
       same_held old new is.files is.state is.may_fail is.in_use is.nodes is.nodes_fault,
     )

@@ -9,7 +9,8 @@ use Rattle.lms_commands.specs.Histories.{StoresNothing, hands_out, store_calls, 
 use Rattle.lms_commands.specs.Logs.{WorldCalls, read_cause, write_cause}
 use Rattle.lms_commands.specs.declared.fault.Fault.{Fault}
 use Rattle.lms_commands.proofs.Turns.{Ends, idle_as, one_more}
-use Rattle.lms_join_commands.specs.JoinLogs.{JoinNames, JoinParts, JoinsParts, LogsJoin, LogsJoinFailed, LogsJoinKeys, LogsJoinKeysFailed, ReadsParts, ReadsTwo}
+use Rattle.lms_join_commands.specs.JoinLogs.{JoinNames, JoinParts, JoinsParts, LogsJoin, LogsJoinFailed, LogsJoinKeys}
+use Rattle.lms_join_commands.specs.JoinLogs.{LogsJoinKeysFailed, ReadsParts, ReadsTwo}
 use Rattle.lms_join_commands.specs.Joined.{HandsJoined, HandsJoinedKey, WasRead}
 
 -- ---- `join`
@@ -38,7 +39,8 @@ module _ (names : JoinNames) (before printed : List ℕ) (same : printed ≡ bef
         (same, inr (parts, joined, joins, read, written)),
       )
 
-  pub join_turn : (whole : WorldCalls) → LogsJoin names [] whole → Ends (HandsJoined names.signature) whole before printed
+  pub join_turn : (whole : WorldCalls) → LogsJoin names [] whole
+      → Ends (HandsJoined names.signature) whole before printed
   join_turn whole (parts, joined, last, reads, joins, calls) = writes parts joined (Ok tt) last whole reads joins calls
 
   pub join_failed_turn : (fault : Fault) (whole : WorldCalls) → LogsJoinFailed names fault [] whole
@@ -64,27 +66,29 @@ module _ (public signer out : Bytes) (before printed : List ℕ) (same : printed
   no_key whole calls is none silent no_file =
       (StoresNothing, idle_as whole calls is none silent, (same, inl (ap written_in is ∙ no_file)))
 
-  writes_key : (top lower : List ℕ) (answer : Writing) (last whole : WorldCalls) → ReadsTwo public signer top lower [] last
-      → AreJoinable top lower → whole ≡ Written out (joined_public top lower) answer ∷ last
+  writes_key : (top_public signer_public : List ℕ) (answer : Writing) (last whole : WorldCalls)
+      → ReadsTwo public signer top_public signer_public [] last
+      → AreJoinable top_public signer_public
+      → whole ≡ Written out (joined_public top_public signer_public) answer ∷ last
       → Ends HandsJoinedKey whole before printed
-  writes_key top lower answer last whole reads joinable calls =
-      let key = joined_public top lower in
+  writes_key top_public signer_public answer last whole reads joinable calls =
+      let key = joined_public top_public signer_public in
       let written = ap written_in calls ∙ ap (λ (log : WorldCalls). key ∷ written_in log) reads in (
         StoresNothing,
         one_more whole (Written out key answer) refl calls (idle_as last _ reads refl refl),
-        (same, inr (top, lower, joinable, written)),
+        (same, inr (top_public, signer_public, joinable, written)),
       )
 
   pub join_keys_turn : (whole : WorldCalls) → LogsJoinKeys public signer out [] whole
       → Ends HandsJoinedKey whole before printed
-  join_keys_turn whole (top, lower, last, reads, joinable, calls) =
-      writes_key top lower (Ok tt) last whole reads joinable calls
+  join_keys_turn whole (top_public, signer_public, last, reads, joinable, calls) =
+      writes_key top_public signer_public (Ok tt) last whole reads joinable calls
 
   pub join_keys_failed_turn : (fault : Fault) (whole : WorldCalls) → LogsJoinKeysFailed public signer out fault [] whole
       → Ends HandsJoinedKey whole before printed
   join_keys_failed_turn fault whole (inl (refused, inl calls)) = no_key whole _ calls refl refl refl
   join_keys_failed_turn fault whole (inl (refused, inr (one, calls))) = no_key whole _ calls refl refl refl
-  join_keys_failed_turn fault whole (inr (top, lower, last, reads, inl (at, apart, none))) =
+  join_keys_failed_turn fault whole (inr (top_public, signer_public, last, reads, inl (at, apart, none))) =
       no_key whole _ (none ∙ reads) refl refl refl
-  join_keys_failed_turn fault whole (inr (top, lower, last, reads, inr (joinable, refused, calls))) =
-      writes_key top lower (Err (write_cause fault)) last whole reads joinable calls
+  join_keys_failed_turn fault whole (inr (top_public, signer_public, last, reads, inr (joinable, refused, calls))) =
+      writes_key top_public signer_public (Err (write_cause fault)) last whole reads joinable calls

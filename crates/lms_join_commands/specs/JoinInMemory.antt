@@ -9,7 +9,8 @@ use Rattle.lms_commands.specs.Logs.{IsWriteRefused, WorldCalls}
 use Rattle.lms_commands.specs.ReadingInMemory.{IsUnreadable}
 use Rattle.lms_commands.specs.declared.fault.Fault.{Fault}
 use Rattle.lms_commands.specs.declared.fault.Fault.TheVariants.{BadPublicKey, OutOfMemory, ReadInput}
-use Rattle.lms_join_commands.specs.JoinLogs.{AreUnjoined, JoinNames, JoinParts, JoinsParts, LogsJoin, LogsJoinFailed, LogsJoinKeys, LogsJoinKeysFailed}
+use Rattle.lms_join_commands.specs.JoinLogs.{AreUnjoined, JoinNames, JoinParts, JoinsParts, LogsJoin, LogsJoinFailed}
+use Rattle.lms_join_commands.specs.JoinLogs.{LogsJoinKeys, LogsJoinKeysFailed}
 
 -- the four files hold these parts
 pub record HoldsParts (names : JoinNames) (parts : JoinParts) (held : Held) : Type 0 where
@@ -56,12 +57,12 @@ FailsToJoinInMemory = (names : JoinNames) (fault : Fault) (old new : Held)
 -- two files hold two public keys that can be joined, a third is given the joined one, and nothing
 -- else is changed
 pub record JoinsKeysIn (public signer out : Bytes) (old new : Held) : Type 0 where
-  pub top : List ℕ
-  pub lower : List ℕ
-  pub top_is : answer_in old.files public ≡ Ok top
-  pub lower_is : answer_in old.files signer ≡ Ok lower
-  pub joinable : AreJoinable top lower
-  pub file : WritesFile out (joined_public top lower) old.files new.files
+  pub top_public : List ℕ
+  pub signer_public : List ℕ
+  pub top_public_is : answer_in old.files public ≡ Ok top_public
+  pub signer_public_is : answer_in old.files signer ≡ Ok signer_public
+  pub joinable : AreJoinable top_public signer_public
+  pub file : WritesFile out (joined_public top_public signer_public) old.files new.files
   pub only : OnlyFiles old new
 
 -- of a world in memory, `join-public` at status 0 does so
@@ -76,10 +77,10 @@ abbrev pub FailsToJoinKeys : Bytes → Bytes → Fault → Held → Type 0
 FailsToJoinKeys public signer fault held =
     (fault ≡ OutOfMemory)
     ⊎ (((fault ≡ ReadInput) × (IsUnreadable public held ⊎ IsUnreadable signer held))
-    ⊎ ((top lower : List ℕ) × (answer_in held.files public ≡ Ok top)
-    × (answer_in held.files signer ≡ Ok lower)
-    × (((fault ≡ BadPublicKey) × ¬ AreJoinable top lower)
-    ⊎ (IsWriteRefused fault × AreJoinable top lower))))
+    ⊎ ((top_public signer_public : List ℕ) × (answer_in held.files public ≡ Ok top_public)
+    × (answer_in held.files signer ≡ Ok signer_public)
+    × (((fault ≡ BadPublicKey) × ¬ AreJoinable top_public signer_public)
+    ⊎ (IsWriteRefused fault × AreJoinable top_public signer_public))))
 
 -- of a world in memory, this is why `join-public` fails, and changes nothing
 abbrev pub FailsToJoinKeysInMemory : Type 0

@@ -63,7 +63,7 @@ AreUnjoined parts fault =
     AreUnendorsed parts.public parts.endorsement parts.signer fault
     ⊎ (IsEndorsed parts.public parts.endorsement parts.signer
     × (((fault ≡ BadSignature) × LacksCountUnder parts.signer parts.signature)
-    ⊎ (fault ≡ OutOfMemory)))
+    ⊎ ((fault ≡ OutOfMemory) × HasCountUnder parts.signer parts.signature)))
 
 -- all four are read
 abbrev pub ReadsParts : JoinNames → JoinParts → WorldCalls → WorldCalls → Type 0
@@ -100,15 +100,18 @@ LogsJoinFailed names fault old new =
 -- all calls of `join-public`: two files are read, and then the joined public key is written, once
 abbrev pub LogsJoinKeys : Bytes → Bytes → Bytes → WorldCalls → WorldCalls → Type 0
 LogsJoinKeys public signer out old new =
-    (top lower : List ℕ) × (last : WorldCalls) × ReadsTwo public signer top lower old last
-    × AreJoinable top lower
-    × (new ≡ after (Written out (joined_public top lower) (Ok tt) ∷ []) last)
+    (top_public signer_public : List ℕ) × (last : WorldCalls)
+    × ReadsTwo public signer top_public signer_public old last
+    × AreJoinable top_public signer_public
+    × (new ≡ after (Written out (joined_public top_public signer_public) (Ok tt) ∷ []) last)
 
 -- the same, where it fails
 abbrev pub LogsJoinKeysFailed : Bytes → Bytes → Bytes → Fault → WorldCalls → WorldCalls → Type 0
 LogsJoinKeysFailed public signer out fault old new =
     FailsToReadTwo public signer fault old new
-    ⊎ ((top lower : List ℕ) × (last : WorldCalls) × ReadsTwo public signer top lower old last
-    × (((fault ≡ BadPublicKey) × (¬ AreJoinable top lower) × (new ≡ last))
-    ⊎ (AreJoinable top lower × IsWriteRefused fault
-    × (new ≡ after (Written out (joined_public top lower) (Err (write_cause fault)) ∷ []) last))))
+    ⊎ ((top_public signer_public : List ℕ) × (last : WorldCalls)
+    × ReadsTwo public signer top_public signer_public old last
+    × (((fault ≡ BadPublicKey) × (¬ AreJoinable top_public signer_public) × (new ≡ last))
+    ⊎ (AreJoinable top_public signer_public × IsWriteRefused fault
+    × (new ≡ after
+    (Written out (joined_public top_public signer_public) (Err (write_cause fault)) ∷ []) last))))

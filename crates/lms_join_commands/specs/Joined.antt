@@ -14,7 +14,7 @@ WasRead name bytes calls =
     (later earlier : WorldCalls) × (calls ≡ later ++ Read name (Ok bytes) ∷ earlier)
 
 -- a joined signature is written to a file, or nothing is: it repeats a signature that was read from
--- the file of this name, so one that had left
+-- the file of this name
 abbrev pub HandsJoined : Bytes → WorldCalls → List ℕ → List ℕ → Type 0
 HandsJoined signature whole before printed =
     (printed ≡ before)
@@ -27,5 +27,5 @@ abbrev pub HandsJoinedKey : WorldCalls → List ℕ → List ℕ → Type 0
 HandsJoinedKey whole before printed =
     (printed ≡ before)
     × ((written_in whole ≡ [])
-    ⊎ ((top lower : List ℕ) × AreJoinable top lower
-    × (written_in whole ≡ joined_public top lower ∷ [])))
+    ⊎ ((top_public signer_public : List ℕ) × AreJoinable top_public signer_public
+    × (written_in whole ≡ joined_public top_public signer_public ∷ [])))

@@ -8,7 +8,7 @@ ghost use Rattle.lms_join_commands.specs.Requests.{names_of, parts_of};
 use crate::files::read_two;
 use lms_commands::{Fault, write_file};
 use lms_hss::ByEights;
-use lms_join::{Endorsement, join_public};
+use lms_join::{Endorsement, EndorsementFault};
 use lms_world::World;
 use std::alloc::Global;
 
@@ -77,8 +77,8 @@ fn read_parts<W: World>(alloc: Global, world: &mut W, request: &JoinRequest) -> 
     })
 }
 
-/// The joined signature. `BadPublicKey`, `BadEndorsement`, `BadSignature`, or `OutOfMemory` where
-/// memory for it is refused.
+/// The joined signature. `BadPublicKey`, `BadEndorsement`, `BadSignature`, in this order, or
+/// `OutOfMemory` where memory for it is refused.
 fn join_parts(alloc: Global, parts: &Parts) -> Result<Vec<u8>, Fault>
     ensures joins { IfOk result (λ joined. JoinsParts (parts_of parts.now) joined.items) }
     ensures unjoined { IfErr result (λ fault. AreUnjoined (parts_of parts.now) fault) }
@@ -91,7 +91,8 @@ fn join_parts(alloc: Global, parts: &Parts) -> Result<Vec<u8>, Fault>
     }
 }
 
-/// The endorsement of a signer's key by a top key.
+/// The endorsement of a signer's key by a top key. `BadPublicKey` exactly where the two can't be
+/// joined, `BadEndorsement` exactly where they can be and it is not accepted.
 fn endorsement_in<'a>(
     public: &'a [u8],
     endorsement: &'a [u8],
@@ -106,11 +107,9 @@ fn endorsement_in<'a>(
     ensures unendorsed { IfErr result (λ fault.
         AreUnendorsed public.now endorsement.now signer.now fault) }
 {
-    let Some(_key) = join_public(public, signer) else {
-        return Err(Fault::BadPublicKey);
-    };
     match Endorsement::new(public, endorsement, signer, ByEights) {
-        Some(it) => Ok(it),
-        None => Err(Fault::BadEndorsement),
+        Ok(it) => Ok(it),
+        Err(EndorsementFault::NotJoinable) => Err(Fault::BadPublicKey),
+        Err(EndorsementFault::NotAccepted) => Err(Fault::BadEndorsement),
     }
 }

@@ -32,19 +32,19 @@ pub fn join_public_keys<W: World>(
     ensures follows { Follows (W.memory world.old) (W.events world.old)
         (W.memory world.new) (W.events world.new) }
 {
-    let (top, lower) = read_two(alloc, world, public, signer)?;
-    let key = joined_key(&top, &lower)?;
+    let (top_public, signer_public) = read_two(alloc, world, public, signer)?;
+    let key = joined_key(&top_public, &signer_public)?;
     write_flushed(alloc, world, out, &key)
 }
 
 /// The public key of joined signatures. `BadPublicKey` exactly where the two can't be joined.
-fn joined_key(top: &[u8], signer: &[u8]) -> Result<[u8; HSS_KEY_LEN], Fault>
-    ensures joined { IfOk result (λ key. key ≡ joined_public top.now signer.now) }
-    ensures joinable { IfOk result (λ _. AreJoinable top.now signer.now) }
+fn joined_key(top_public: &[u8], signer_public: &[u8]) -> Result<[u8; HSS_KEY_LEN], Fault>
+    ensures joined { IfOk result (λ key. key ≡ joined_public top_public.now signer_public.now) }
+    ensures joinable { IfOk result (λ _. AreJoinable top_public.now signer_public.now) }
     ensures bad { IfErr result (λ fault. fault ≡ BadPublicKey) }
-    ensures unjoined { IfErr result (λ _. ¬ AreJoinable top.now signer.now) }
+    ensures unjoined { IfErr result (λ _. ¬ AreJoinable top_public.now signer_public.now) }
 {
-    match lms_join::join_public(top, signer) {
+    match lms_join::join_public(top_public, signer_public) {
         Some(key) => Ok(key),
         None => Err(Fault::BadPublicKey),
     }

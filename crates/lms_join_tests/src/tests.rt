@@ -2,7 +2,7 @@
 
 use lms_fixtures::{forest_of, key_of, signature_of};
 use lms_hss::{ByEights, verify};
-use lms_join::{Endorsement, join_public};
+use lms_join::{Endorsement, EndorsementFault, join_public};
 use lms_params::{LmsType, OtsType};
 use lms_slow::vectors::{THREE, TWO, Vector};
 use std::process::Abort;
@@ -55,9 +55,7 @@ fn joined(
     signer: &[u8],
     signature: &[u8],
 ) -> Result<Texts, Fail> {
-    let endorsement = Endorsement::new(&top.public, &top.signature, signer, ByEights).ok_or(
-        "an endorsement that is accepted",
-    )?;
+    let endorsement = Endorsement::new(&top.public, &top.signature, signer, ByEights)?;
     let text = endorsement
         .join(rt.alloc(), signature)?
         .ok_or("a signature by the signer's key")?;
@@ -137,7 +135,13 @@ fn check_too_many(
     let lms_key = signer.get(4..).ok_or("a public key")?;
     assert!(rt; verify(&top.public, lms_key, &top.signature));
     assert!(rt; join_public(&top.public, &signer).is_none());
-    assert!(rt; Endorsement::new(&top.public, &top.signature, &signer, ByEights).is_none());
+    check_refused(
+        rt,
+        &top.public,
+        &top.signature,
+        &signer,
+        EndorsementFault::NotJoinable,
+    );
     Ok(())
 }
 
@@ -215,9 +219,27 @@ fn joins_keys_of_another_implementation(rt: HostRuntime) -> Result<(), Fail> {
     check_vector(&rt, &THREE, 2)
 }
 
-/// No endorsement is made of these.
-fn check_refused(rt: &impl Abort, top_public: &[u8], endorsement: &[u8], signer_public: &[u8]) {
-    assert!(rt; Endorsement::new(top_public, endorsement, signer_public, ByEights).is_none());
+/// No endorsement is made of these, for this reason.
+fn check_refused(
+    rt: &impl Abort,
+    top_public: &[u8],
+    endorsement: &[u8],
+    signer_public: &[u8],
+    fault: EndorsementFault,
+) {
+    let refused = Endorsement::new(top_public, endorsement, signer_public, ByEights).err();
+    assert!(rt; refused == Some(fault));
+}
+
+/// The keys can be joined, and this endorsement is not accepted.
+fn check_not_accepted(
+    rt: &impl Abort,
+    top_public: &[u8],
+    endorsement: &[u8],
+    signer_public: &[u8],
+) {
+    let fault = EndorsementFault::NotAccepted;
+    check_refused(rt, top_public, endorsement, signer_public, fault);
 }
 
 #[test]
@@ -226,17 +248,20 @@ fn refuses_what_is_not_endorsed(rt: HostRuntime) -> Result<(), Fail> {
     let other = signed(&rt, &[QUICK], 0x45, 3, b"abc")?;
     let top = endorsed(&rt, &[QUICK], &signer.public)?;
     let counted = signed(&rt, &[QUICK], 0x55, 7, &signer.public)?;
-    check_refused(&rt, &top.public, &top.signature, &other.public);
-    check_refused(&rt, &other.public, &top.signature, &signer.public);
-    check_refused(&rt, &top.public, &signer.signature, &signer.public);
-    check_refused(&rt, &top.public, &counted.signature, &signer.public);
+    check_not_accepted(&rt, &top.public, &top.signature, &other.public);
+    check_not_accepted(&rt, &other.public, &top.signature, &signer.public);
+    check_not_accepted(&rt, &top.public, &signer.signature, &signer.public);
+    check_not_accepted(&rt, &top.public, &counted.signature, &signer.public);
     let shorter = top.signature.len().saturating_sub(1);
     let cut = top.signature.get(..shorter).unwrap_or(&[]);
-    check_refused(&rt, &top.public, cut, &signer.public);
+    check_not_accepted(&rt, &top.public, cut, &signer.public);
+    check_not_accepted(&rt, &top.public, &[0, 0, 0], &signer.public);
     let longer = signature(&rt, 0, top.signature.get(4..).unwrap_or(&[]))?;
     check_longer(&rt, &top.public, longer, &signer.public)?;
     let cut = signer.public.get(..59).unwrap_or(&[]);
-    check_refused(&rt, &top.public, &top.signature, cut);
+    let fault = EndorsementFault::NotJoinable;
+    check_refused(&rt, &top.public, &top.signature, cut, fault);
+    check_refused(&rt, &top.public, &[], cut, fault);
     assert!(rt; join_public(&top.public, cut).is_none() && join_public(cut, &top.public).is_none());
     Ok(())
 }
@@ -248,10 +273,10 @@ fn check_longer(
     endorsement: Vec<u8>,
     signer_public: &[u8],
 ) -> Result<(), Fail> {
-    assert!(rt; Endorsement::new(top_public, &endorsement, signer_public, ByEights).is_some());
+    assert!(rt; Endorsement::new(top_public, &endorsement, signer_public, ByEights).is_ok());
     let mut longer = endorsement;
     longer.push(0)?;
-    check_refused(rt, top_public, &longer, signer_public);
+    check_not_accepted(rt, top_public, &longer, signer_public);
     Ok(())
 }
 
@@ -261,9 +286,7 @@ fn refuses_signatures_of_other_keys(rt: HostRuntime) -> Result<(), Fail> {
     let top = endorsed(&rt, &[QUICK], &signer.public)?;
     let two_levels = signed(&rt, &[QUICK; 2], 0x44, 3, b"abc")?;
     let other = signed(&rt, &[QUICK], 0x45, 3, b"abc")?;
-    let endorsement = Endorsement::new(&top.public, &top.signature, &signer.public, ByEights).ok_or(
-        "an endorsement that is accepted",
-    )?;
+    let endorsement = Endorsement::new(&top.public, &top.signature, &signer.public, ByEights)?;
     assert!(rt;
         endorsement
             .join(rt.alloc(), &two_levels.signature)?
@@ -274,5 +297,22 @@ fn refuses_signatures_of_other_keys(rt: HostRuntime) -> Result<(), Fail> {
         .join(rt.alloc(), &other.signature)?
         .ok_or("a count of signed keys")?;
     assert!(rt; !verify(&endorsement.public(), b"abc", &text));
+    Ok(())
+}
+
+#[test]
+fn faults_have_texts(rt: HostRuntime) -> Result<(), Fail> {
+    assert_eq!(rt;
+        EndorsementFault::NotJoinable
+            .to_string(rt.alloc())?
+            .as_str(),
+        "the keys can't be joined",
+    );
+    assert_eq!(rt;
+        EndorsementFault::NotAccepted
+            .to_string(rt.alloc())?
+            .as_str(),
+        "the endorsement is not accepted",
+    );
     Ok(())
 }

@@ -1,4 +1,6 @@
 pub mod KeptTexts
+pub mod Plans
+pub mod SignatureLengths
 pub mod TextLengths
 pub mod Texts
 pub mod Ways

@@ -1,10 +1,11 @@
 -- The trees on the way of an index, from the top down, with nodes that were given, and the bytes
 -- that keeps them.
-use Rattle.std.specs.Prelude.{ℕ, zero, suc, ◌≡◌, ◌⊎◌, ◌+◌, ◌-◌, ◌*◌, ◌/◌, ◌%◌, ◌^◌, ◌<◌, ◌≤◌, List, [], ◌++◌, length, slice_index_or}
+use Rattle.std.specs.Prelude.{ℕ, zero, suc, ◌≡◌, ◌⊎◌, ◌+◌, ◌-◌, ◌*◌, ◌/◌, ◌^◌, ◌<◌, ◌≤◌, List, [], ◌++◌, length}
+use Rattle.std.specs.Prelude.{slice_index_or}
 use Rattle.std.specs.List.{flat_map}
 use Rattle.sha2.specs.Sha256.{sha256}
 use Rattle.lms_spec.specs.HashLength.{hash_length}
-use Rattle.lms_spec.specs.Bytes.{u32str}
+use Rattle.lms_spec.specs.Bytes.{u32str, u64str}
 use Rattle.lms_spec.specs.Parameters.{lms_signature_length, lms_public_key_length}
 use Rattle.lms_spec.specs.Hss.{HssKey, Level, capacity_of, level}
 use Rattle.lms_spec.specs.Tree.{lms_signature, public_key_of}
@@ -12,12 +13,14 @@ use Rattle.lms_spec.specs.Profile.{tree_at, leaf_at, derived, for_nodes, for_ran
 use Rattle.lms_tree.specs.declared.tree_key.TreeKey.{TreeKey}
 use Rattle.lms_tree.specs.Bands.{bottom_height}
 use Rattle.lms_tree.specs.Held.{nodes_in}
-use Rattle.lms_tree.specs.Kept.{AreNodes, given_public, HasShape, IsSignatureAlong, ServesLeaf, subtree_rows, upper_rows}
+use Rattle.lms_tree.specs.Kept.{AreNodes, given_public, HasShape, IsSignatureAlong, ServesLeaf, subtree_rows}
+use Rattle.lms_tree.specs.Kept.{upper_rows}
 use Rattle.lms_tree.specs.TreeKey.{tree_of}
 use Rattle.lms_hss.specs.Keys.{hss_key_of, tree_number}
 use Rattle.lms_hss.specs.Levels.{IsAdmitted}
 use Rattle.lms_hss.specs.declared.key.HssKey.{HssKey as KeyOfCode}
 use Rattle.lms_kept.specs.declared.kept_level.KeptLevel.{KeptLevel}
+use Rattle.lms_kept.specs.declared.planned_level.PlannedLevel.{PlannedLevel}
 
 -- what contracts see of `KeptTrees`: a key, an index, and of each level from the top a tree with
 -- what is signed of it
@@ -131,6 +134,20 @@ SignsNoOther given way = (k : ℕ) (other : KeptLevel) → k < length way.levels
     ⊎ ((1 ≤ k)
     × SignsOwnKey (hss_key_of way.key) way.at (k - 1) (slice_index_or way.levels k other))
 
+-- the tree of level k that an index goes through is planned, to serve the leaf there, with memory for
+-- what is signed of it
+pub record IsPlanned (key : HssKey) (g k : ℕ) (planned : PlannedLevel) : Type 0 where
+  pub tree : tree_of planned.tree.key ≡ tree_at key g k
+  pub first : planned.tree.first ≡ leaf_at key g k
+  pub last : planned.tree.last ≡ leaf_at key g k
+  pub signed : length planned.signed.items ≡ signed_length key k
+
+-- all levels from one on are planned, the lowest first
+pub record ArePlanned (key : HssKey) (g from : ℕ) (plans : List PlannedLevel) : Type 0 where
+  pub count : from + length plans ≡ length key.levels
+  pub each : (k : ℕ) (other : PlannedLevel) → from ≤ k → k < length key.levels
+      → IsPlanned key g k (slice_index_or plans (length key.levels - 1 - k) other)
+
 -- a tree that was computed and serves a leaf, whose public key leaf q of the one above it signed.
 -- The path of that signature is the tree's where the nodes above are
 pub record IsKeptChild (parent : KeptLevel) (q : ℕ) (own : TreeKey) (leaf : ℕ)
@@ -176,8 +193,7 @@ abbrev pub nodes_version : ℕ
 nodes_version = 1
 
 abbrev pub nodes_header : ℕ → List ℕ
-nodes_header at =
-    u32str nodes_word ++ u32str nodes_version ++ u32str (at / 2 ^ 32) ++ u32str (at % 2 ^ 32)
+nodes_header at = u32str nodes_word ++ u32str nodes_version ++ u64str at
 
 -- the typecodes of all levels, as in a state image
 abbrev pub sets_text : List Level → List ℕ

@@ -1,5 +1,5 @@
 //! A tree of a hierarchy with nodes that were given, and what is signed of it.
-ghost use Rattle.std.specs.Prelude.{ℕ, ◌≡◌, ◌+◌, ◌-◌, ◌*◌, ◌^◌, ◌<◌, ◌≤◌, ◌++◌, List, [], length, IfOk, OnOk, IfSome, IfNone};
+ghost use Rattle.std.specs.Prelude.{ℕ, ◌≡◌, ◌+◌, ◌-◌, ◌*◌, ◌^◌, ◌<◌, ◌≤◌, ◌++◌, List, length, vec_capacity, IfOk, OnOk, IfSome, IfNone};
 ghost use Rattle.std.specs.List.{flat_map};
 ghost use Rattle.lms_spec.specs.Parameters.{lms_public_key_length};
 ghost use Rattle.lms_spec.specs.Tree.{lms_signature};
@@ -9,9 +9,10 @@ ghost use Rattle.lms_tree.specs.Kept.{AreNodes, HasShape, IsSignatureAlong, Serv
 ghost use Rattle.lms_tree.specs.TreeKey.{tree_of, signature_length_under};
 ghost use Rattle.lms_kept.specs.Ways.{IsKeptChild, IsMoved, level_text};
 
+use crate::planned_level::PlannedLevel;
 use lms_hss::{LMS_KEY_LEN, randomizer};
 use lms_params::{HASH_LEN, OutOfMemory, lms_sig_len};
-use lms_tree::{BandTree, Begun, KeptTree, Progress, TreeKey, bottom_height};
+use lms_tree::{Begun, KeptTree, PlannedTree, Progress, TreeKey, bottom_height};
 use std::alloc::Global;
 use std::thread::Threads;
 
@@ -25,46 +26,43 @@ pub(crate) struct KeptLevel {
 }
 
 impl KeptLevel {
-    /// Computes a top tree, which no level signs. It serves this leaf.
+    /// Computes the planned tree of the top level, which no level signs.
     pub(crate) fn top(
         rt: &(impl Threads + Sync),
-        alloc: Global,
-        key: TreeKey,
-        leaf: u32,
+        planned: PlannedLevel,
         begun: &Begun<impl Progress>,
-    ) -> Result<Self, OutOfMemory>
-        requires { leaf < 2 ^ (tree_of key).lms.h }
-        ensures key { IfOk result (λ level. level.tree.key ≡ key) }
-        ensures served { IfOk result (λ level. ServesLeaf level.tree leaf) }
-        ensures shape { IfOk result (λ level. HasShape level.tree) }
-        ensures nodes { IfOk result (λ level. AreNodes level.tree) }
-        ensures signed { IfOk result (λ level. level.signed.items ≡ []) }
+    ) -> Self
+        requires one_leaf { planned.tree.first ≡ planned.tree.last }
+        ensures key { result.tree.key ≡ planned.tree.key }
+        ensures served { ServesLeaf result.tree planned.tree.first }
+        ensures shape { HasShape result.tree }
+        ensures nodes { AreNodes result.tree }
+        ensures signed { result.signed ≡ planned.signed }
     {
-        let tree = computed(rt, alloc, key, leaf, begun)?;
-        let signed = Vec::new(alloc);
-        Ok(KeptLevel { tree, signed })
+        let PlannedLevel { tree, signed } = planned;
+        let tree = computed(rt, tree, begun);
+        KeptLevel { tree, signed }
     }
 
-    /// Computes the tree of this key below leaf q, which must be served and signs its public key.
-    /// The new tree serves leaf `below`.
+    /// Computes the planned tree below leaf q, which must be served and signs its public key.
     pub(crate) fn child(
         &self,
         rt: &(impl Threads + Sync),
-        alloc: Global,
         q: u32,
-        key: TreeKey,
-        below: u32,
+        planned: PlannedLevel,
         begun: &Begun<impl Progress>,
-    ) -> Result<Self, OutOfMemory>
+    ) -> Self
         requires served { ServesLeaf self.now.tree q }
-        requires below { below < 2 ^ (tree_of key).lms.h }
-        ensures { IfOk result (IsKeptChild self.now q key below) }
+        requires one_leaf { planned.tree.first ≡ planned.tree.last }
+        requires long { length planned.signed.items
+            ≡ signature_length_under self.now.tree.key + lms_public_key_length }
+        ensures { IsKeptChild self.now q planned.tree.key planned.tree.first result }
     {
+        let PlannedLevel { tree, mut signed } = planned;
         let above = self.tree.key();
-        let mut signed = vec![in alloc; 0; lms_sig_len(above.lms, above.ots) + LMS_KEY_LEN]?;
-        let tree = computed(rt, alloc, key, below, begun)?;
+        let tree = computed(rt, tree, begun);
         self.sign_key_into(q, &randomizer(&above, q), &tree.public_bytes(), &mut signed);
-        Ok(KeptLevel { tree, signed })
+        KeptLevel { tree, signed }
     }
 
     /// Moves to leaf q of its tree. `None` where the root of the bottom subtree there is computed
@@ -158,25 +156,29 @@ impl KeptLevel {
         }
     }
 
-    /// Appends the LMS signature of a message by leaf q, which is served, under the randomizer `c`.
+    /// Appends the LMS signature of a message by leaf q, which is served, under the randomizer `c`,
+    /// to a text that has room for it.
     pub(crate) fn append_signature(
         &self,
         q: u32,
         c: &[u8; HASH_LEN],
         msg: &[u8],
         text: &mut Vec<u8>,
-    ) -> Result<(), OutOfMemory>
-        requires { ServesLeaf self.now.tree q }
-        ensures { OnOk result ((signature : List ℕ) × (text.new.items ≡ text.old.items ++ signature)
+    )
+        requires served { ServesLeaf self.now.tree q }
+        requires room { length text.old.items + signature_length_under self.now.tree.key
+            ≤ vec_capacity text.old }
+        ensures { (signature : List ℕ) × (text.new.items ≡ text.old.items ++ signature)
             × IsSignatureAlong (tree_of self.now.tree.key) q c.now msg.now signature
             × (AreNodes self.now.tree
-            → signature ≡ lms_signature (tree_of self.now.tree.key) q c.now msg.now)) }
+            → signature ≡ lms_signature (tree_of self.now.tree.key) q c.now msg.now) }
     {
         let key = self.tree.key();
         let start = text.len();
-        text.resize(start + lms_sig_len(key.lms, key.ots), 0)?;
+        let Ok(()) = text.resize(start + lms_sig_len(key.lms, key.ots), 0) else {
+            unreachable!()
+        };
         self.tree.sign_into(q, c, msg, &mut text[start..]);
-        Ok(())
     }
 
     /// Writes the LMS signature of a public key by leaf q, and that key.
@@ -195,22 +197,19 @@ impl KeptLevel {
     }
 }
 
-/// Computes the nodes that serve a leaf of a tree.
+/// Computes the nodes of a planned tree that is to serve one leaf.
 fn computed(
     rt: &(impl Threads + Sync),
-    alloc: Global,
-    key: TreeKey,
-    leaf: u32,
+    planned: PlannedTree,
     begun: &Begun<impl Progress>,
-) -> Result<KeptTree, OutOfMemory>
-    requires { leaf < 2 ^ (tree_of key).lms.h }
-    ensures key { IfOk result (λ tree. tree.key ≡ key) }
-    ensures served { IfOk result (λ tree. ServesLeaf tree leaf) }
-    ensures shape { IfOk result HasShape }
-    ensures nodes { IfOk result AreNodes }
+) -> KeptTree
+    requires { planned.first ≡ planned.last }
+    ensures key { result.key ≡ planned.key }
+    ensures served { ServesLeaf result planned.first }
+    ensures shape { HasShape result }
+    ensures nodes { AreNodes result }
 {
-    let tree = BandTree::build_watched(rt, alloc, key, leaf, leaf, begun)?;
-    Ok(tree.into_kept())
+    planned.build(rt, begun).into_kept()
 }
 
 /// Cuts so many values of 32 bytes off the front of `text`. The second part of the result is the

@@ -1,14 +1,14 @@
 //! The bytes of kept nodes: their header, and the check value at their end.
 ghost use Rattle.std.specs.Prelude.{ℕ, ◌≡◌, ◌^◌, ◌<◌, ◌≤◌, ◌++◌, List, length, IfOk, IfSome, IfNone};
 ghost use Rattle.sha2.specs.Hashers.{Holds256};
-ghost use Rattle.lms_spec.specs.Bytes.{u32str};
+ghost use Rattle.lms_spec.specs.Bytes.{u32str, u64str};
 ghost use Rattle.lms_spec.specs.Hss.{most_levels};
 ghost use Rattle.lms_hss.specs.Keys.{hss_key_of};
 ghost use Rattle.lms_hss.specs.Levels.{levels_of};
 ghost use Rattle.lms_kept.specs.Ways.{check_of, nodes_header, sets_text};
 
 use lms_hss::{HssKey, nodes_secret};
-use lms_params::{HASH_LEN, LmsType, OtsType, OutOfMemory, split_u32};
+use lms_params::{HASH_LEN, LmsType, OtsType, OutOfMemory, split_u32, split_u64};
 use sha2::{Digest, Sha256};
 use std::alloc::Global;
 
@@ -18,7 +18,7 @@ pub const MOST_TEXT_LEN: usize = 0x60_0000;
 /// The first four bytes, `HSSN`.
 const WORD: u32 = 0x4853_534e;
 
-/// The next four.
+/// The format's version.
 const VERSION: u32 = 1;
 
 /// The length of the header.
@@ -27,13 +27,12 @@ pub(crate) const HEADER_LEN: usize = 16;
 /// The length of the check value.
 pub(crate) const CHECK_LEN: usize = 32;
 
-/// The header: a word, the version, and the two halves of an index.
+/// The header: a word, the version, and an index.
 #[derive(Clone, Copy)]
 struct Numbers {
     word: u32,
     version: u32,
-    high: u32,
-    low: u32,
+    at: u64,
 }
 
 /// The header for an index, `HEADER_LEN` bytes, with memory for `capacity` bytes in all.
@@ -43,8 +42,7 @@ pub(crate) fn header(alloc: Global, at: u64, capacity: usize) -> Result<Vec<u8>,
     let mut text = Vec::with_capacity(alloc, capacity)?;
     text.extend_from_slice(&WORD.to_be_bytes())?;
     text.extend_from_slice(&VERSION.to_be_bytes())?;
-    text.extend_from_slice(&((at >> 32) as u32).to_be_bytes())?;
-    text.extend_from_slice(&((at & 0xffff_ffff) as u32).to_be_bytes())?;
+    text.extend_from_slice(&at.to_be_bytes())?;
     Ok(text)
 }
 
@@ -119,31 +117,18 @@ fn split_header(body: &[u8]) -> Option<(u64, &[u8])>
     if numbers.version != VERSION {
         return None;
     }
-    let at = u64::from(numbers.high) * 0x1_0000_0000 + u64::from(numbers.low);
-    Some((at, rest))
+    Some((numbers.at, rest))
 }
 
-/// The four numbers of the header, and what is after them. `None` where there are fewer than 16
-/// bytes.
+/// The numbers of the header, and what is after them. `None` where there are fewer than 16 bytes.
 fn split_numbers(text: &[u8]) -> Option<(Numbers, &[u8])>
     ensures some { IfSome result (λ r.
-        text.now ≡ u32str r.0.word
-        ++ (u32str r.0.version ++ (u32str r.0.high ++ (u32str r.0.low ++ r.1.now)))) }
-    ensures high { IfSome result (λ r. r.0.high < 2 ^ 32) }
-    ensures low { IfSome result (λ r. r.0.low < 2 ^ 32) }
+        text.now ≡ u32str r.0.word ++ (u32str r.0.version ++ (u64str r.0.at ++ r.1.now))) }
+    ensures fits { IfSome result (λ r. r.0.at < 2 ^ 64) }
     ensures none { IfNone result (length text.now < 16) }
 {
     let (word, rest) = split_u32(text)?;
     let (version, rest) = split_u32(rest)?;
-    let (high, rest) = split_u32(rest)?;
-    let (low, rest) = split_u32(rest)?;
-    Some((
-        Numbers {
-            word,
-            version,
-            high,
-            low,
-        },
-        rest,
-    ))
+    let (at, rest) = split_u64(rest)?;
+    Some((Numbers { word, version, at }, rest))
 }

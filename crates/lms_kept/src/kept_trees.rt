@@ -1,16 +1,18 @@
 //! The trees that an index goes through, with nodes that were given.
-ghost use Rattle.std.specs.Prelude.{ℕ, ◌≡◌, ◌+◌, ◌-◌, ◌<◌, ◌≤◌, ◌↔◌, ◌++◌, length, slice_index_or, IsTrue, IfOk, IfSome, IfNone};
+ghost use Rattle.std.specs.Prelude.{ℕ, ◌≡◌, ◌+◌, ◌-◌, ◌<◌, ◌≤◌, ◌↔◌, [], ◌++◌, length, slice_index_or, vec_capacity, IsTrue, IfOk, IfSome, IfNone};
 ghost use Rattle.std.specs.List.{flat_map};
 ghost use Rattle.lms_spec.specs.Bytes.{u32str};
-ghost use Rattle.lms_spec.specs.Hss.{capacity_of, HssAccepts};
+ghost use Rattle.lms_spec.specs.Hss.{capacity_of, HssAccepts, hss_signature_length};
 ghost use Rattle.lms_spec.specs.Profile.{hss_signature, hss_public_key};
 ghost use Rattle.lms_hss.specs.Keys.{hss_key_of};
-ghost use Rattle.lms_kept.specs.Ways.{AreGenuine, bottom_of, EndsAlong, IsOnWay, IsWay, level_length, level_text, most_text_length, nodes_text, public_of, Serves, signed_keys as signed_keys_of, SignOwnKeys, SignsNoOther, Way};
+ghost use Rattle.lms_hss.specs.Levels.{levels_of};
+ghost use Rattle.lms_kept.specs.Ways.{AreGenuine, ArePlanned, bottom_of, EndsAlong, IsOnWay, IsWay, level_length, level_text, most_text_length, nodes_text, public_of, Serves, signed_keys as signed_keys_of, SignOwnKeys, SignsNoOther, Way};
 ghost use Rattle.lms_kept.specs.declared.kept_level.KeptLevel.{KeptLevel as LevelKept};
 
 use crate::kept_level::KeptLevel;
 use crate::kept_text::{CHECK_LEN, HEADER_LEN, check_value, checked_rest, header};
 use crate::levels::{leaves_from, level_len, shared_levels, signed_len};
+use crate::planned_level::{PlannedLevel, planned_levels};
 use lms_hss::{HSS_KEY_LEN, HssKey, Progress, public_key_bytes, verify};
 use lms_params::{HASH_LEN, OutOfMemory};
 use lms_tree::{Begun, bottom_height};
@@ -42,7 +44,8 @@ impl Model for KeptTrees {
 
 impl KeptTrees {
     /// Computes only the top tree, for the first index: a new key needs it for its public key. Its
-    /// leaves are reported to `progress`. `OutOfMemory` where memory is refused.
+    /// leaves are reported to `progress`. `OutOfMemory` where memory is refused, before any leaf is
+    /// computed.
     pub fn top(
         rt: &(impl Threads + Sync),
         alloc: Global,
@@ -56,12 +59,16 @@ impl KeptTrees {
         ensures genuine { IfOk result AreGenuine }
     {
         let (lms, _) = key.levels.as_slice()[0];
+        let mut levels = Vec::with_capacity(alloc, 1)?;
+        let planned = PlannedLevel::new(alloc, &key, 0, 0)?;
         let begun = Begun::new(progress, 1 << lms.height());
-        KeptTrees::top_of(rt, alloc, key, 0, &begun)
+        levels.push_reserved(KeptLevel::top(rt, planned, &begun));
+        Ok(KeptTrees { key, at: 0, levels })
     }
 
     /// Computes the trees that an index goes through, level by level from the top. The leaves of
-    /// all these trees are reported to `progress`. `OutOfMemory` where memory is refused.
+    /// all these trees are reported to `progress`. `OutOfMemory` where memory is refused, before any
+    /// leaf is computed.
     pub fn compute(
         rt: &(impl Threads + Sync),
         alloc: Global,
@@ -76,8 +83,12 @@ impl KeptTrees {
         ensures way { IfOk result IsWay }
         ensures genuine { IfOk result AreGenuine }
     {
+        let mut levels = Vec::with_capacity(alloc, key.levels.as_slice().len())?;
+        let top = PlannedLevel::new(alloc, &key, at, 0)?;
+        let below = planned_levels(alloc, &key, at, 1)?;
         let begun = Begun::new(progress, leaves_from(&key, 0));
-        KeptTrees::top_of(rt, alloc, key, at, &begun)?.completed(rt, alloc, &begun)
+        levels.push_reserved(KeptLevel::top(rt, top, &begun));
+        Ok(KeptTrees::completed(rt, key, at, levels, below, &begun))
     }
 
     /// Whether all levels are there and their nodes sign index g.
@@ -95,7 +106,7 @@ impl KeptTrees {
     /// are computed. The public key of each of these is signed by the tree above it; what is signed
     /// of the others stays as it was given. The leaves that are computed are reported to
     /// `progress`. `None` where the root of that bottom subtree is not the node that was given for
-    /// it; `OutOfMemory` where memory is refused.
+    /// it; `OutOfMemory` where memory is refused, before any leaf is computed.
     pub fn moved_to(
         self,
         rt: &(impl Threads + Sync),
@@ -125,20 +136,21 @@ impl KeptTrees {
         };
         let leaf = key.leaf_of(g, shared - 1);
         levels.reserve(key.levels.as_slice().len() - levels.len())?;
+        let below = planned_levels(alloc, &key, g, shared)?;
         let begun = Begun::new(progress, last.leaves_to(leaf) + leaves_from(&key, shared));
         let Some(last) = last.moved_to(rt, alloc, leaf, &begun)? else {
             return Ok(None);
         };
         levels.push_reserved(last);
-        let trees = KeptTrees { key, at: g, levels };
-        Ok(Some(trees.completed(rt, alloc, &begun)?))
+        Ok(Some(KeptTrees::completed(rt, key, g, levels, below, &begun)))
     }
 
     /// The signature of a message by index g, which must be served, under the randomizer `c` (RFC
     /// 8554, 6.2), if it is accepted under the public key that `public` gives. `None` if it is not,
     /// which comes only where something given is wrong. In any case the one-time signature of the
     /// message is RFC 8554's. Each index must sign one message only, which is not checked here.
-    /// `OutOfMemory` where memory for the signature is refused.
+    /// `OutOfMemory` where memory for the signature is refused; `sign_by_text` asks for that before it
+    /// computes trees.
     pub fn sign(
         &self,
         alloc: Global,
@@ -157,11 +169,35 @@ impl KeptTrees {
             → HssAccepts (public_of self.now other) msg.now text.items)) }
         ensures refused { IfOk result (λ signed. IfNone signed (¬ AreGenuine self.now)) }
     {
-        let text = self.signed(alloc, g, c, msg)?;
+        let memory = Vec::with_capacity(alloc, self.key.sig_len())?;
+        Ok(self.sign_in(memory, g, c, msg))
+    }
+
+    /// As `sign`, with the signature in `memory`, which is empty and has room for it.
+    pub(crate) fn sign_in(
+        &self,
+        memory: Vec<u8>,
+        g: u64,
+        c: &[u8; HASH_LEN],
+        msg: &[u8],
+    ) -> Option<Vec<u8>>
+        requires served { Serves self.now g }
+        requires empty { memory.items ≡ [] }
+        requires room { hss_signature_length (levels_of self.now.key.levels) ≤ vec_capacity memory }
+        ensures along { IfSome result (λ text. EndsAlong self.now g c.now msg.now text.items) }
+        ensures signature { IfSome result (λ text. AreGenuine self.now
+            → text.items ≡ hss_signature (hss_key_of self.now.key) g c.now msg.now) }
+        ensures accepted { IfSome result (λ text. AreGenuine self.now
+            → HssAccepts (hss_public_key (hss_key_of self.now.key)) msg.now text.items) }
+        ensures checked { IfSome result (λ text. (other : LevelKept)
+            → HssAccepts (public_of self.now other) msg.now text.items) }
+        ensures refused { IfNone result (¬ AreGenuine self.now) }
+    {
+        let text = self.signed(memory, g, c, msg);
         if verify(&self.public(), msg, &text) {
-            Ok(Some(text))
+            Some(text)
         } else {
-            Ok(None)
+            None
         }
     }
 
@@ -216,104 +252,73 @@ impl KeptTrees {
         Ok(Some(KeptTrees { key, at, levels }))
     }
 
-    /// Computes only the top tree that an index goes through.
-    fn top_of(
+    /// Computes the planned levels that are missing, each below the one above it. The list of
+    /// levels has room for all.
+    fn completed(
         rt: &(impl Threads + Sync),
-        alloc: Global,
         key: HssKey,
         at: u64,
+        levels: Vec<KeptLevel>,
+        plans: Vec<PlannedLevel>,
         begun: &Begun<impl Progress>,
-    ) -> Result<Self, OutOfMemory>
-        requires { at < capacity_of (hss_key_of key) }
-        ensures key { IfOk result (λ trees. trees.key ≡ key) }
-        ensures at { IfOk result (λ trees. trees.at ≡ at) }
-        ensures alone { IfOk result (λ trees. length trees.levels ≡ 1) }
-        ensures way { IfOk result IsWay }
-        ensures genuine { IfOk result AreGenuine }
+    ) -> Self
+        requires way { IsWay (record { key = key; at = at; levels = levels.items }) }
+        requires planned { ArePlanned (hss_key_of key) at (length levels.items) plans.items }
+        requires room { length key.levels ≤ vec_capacity levels }
+        ensures key { result.key ≡ key }
+        ensures at { result.at ≡ at }
+        ensures all { length result.levels ≡ length key.levels }
+        ensures way { IsWay result }
+        ensures same { (k : ℕ) (other : LevelKept) → k < length levels.items
+            → slice_index_or result.levels k other ≡ slice_index_or levels.items k other }
+        ensures signs { SignOwnKeys (hss_key_of key) at (length levels.items) result.levels }
+        ensures genuine { AreGenuine (record { key = key; at = at; levels = levels.items })
+            → AreGenuine result }
     {
-        let mut levels = Vec::with_capacity(alloc, key.levels.as_slice().len())?;
-        let (tree, leaf) = (key.tree_key(at, 0), key.leaf_of(at, 0));
-        levels.push_reserved(KeptLevel::top(rt, alloc, tree, leaf, begun)?);
-        Ok(KeptTrees { key, at, levels })
-    }
-
-    /// Computes the levels that are missing, each below the one above it. It requests the capacity
-    /// for the list of levels, which every caller has requested before any leaf; so this request is
-    /// not refused after leaves were computed.
-    fn completed(
-        self,
-        rt: &(impl Threads + Sync),
-        alloc: Global,
-        begun: &Begun<impl Progress>,
-    ) -> Result<Self, OutOfMemory>
-        ensures key { IfOk result (λ trees. trees.key ≡ self.key) }
-        ensures at { IfOk result (λ trees. trees.at ≡ self.at) }
-        ensures all { IfOk result (λ trees. length trees.levels ≡ length self.key.levels) }
-        ensures way { IfOk result IsWay }
-        ensures same { IfOk result (λ trees. (k : ℕ) (other : LevelKept) → k < length self.levels
-            → slice_index_or trees.levels k other ≡ slice_index_or self.levels k other) }
-        ensures signs { IfOk result (λ trees.
-            SignOwnKeys (hss_key_of self.key) self.at (length self.levels) trees.levels) }
-        ensures genuine { IfOk result (λ trees. AreGenuine self → AreGenuine trees) }
-    {
-        let KeptTrees {
-            key,
-            at,
-            mut levels,
-        } = self;
-        let count = key.levels.as_slice().len();
-        levels.reserve(count - levels.len())?;
-        for k in levels.len()..count {
-            let child = levels[k - 1].child(
-                rt,
-                alloc,
-                key.leaf_of(at, k - 1),
-                key.tree_key(at, k),
-                key.leaf_of(at, k),
-                begun,
-            )?;
+        let mut levels = levels;
+        let mut plans = plans;
+        while let Some(planned) = plans.pop() {
+            let above = levels.len() - 1;
+            let child = levels[above].child(rt, key.leaf_of(at, above), planned, begun);
             levels.push_reserved(child);
         }
-        Ok(KeptTrees { key, at, levels })
+        KeptTrees { key, at, levels }
     }
 
-    /// The signature of a message by index g.
-    fn signed(
-        &self,
-        alloc: Global,
-        g: u64,
-        c: &[u8; HASH_LEN],
-        msg: &[u8],
-    ) -> Result<Vec<u8>, OutOfMemory>
-        requires { Serves self.now g }
-        ensures along { IfOk result (λ text. EndsAlong self.now g c.now msg.now text.items) }
-        ensures signature { IfOk result (λ text.
-            AreGenuine self.now
-            → text.items ≡ hss_signature (hss_key_of self.now.key) g c.now msg.now) }
-        ensures accepted { IfOk result (λ text.
-            AreGenuine self.now
-            → HssAccepts (hss_public_key (hss_key_of self.now.key)) msg.now text.items) }
+    /// The signature of a message by index g, in `memory`, which is empty and has room for it.
+    fn signed(&self, memory: Vec<u8>, g: u64, c: &[u8; HASH_LEN], msg: &[u8]) -> Vec<u8>
+        requires served { Serves self.now g }
+        requires empty { memory.items ≡ [] }
+        requires room { hss_signature_length (levels_of self.now.key.levels) ≤ vec_capacity memory }
+        ensures along { EndsAlong self.now g c.now msg.now result.items }
+        ensures signature { AreGenuine self.now
+            → result.items ≡ hss_signature (hss_key_of self.now.key) g c.now msg.now }
+        ensures accepted { AreGenuine self.now
+            → HssAccepts (hss_public_key (hss_key_of self.now.key)) msg.now result.items }
     {
         let bottom = self.key.levels.as_slice().len() - 1;
-        let mut text = self.signed_keys(alloc)?;
+        let mut text = self.signed_keys(memory);
         self.level(bottom)
-            .append_signature(self.key.leaf_of(g, bottom), c, msg, &mut text)?;
-        Ok(text)
+            .append_signature(self.key.leaf_of(g, bottom), c, msg, &mut text);
+        text
     }
 
-    /// What is before the signature of a message: how many public keys are signed, and what is
-    /// signed of each level.
-    fn signed_keys(&self, alloc: Global) -> Result<Vec<u8>, OutOfMemory>
-        ensures { IfOk result (λ text.
-            text.items ≡ u32str (bottom_of self.now.key) ++ signed_keys_of self.now.levels) }
+    /// What is before the signature of a message, in `memory`, which is empty and has room for it:
+    /// how many public keys are signed, and what is signed of each level.
+    fn signed_keys(&self, memory: Vec<u8>) -> Vec<u8>
+        requires empty { memory.items ≡ [] }
+        requires room { 4 + length (signed_keys_of self.now.levels) ≤ vec_capacity memory }
+        ensures text { result.items
+            ≡ u32str (bottom_of self.now.key) ++ signed_keys_of self.now.levels }
+        ensures room { vec_capacity memory ≤ vec_capacity result }
     {
         let signed_keys = self.key.levels.as_slice().len() as u32 - 1;
-        let mut text = Vec::with_capacity(alloc, self.key.sig_len())?;
-        text.extend_from_slice(&signed_keys.to_be_bytes())?;
+        let mut text = memory;
+        append(&signed_keys.to_be_bytes(), &mut text);
         for level in &self.levels {
-            text.extend_from_slice(&level.signed)?;
+            append(&level.signed, &mut text);
         }
-        Ok(text)
+        text
     }
 
     /// The length of what `text` gives.
@@ -335,6 +340,17 @@ impl KeptTrees {
     {
         &self.levels[k]
     }
+}
+
+/// Appends bytes to a text that has room for them.
+fn append(bytes: &[u8], text: &mut Vec<u8>)
+    requires { length text.old.items + length bytes.now ≤ vec_capacity text.old }
+    ensures text { text.new.items ≡ text.old.items ++ bytes.now }
+    ensures room { vec_capacity text.old ≤ vec_capacity text.new }
+{
+    let Ok(()) = text.extend_from_slice(bytes) else {
+        unreachable!()
+    };
 }
 
 /// Reads as many levels of the trees that an index goes through as `text` has, from the top on. The

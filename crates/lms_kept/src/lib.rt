@@ -11,6 +11,7 @@ mod kept_text;
 mod kept_trees;
 pub mod laws;
 mod levels;
+mod planned_level;
 mod signing;
 
 pub use crate::kept_text::MOST_TEXT_LEN;

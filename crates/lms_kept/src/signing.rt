@@ -28,7 +28,8 @@ pub struct KeptSignature {
 ///
 /// Whatever `text` has, the one-time signature of the message is RFC 8554's, and no one-time key of
 /// an upper level signs what came from there. `OutOfMemory` where memory is refused, also for the
-/// nodes of `text`: the index stays used.
+/// nodes of `text`: the index stays used. All memory is asked for before any leaf is computed.
+/// Where the nodes in `text` turn out to be wrong it is asked for again, perhaps after leaves.
 pub fn sign_by_text(
     rt: &(impl Threads + Sync),
     alloc: Global,
@@ -95,8 +96,9 @@ fn sign_anew(
         (text : Option (List ℕ)) → IsNotRight text key
         → IsSignedByText text key index c.now msg.now s.signature.items s.trees) }
 {
+    let memory = Vec::with_capacity(alloc, key.sig_len())?;
     let trees = KeptTrees::compute(rt, alloc, key, index, progress)?;
-    let Some(signature) = trees.sign(alloc, index, c, msg)? else {
+    let Some(signature) = trees.sign_in(memory, index, c, msg) else {
         // Signatures by computed trees are accepted.
         unreachable!()
     };
@@ -126,10 +128,11 @@ fn sign_by_nodes(
         IsSignedByText (Some text.now) key.now index c.now msg.now s.signature.items s.trees)) }
     ensures none { IfOk result (λ signed. IfNone signed (IsNotRight (Some text.now) key.now)) }
 {
+    let memory = Vec::with_capacity(alloc, key.sig_len())?;
     let Some((trees, held)) = trees_of(rt, alloc, *key, index, text, progress)? else {
         return Ok(None);
     };
-    let Some(signature) = trees.sign(alloc, index, c, msg)? else {
+    let Some(signature) = trees.sign_in(memory, index, c, msg) else {
         return Ok(None);
     };
     Ok(Some(KeptSignature {

@@ -4,8 +4,8 @@ ghost use Rattle.std.specs.Prelude.{◌≡◌, IfOk, IfSome};
 mod texts;
 mod wrong;
 
-use lms_fixtures::{Sums, lease_of};
-use lms_hss::{Forest, HssKey, KeyFault, Levels, verify};
+use lms_fixtures::{Sums, key_of, lease_of};
+use lms_hss::{Forest, HssKey, verify};
 use lms_kept::{KeptSignature, KeptTrees, sign_by_text};
 use lms_params::{LmsType, OtsType, OutOfMemory};
 use std::process::Abort;
@@ -32,11 +32,6 @@ const TALL_ABOVE: [(LmsType, OtsType); 2] = [
     (LmsType::H15, OtsType::W1),
     (LmsType::H5, OtsType::W1),
 ];
-
-/// The key of these levels.
-fn key_of(levels: &[(LmsType, OtsType)]) -> Result<HssKey, KeyFault> {
-    Ok(HssKey::new(Levels::new(levels)?, [0x11; 32], [0x22; 16]))
-}
 
 /// The trees of an index that a key has.
 fn compute(
@@ -122,7 +117,7 @@ fn check_indices(
     levels: &[(LmsType, OtsType)],
     indices: &[u64],
 ) -> Result<(), Fail> {
-    let key = key_of(levels)?;
+    let key = key_of(levels, 0x11)?;
     let mut text = compute(rt, key, 0, &Sums::new())?.text(rt.alloc())?;
     for g in indices {
         text = check_next(rt, key, &text, *g)?;
@@ -172,7 +167,7 @@ fn signs_across_bottom_subtrees_above(rt: HostRuntime) -> Result<(), Fail> {
 /// The public key, and each index from the first on, by the top tree of a new key.
 #[test]
 fn begins_with_the_top_tree(rt: HostRuntime) -> Result<(), Fail> {
-    let key = key_of(&THREE_LEVELS)?;
+    let key = key_of(&THREE_LEVELS, 0x11)?;
     let sums = Sums::new();
     let top = KeptTrees::top(&rt, rt.alloc(), key, &sums)?;
     assert!(rt; sums.are(1, 32));
@@ -212,13 +207,13 @@ fn check_by_text(
 /// key, and by some that are damaged.
 #[test]
 fn signs_by_a_text_or_anew(rt: HostRuntime) -> Result<(), Fail> {
-    let key = key_of(&[QUICK; 2])?;
+    let key = key_of(&[QUICK; 2], 0x11)?;
     let signed = check_by_text(&rt, key, 31, None, true)?;
     let mut text = signed.trees.ok_or("trees")?.text(rt.alloc())?;
     let _same = check_by_text(&rt, key, 30, Some(&text), false)?;
     let next = check_by_text(&rt, key, 32, Some(&text), true)?;
     assert!(rt; next.trees.ok_or("trees")?.serves(32));
-    let _other = check_by_text(&rt, key_of(&[LEVEL])?, 31, Some(&text), true)?;
+    let _other = check_by_text(&rt, key_of(&[LEVEL], 0x11)?, 31, Some(&text), true)?;
     if let Some(byte) = text.last_mut() {
         *byte ^= 1;
     }
@@ -230,7 +225,7 @@ fn signs_by_a_text_or_anew(rt: HostRuntime) -> Result<(), Fail> {
 /// of a tree of height 15, and the tree below it.
 #[test]
 fn reports_the_leaves_that_are_computed(rt: HostRuntime) -> Result<(), Fail> {
-    let key = key_of(&[QUICK; 2])?;
+    let key = key_of(&[QUICK; 2], 0x11)?;
     let sums = Sums::new();
     let first = compute(&rt, key, 0, &sums)?;
     assert!(rt; sums.are(1, 64));
@@ -239,7 +234,7 @@ fn reports_the_leaves_that_are_computed(rt: HostRuntime) -> Result<(), Fail> {
     let same = moved(&rt, key, next, 63, &sums)?.ok_or("right nodes")?;
     assert!(rt; sums.are(3, 64 + 32));
     drop(same);
-    let tall = key_of(&TALL_ABOVE)?;
+    let tall = key_of(&TALL_ABOVE, 0x11)?;
     let below = Sums::new();
     let start = compute(&rt, tall, 0, &below)?;
     let there = moved(&rt, tall, start, 32768, &below)?.ok_or("right nodes")?;
@@ -248,18 +243,39 @@ fn reports_the_leaves_that_are_computed(rt: HostRuntime) -> Result<(), Fail> {
     Ok(())
 }
 
-/// All memory for a key of one level is asked for before the first leaf. The merge check refuses
-/// each request in turn.
+/// Signs by an index with so many leaves computed, or, where memory is refused, with none.
+fn check_leaves(
+    rt: &(impl Abort + AllocGlobal + Threads + Sync),
+    key: HssKey,
+    g: u64,
+    text: Option<&[u8]>,
+    leaves: u64,
+) -> Result<Option<KeptTrees>, Fail> {
+    let sums = Sums::new();
+    let lease = lease_of(rt.alloc(), key, g, 1)?;
+    let signed = sign_by_text(rt, rt.alloc(), lease, &RANDOMIZER, b"abc", text, &sums);
+    let (computed, trees) = match signed {
+        Ok(signed) => (leaves, signed.trees),
+        Err(OutOfMemory) => (0, None),
+    };
+    assert_eq!(rt; sums.computed(), computed, "{g}");
+    Ok(trees)
+}
+
+/// All memory for the trees of two levels and the signature is asked for before the first leaf, and
+/// so it is for the next tree. The merge check refuses each request in turn.
 #[test]
 fn no_leaf_is_computed_where_memory_is_refused(rt: HostRuntime) -> Result<(), Fail> {
-    let key = key_of(&[QUICK])?;
-    assert!(rt; key.capacity() == 32);
-    let sums = Sums::new();
-    let done = match KeptTrees::compute(&rt, rt.alloc(), key, 3, &sums) {
-        Ok(_) => 32,
-        Err(OutOfMemory) => 0,
+    let key = key_of(&[QUICK; 2], 0x11)?;
+    let trees = match check_leaves(&rt, key, 31, None, 64)? {
+        Some(trees) => trees,
+        None => check_leaves(&rt, key, 31, None, 64)?.ok_or("trees")?,
     };
-    assert_eq!(rt; sums.computed(), done);
+    let text = match trees.text(rt.alloc()) {
+        Ok(text) => text,
+        Err(OutOfMemory) => trees.text(rt.alloc())?,
+    };
+    let _next = check_leaves(&rt, key, 32, Some(&text), 32)?;
     Ok(())
 }
 
@@ -267,7 +283,7 @@ fn no_leaf_is_computed_where_memory_is_refused(rt: HostRuntime) -> Result<(), Fa
 /// works.
 #[test]
 fn signs_after_refused_memory(rt: HostRuntime) -> Result<(), Fail> {
-    let key = key_of(&[(LmsType::H5, OtsType::W1); 2])?;
+    let key = key_of(&[(LmsType::H5, OtsType::W1); 2], 0x11)?;
     assert!(rt; key.capacity() == 1024);
     let trees = match KeptTrees::compute(&rt, rt.alloc(), key, 31, &Sums::new()) {
         Ok(trees) => trees,

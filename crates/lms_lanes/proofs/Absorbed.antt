@@ -1,6 +1,9 @@
 -- A hash over a head of 22 bytes and values of 32, block by block: two values a block.
-use Rattle.std.proofs.Common.{◌≡◌, ℕ, ◌+◌, ◌*◌, ◌/◌, ◌%◌, ◌-◌, ◌<◌, ◌≤◌, ◌^◌, List, [], ◌∷◌, ◌++◌, length, map, take, drop, replicate, refl, sym, ap, ap₂, ◌∙◌, arith, subst, length-append, length-drop, zero-add}
-use Rattle.std.proofs.lemmas.List.{drop-append-le, take_all, take_at, append_assoc, append-nil, length-take-le, drop_at, take-append-drop}
+use Rattle.std.proofs.Common.{◌≡◌, ℕ, ◌+◌, ◌*◌, ◌/◌, ◌%◌, ◌-◌, ◌<◌, ◌≤◌, ◌^◌, List, [], ◌∷◌, ◌++◌, length, map, take}
+use Rattle.std.proofs.Common.{drop, replicate, refl, sym, ap, ap₂, ◌∙◌, arith, subst, length-append, length-drop}
+use Rattle.std.proofs.Common.{zero-add}
+use Rattle.std.proofs.lemmas.List.{drop-append-le, take_all, take_at, append_assoc, append-nil, length-take-le, drop_at}
+use Rattle.std.proofs.lemmas.List.{take-append-drop}
 use Rattle.std.proofs.lemmas.List.Folds.{concat-append}
 use Rattle.std.proofs.lemmas.List.FromFn.{map-range_with_len_more}
 use Rattle.std.specs.List.{concat, range_with_len}
@@ -16,21 +19,26 @@ pub record IsAbsorbed (hash rest text : List ℕ) (blocks : ℕ) : Type 0 where
   pub taken : hash ≡ hash_after initial_hash_256 text blocks
   pub left : HasHead rest (drop (blocks * 64) text)
 
-pub IsAbsorbed-head : (hash rest text : List ℕ) → hash ≡ initial_hash_256 → HasHead rest text → IsAbsorbed hash rest text 0
+pub IsAbsorbed-head : (hash rest text : List ℕ) → hash ≡ initial_hash_256 → HasHead rest text
+    → IsAbsorbed hash rest text 0
 unfolding hash_after
 IsAbsorbed-head hash rest text is begins = record { long = begins.long; taken = is; left = begins }
 
 -- one block more
-next-block : (hash text d block : List ℕ) (blocks : ℕ) → blocks * 64 ≤ length text → hash ≡ hash_after initial_hash_256 text blocks
+next-block : (hash text d block : List ℕ) (blocks : ℕ) → blocks * 64 ≤ length text
+    → hash ≡ hash_after initial_hash_256 text blocks
     → block ≡ take 64 (drop (blocks * 64) text ++ d)
     → compress hash block ≡ hash_after initial_hash_256 (text ++ d) (blocks + 1)
 next-block hash text d block blocks long is same =
-    let before : hash_after initial_hash_256 (text ++ d) blocks ≡ hash = hash_after-append initial_hash_256 text d blocks long ∙ sym is in
-    let cut : take 64 (drop (blocks * 64) (text ++ d)) ≡ block = ap (take 64) (drop-append-le (blocks * 64) text d long) ∙ sym same in
+    let before : hash_after initial_hash_256 (text ++ d) blocks ≡ hash =
+    hash_after-append initial_hash_256 text d blocks long ∙ sym is in
+    let cut : take 64 (drop (blocks * 64) (text ++ d)) ≡ block =
+    ap (take 64) (drop-append-le (blocks * 64) text d long) ∙ sym same in
     sym (hash_after_next initial_hash_256 (text ++ d) blocks ∙ ap₂ compress before cut)
 
 -- two values more
-pub IsAbsorbed-pair : (hash rest text a b next left : List ℕ) (blocks : ℕ) → IsAbsorbed hash rest text blocks → length a ≡ 32 → length b ≡ 32
+pub IsAbsorbed-pair : (hash rest text a b next left : List ℕ) (blocks : ℕ) → IsAbsorbed hash rest text blocks
+    → length a ≡ 32 → length b ≡ 32
     → next ≡ compress hash ((drop (blocks * 64) text ++ a) ++ take 10 b) → HasHead left (drop 10 b)
     → IsAbsorbed next left ((text ++ a) ++ b) (blocks + 1)
 IsAbsorbed-pair hash rest text a b next left blocks so_far la lb made begins =
@@ -40,12 +48,17 @@ IsAbsorbed-pair hash rest text a b next left blocks so_far la lb made begins =
     let within : blocks * 64 ≤ length text = omega (arith, so_far.long) in
     let lten : length (take 10 b) ≡ 10 = length-take-le 10 b (omega arith) in
     let parts : (x : List ℕ) → x ++ (a ++ b) ≡ ((x ++ a) ++ take 10 b) ++ drop 10 b
-    = λ x. sym (append_assoc x a b) ∙ ap (λ (y : List ℕ). (x ++ a) ++ y) (sym (take-append-drop 10 b)) ∙ sym (append_assoc (x ++ a) (take 10 b) (drop 10 b)) in
-    let front : length ((t ++ a) ++ take 10 b) ≡ 64 = omega (arith, length-append (t ++ a) (take 10 b), length-append t a) in
-    let all : length ((text ++ a) ++ take 10 b) ≡ (blocks + 1) * 64 = omega (arith, length-append (text ++ a) (take 10 b), length-append text a, so_far.long) in
-    let block : (t ++ a) ++ take 10 b ≡ take 64 (t ++ (a ++ b)) = sym (ap (take 64) (parts t) ∙ take_at ((t ++ a) ++ take 10 b) (drop 10 b) 64 front) in
+    = λ x. sym (append_assoc x a b) ∙ ap (λ (y : List ℕ). (x ++ a) ++ y) (sym (take-append-drop 10 b))
+    ∙ sym (append_assoc (x ++ a) (take 10 b) (drop 10 b)) in
+    let front : length ((t ++ a) ++ take 10 b) ≡ 64 =
+    omega (arith, length-append (t ++ a) (take 10 b), length-append t a) in
+    let all : length ((text ++ a) ++ take 10 b) ≡ (blocks + 1) * 64 =
+    omega (arith, length-append (text ++ a) (take 10 b), length-append text a, so_far.long) in
+    let block : (t ++ a) ++ take 10 b ≡ take 64 (t ++ (a ++ b)) =
+    sym (ap (take 64) (parts t) ∙ take_at ((t ++ a) ++ take 10 b) (drop 10 b) 64 front) in
     let over : drop ((blocks + 1) * 64) (text ++ (a ++ b)) ≡ drop 10 b
-    = ap (drop ((blocks + 1) * 64)) (parts text) ∙ drop_at ((text ++ a) ++ take 10 b) (drop 10 b) ((blocks + 1) * 64) all in
+    = ap (drop ((blocks + 1) * 64)) (parts text)
+    ∙ drop_at ((text ++ a) ++ take 10 b) (drop 10 b) ((blocks + 1) * 64) all in
     subst (λ (m : List ℕ). IsAbsorbed next left m (blocks + 1)) (sym (append_assoc text a b)) (record {
       long = omega (arith, length-append text (a ++ b), so_far.long);
       taken = made ∙ next-block hash text (a ++ b) ((t ++ a) ++ take 10 b) blocks within so_far.taken block;
@@ -66,29 +79,45 @@ padding-22 : (n bits : ℕ) → n % 64 ≡ 22 → bits ≡ n * 8 → bits < 2 ^ 
 padding-22 n bits is count fits =
     let zeros : (119 - n % 64) % 64 ≡ 33 = omega (arith, is) in
     let whole : n * 8 % 2 ^ 64 ≡ bits = omega (arith, count, fits) in
-    (λ i. 0x80 ∷ (replicate (zeros i) 0 ++ to_be_bytes w64 (whole i))) ∙ ap (λ (u : List ℕ). 0x80 ∷ (replicate 33 0 ++ u)) (long_number bits fits)
+    (λ i. 0x80 ∷ (replicate (zeros i) 0 ++ to_be_bytes w64 (whole i)))
+    ∙ ap (λ (u : List ℕ). 0x80 ∷ (replicate 33 0 ++ u)) (long_number bits fits)
 
 padding-54 : (n bits : ℕ) → n % 64 ≡ 54 → bits ≡ n * 8 → bits < 2 ^ 32 → padding n ≡ padding_after_54 bits
 padding-54 n bits is count fits =
     let zeros : (119 - n % 64) % 64 ≡ 1 = omega (arith, is) in
     let whole : n * 8 % 2 ^ 64 ≡ bits = omega (arith, count, fits) in
-    (λ i. 0x80 ∷ (replicate (zeros i) 0 ++ to_be_bytes w64 (whole i))) ∙ ap (λ (u : List ℕ). 0x80 ∷ (replicate 1 0 ++ u)) (long_number bits fits)
+    (λ i. 0x80 ∷ (replicate (zeros i) 0 ++ to_be_bytes w64 (whole i)))
+    ∙ ap (λ (u : List ℕ). 0x80 ∷ (replicate 1 0 ++ u)) (long_number bits fits)
 
 -- the digest, if the padding fits into the last block
-digest-end : (hash text pad last : List ℕ) (blocks : ℕ) → blocks * 64 ≤ length text → hash ≡ hash_after initial_hash_256 text blocks
-    → length (drop (blocks * 64) text ++ pad) ≡ 64 → padding (length text) ≡ pad → last ≡ compress hash (drop (blocks * 64) text ++ pad)
+digest-end : (hash text pad last : List ℕ) (blocks : ℕ) → blocks * 64 ≤ length text
+    → hash ≡ hash_after initial_hash_256 text blocks
+    → length (drop (blocks * 64) text ++ pad) ≡ 64 → padding (length text) ≡ pad
+    → last ≡ compress hash (drop (blocks * 64) text ++ pad)
     → digest_bytes last 8 ≡ sha256 text
 unfolding sha256
 digest-end hash text pad last blocks within is full same made =
-    let block : drop (blocks * 64) text ++ pad ≡ take 64 (drop (blocks * 64) text ++ pad) = sym (take_all 64 _ (omega (arith, full))) in
+    let block : drop (blocks * 64) text ++ pad ≡ take 64 (drop (blocks * 64) text ++ pad) =
+    sym (take_all 64 _ (omega (arith, full))) in
     let long : length (text ++ pad) / 64 ≡ blocks + 1
-    = omega (arith, length-append text pad, length-append (drop (blocks * 64) text) pad, length-drop (blocks * 64) text, full, within) in
-    let whole : hash_after initial_hash_256 (text ++ padding (length text)) (length (text ++ padding (length text)) / 64) ≡ hash_after initial_hash_256 (text ++ pad) (blocks + 1)
-    = (λ i. hash_after initial_hash_256 (text ++ same i) (length (text ++ same i) / 64)) ∙ ap (hash_after initial_hash_256 (text ++ pad)) long in
-    ap (λ (h : List ℕ). digest_bytes h 8) (made ∙ next-block hash text pad (drop (blocks * 64) text ++ pad) blocks within is block ∙ sym whole)
+    = omega (
+      arith,
+      length-append text pad,
+      length-append (drop (blocks * 64) text) pad,
+      length-drop (blocks * 64) text,
+      full,
+      within,
+    ) in
+    let whole : hash_after initial_hash_256 (text ++ padding (length text))
+    (length (text ++ padding (length text)) / 64) ≡ hash_after initial_hash_256 (text ++ pad) (blocks + 1)
+    = (λ i. hash_after initial_hash_256 (text ++ same i) (length (text ++ same i) / 64))
+    ∙ ap (hash_after initial_hash_256 (text ++ pad)) long in
+    ap (λ (h : List ℕ). digest_bytes h 8)
+    (made ∙ next-block hash text pad (drop (blocks * 64) text ++ pad) blocks within is block ∙ sym whole)
 
 -- the digest, if the last block has 22 bytes
-pub IsAbsorbed-end : (hash rest text last : List ℕ) (blocks bits : ℕ) → IsAbsorbed hash rest text blocks → bits ≡ length text * 8 → bits < 2 ^ 32
+pub IsAbsorbed-end : (hash rest text last : List ℕ) (blocks bits : ℕ) → IsAbsorbed hash rest text blocks
+    → bits ≡ length text * 8 → bits < 2 ^ 32
     → last ≡ compress hash (drop (blocks * 64) text ++ padding_after_22 bits) → digest_bytes last 8 ≡ sha256 text
 IsAbsorbed-end hash rest text last blocks bits so_far count fits made =
     let pad : length (padding_after_22 bits) ≡ 42 = refl in
@@ -97,16 +126,19 @@ IsAbsorbed-end hash rest text last blocks bits so_far count fits made =
     (padding-22 (length text) bits (omega (arith, so_far.long)) count fits) made
 
 -- or 22 and a value
-pub IsAbsorbed-end_with : (hash rest text a last : List ℕ) (blocks bits : ℕ) → IsAbsorbed hash rest text blocks → length a ≡ 32
+pub IsAbsorbed-end_with : (hash rest text a last : List ℕ) (blocks bits : ℕ)
+    → IsAbsorbed hash rest text blocks → length a ≡ 32
     → bits ≡ length (text ++ a) * 8 → bits < 2 ^ 32
-    → last ≡ compress hash ((drop (blocks * 64) text ++ a) ++ padding_after_54 bits) → digest_bytes last 8 ≡ sha256 (text ++ a)
+    → last ≡ compress hash ((drop (blocks * 64) text ++ a) ++ padding_after_54 bits)
+    → digest_bytes last 8 ≡ sha256 (text ++ a)
 IsAbsorbed-end_with hash rest text a last blocks bits so_far la count fits made =
     let pad : length (padding_after_54 bits) ≡ 10 = refl in
     let within : blocks * 64 ≤ length text = omega (arith, so_far.long) in
     let t : List ℕ = drop (blocks * 64) text in
     let cut : drop (blocks * 64) (text ++ a) ≡ t ++ a = drop-append-le (blocks * 64) text a within in
     let all : length (text ++ a) ≡ 64 * blocks + 54 = omega (arith, length-append text a, so_far.long) in
-    let full : length ((t ++ a) ++ padding_after_54 bits) ≡ 64 = omega (arith, length-append (t ++ a) (padding_after_54 bits), length-append t a, so_far.left.long, pad) in
+    let full : length ((t ++ a) ++ padding_after_54 bits) ≡ 64 =
+    omega (arith, length-append (t ++ a) (padding_after_54 bits), length-append t a, so_far.left.long, pad) in
     digest-end hash (text ++ a) (padding_after_54 bits) last blocks (omega (arith, all))
     (so_far.taken ∙ sym (hash_after-append initial_hash_256 text a blocks within))
     (rw cut full)
@@ -115,12 +147,14 @@ IsAbsorbed-end_with hash rest text a last blocks bits so_far la count fits made 
 
 -- one end more
 pub ends_text-more : (front : List ℕ) (mark first steps : ℕ) (start : List ℕ) (n : ℕ)
-    → ends_text front mark n first steps start ++ end_of front first steps start n ≡ ends_text front mark (n + 1) first steps start
+    → ends_text front mark n first steps start ++ end_of front first steps start n
+    ≡ ends_text front mark (n + 1) first steps start
 ends_text-more front mark first steps start n =
     let f = end_of front first steps start in
     let before = front ++ to_be_bytes w16 mark in
     let so_far = concat (map f (range_with_len 0 n)) in
     let next : concat (map f (range_with_len 0 (n + 1))) ≡ so_far ++ f n
     = ap concat (map-range_with_len_more f 0 n n (zero-add n))
-    ∙ (concat-append (map f (range_with_len 0 n)) (f n ∷ []) ∙ ap (λ (rest : List ℕ). so_far ++ rest) (append-nil (f n))) in
+    ∙ (concat-append (map f (range_with_len 0 n)) (f n ∷ [])
+    ∙ ap (λ (rest : List ℕ). so_far ++ rest) (append-nil (f n))) in
     append_assoc before so_far (f n) ∙ ap (λ (t : List ℕ). before ++ t) (sym next)

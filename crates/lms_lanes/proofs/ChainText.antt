@@ -10,19 +10,24 @@ pub words_of_step : (text : List ℕ) (byte x0 x1 x2 x3 x4 x5 x6 x7 : ℕ) → l
     → first_words ((text ++ byte ∷ digest_bytes (x0 ∷ x1 ∷ x2 ∷ x3 ∷ x4 ∷ x5 ∷ x6 ∷ x7 ∷ []) 8) ++ short_padding) 16
     ≡ word_at text 0 ∷ word_at text 4 ∷ word_at text 8 ∷ word_at text 12 ∷ word_at text 16
     ∷ from_be_bytes w32 (slice_index text 20 ∷ slice_index text 21 ∷ byte ∷ slice_index (to_be_bytes w32 x0) 0 ∷ [])
-    ∷ joined_word x0 x1 ∷ joined_word x1 x2 ∷ joined_word x2 x3 ∷ joined_word x3 x4 ∷ joined_word x4 x5 ∷ joined_word x5 x6 ∷ joined_word x6 x7 ∷ ended_word x7 ∷ 0 ∷ 440 ∷ []
+    ∷ joined_word x0 x1 ∷ joined_word x1 x2 ∷ joined_word x2 x3 ∷ joined_word x3 x4 ∷ joined_word x4 x5
+    ∷ joined_word x5 x6 ∷ joined_word x6 x7 ∷ ended_word x7 ∷ 0 ∷ 440 ∷ []
 unfolding first_words digest_bytes
 words_of_step text byte x0 x1 x2 x3 x4 x5 x6 x7 long =
-    ap (λ (u : List ℕ). first_words ((u ++ byte ∷ digest_bytes (x0 ∷ x1 ∷ x2 ∷ x3 ∷ x4 ∷ x5 ∷ x6 ∷ x7 ∷ []) 8) ++ short_padding) 16) (sym (pick_l_whole 0 text 22 long))
+    ap (λ (u : List ℕ).
+    first_words ((u ++ byte ∷ digest_bytes (x0 ∷ x1 ∷ x2 ∷ x3 ∷ x4 ∷ x5 ∷ x6 ∷ x7 ∷ []) 8) ++ short_padding) 16)
+    (sym (pick_l_whole 0 text 22 long))
 
 -- two bytes, a byte and the first of a word, put together by sums
 pub opened_word : (a b byte x : ℕ) → from_be_bytes w32 (a ∷ b ∷ 0 ∷ 0 ∷ []) < 2 ^ 32 → byte < 256 → x < 2 ^ 32
-    → add32 (add32 (from_be_bytes w32 (a ∷ b ∷ 0 ∷ 0 ∷ [])) (byte * 256)) (x / 2 ^ 24) ≡ from_be_bytes w32 (a ∷ b ∷ byte ∷ slice_index (to_be_bytes w32 x) 0 ∷ [])
+    → add32 (add32 (from_be_bytes w32 (a ∷ b ∷ 0 ∷ 0 ∷ [])) (byte * 256)) (x / 2 ^ 24)
+    ≡ from_be_bytes w32 (a ∷ b ∷ byte ∷ slice_index (to_be_bytes w32 x) 0 ∷ [])
 opened_word a b byte x head small fits = omega (arith, head, small, fits)
 
 -- a value, from its words
 pub digest_of_words : (value words : List ℕ)
-    → words ≡ word_at value 0 ∷ word_at value 4 ∷ word_at value 8 ∷ word_at value 12 ∷ word_at value 16 ∷ word_at value 20 ∷ word_at value 24 ∷ word_at value 28 ∷ []
+    → words ≡ word_at value 0 ∷ word_at value 4 ∷ word_at value 8 ∷ word_at value 12 ∷ word_at value 16
+    ∷ word_at value 20 ∷ word_at value 24 ∷ word_at value 28 ∷ []
     → length value ≡ 32
     → to_be_bytes w32 (word_at value 0) ≡ four_at value 0 → to_be_bytes w32 (word_at value 4) ≡ four_at value 4
     → to_be_bytes w32 (word_at value 8) ≡ four_at value 8 → to_be_bytes w32 (word_at value 12) ≡ four_at value 12

@@ -1,7 +1,9 @@
 -- What the operations on vectors give in each lane.
-use Rattle.std.proofs.Common.{◌≡◌, ℕ, ◌<◌, List, [], ◌∷◌, length, get_or, slice_index, Fits, w32, refl, sym, ap, ◌∙◌, arith}
+use Rattle.std.proofs.Common.{◌≡◌, ℕ, ◌<◌, List, [], ◌∷◌, length, get_or, slice_index, Fits, w32, refl, sym, ap, ◌∙◌}
+use Rattle.std.proofs.Common.{arith}
 use Rattle.std.proofs.lemmas.List.{get_or-map, length-map, map-set}
-use Rattle.std.proofs.lemmas.Simd.{Each1-get_or, get_or-replicate, get_or-zip2, length-replicate, length-zip2, pick_l_whole}
+use Rattle.std.proofs.lemmas.Simd.{Each1-get_or, get_or-replicate, get_or-zip2, length-replicate, length-zip2}
+use Rattle.std.proofs.lemmas.Simd.{pick_l_whole}
 use Rattle.std.specs.Prelude.{map, replicate, set}
 use Rattle.std.specs.Simd.Lanes.{zip2, Each1}
 use Rattle.lms_lanes.specs.Lanes.{AreVectors, EachLane, lane_of}
@@ -18,7 +20,8 @@ EachLane-map {v} op x = record {
 }
 
 -- an operator on two vectors
-pub EachLane-zip2 : {v w : List ℕ} {f g : ℕ → ℕ} (op : ℕ → ℕ → ℕ) → EachLane v f → EachLane w g → EachLane (zip2 op v w) (λ k. op (f k) (g k))
+pub EachLane-zip2 : {v w : List ℕ} {f g : ℕ → ℕ} (op : ℕ → ℕ → ℕ) → EachLane v f → EachLane w g
+    → EachLane (zip2 op v w) (λ k. op (f k) (g k))
 EachLane-zip2 {v} {w} op x y = record {
   wide = length-zip2 op v w (x.wide ∙ sym y.wide) ∙ x.wide;
   lane = λ k lt.
@@ -34,8 +37,10 @@ pub EachLane-equal : {v : List ℕ} {f g : ℕ → ℕ} → EachLane v f → ((k
 EachLane-equal x e = record { wide = x.wide; lane = λ k lt. x.lane k lt ∙ e k lt }
 
 -- one of several vectors
-pub EachLane-get_or : (count : ℕ) (vs : List (List ℕ)) (i : ℕ) → AreVectors count vs → i < count → EachLane (get_or vs i []) (slice_index (get_or vs i []))
-EachLane-get_or count vs i vectors lt = EachLane-self (get_or vs i []) (Each1-get_or (λ v. length v ≡ 8) vs i [] (omega (arith, vectors.long)) vectors.wide)
+pub EachLane-get_or : (count : ℕ) (vs : List (List ℕ)) (i : ℕ) → AreVectors count vs → i < count
+    → EachLane (get_or vs i []) (slice_index (get_or vs i []))
+EachLane-get_or count vs i vectors lt =
+    EachLane-self (get_or vs i []) (Each1-get_or (λ v. length v ≡ 8) vs i [] (omega (arith, vectors.long)) vectors.wide)
 
 -- a lane fits its word
 pub Fits-lane : (v : List ℕ) (k : ℕ) → length v ≡ 8 → Each1 (Fits w32) v → k < 8 → Fits w32 (slice_index v k)
@@ -45,15 +50,19 @@ pub length-lane_of : (count : ℕ) (vs : List (List ℕ)) (k : ℕ) → AreVecto
 length-lane_of count vs k vectors = length-map vs (λ v. slice_index v k) ∙ vectors.long
 
 -- a lane's words, one by one
-pub word_of_lane : (count : ℕ) (vs : List (List ℕ)) (k i : ℕ) → length vs ≡ count → i < count → slice_index (lane_of vs k) i ≡ slice_index (get_or vs i []) k
+pub word_of_lane : (count : ℕ) (vs : List (List ℕ)) (k i : ℕ) → length vs ≡ count → i < count
+    → slice_index (lane_of vs k) i ≡ slice_index (get_or vs i []) k
 word_of_lane count vs k i long lt = get_or-map (λ v. slice_index v k) vs i [] 0 (omega arith)
 
 -- a lane of eight vectors
 pub lane_of_eight : (vs : List (List ℕ)) (k : ℕ) → length vs ≡ 8 → lane_of vs k ≡
-    slice_index (get_or vs 0 []) k ∷ slice_index (get_or vs 1 []) k ∷ slice_index (get_or vs 2 []) k ∷ slice_index (get_or vs 3 []) k
-    ∷ slice_index (get_or vs 4 []) k ∷ slice_index (get_or vs 5 []) k ∷ slice_index (get_or vs 6 []) k ∷ slice_index (get_or vs 7 []) k ∷ []
+    slice_index (get_or vs 0 []) k ∷ slice_index (get_or vs 1 []) k ∷ slice_index (get_or vs 2 []) k
+    ∷ slice_index (get_or vs 3 []) k
+    ∷ slice_index (get_or vs 4 []) k ∷ slice_index (get_or vs 5 []) k ∷ slice_index (get_or vs 6 []) k
+    ∷ slice_index (get_or vs 7 []) k ∷ []
 lane_of_eight vs k long = ap (λ (u : List (List ℕ)). lane_of u k) (sym (pick_l_whole [] vs 8 long))
 
 -- a lane of some vectors with another at a place
-pub lane_of_set : (vs : List (List ℕ)) (k i : ℕ) (v : List ℕ) → lane_of (set vs i v) k ≡ set (lane_of vs k) i (slice_index v k)
+pub lane_of_set : (vs : List (List ℕ)) (k i : ℕ) (v : List ℕ)
+    → lane_of (set vs i v) k ≡ set (lane_of vs k) i (slice_index v k)
 lane_of_set vs k i v = map-set (λ u. slice_index u k) vs i v

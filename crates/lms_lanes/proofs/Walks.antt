@@ -1,10 +1,12 @@
 -- A chain's value after one more step, where it takes one.
-use Rattle.std.proofs.Common.{◌≡◌, ℕ, suc, Bool, true, false, ltb, ◌+◌, ◌%◌, ◌<◌, ◌≤◌, List, ◌∷◌, ◌++◌, min, refl, ap, ◌∙◌, arith}
+use Rattle.std.proofs.Common.{◌≡◌, ℕ, suc, Bool, true, false, ltb, ◌+◌, ◌%◌, ◌<◌, ◌≤◌, List, ◌∷◌, ◌++◌, min, refl, ap}
+use Rattle.std.proofs.Common.{◌∙◌, arith}
 use Rattle.std.proofs.lemmas.Bool.{ltb-true, ltb-false}
 use Rattle.sha2.specs.Sha256.{sha256}
 use Rattle.lms_lanes.specs.Chains.{walked}
 
-pub walked-next : (head value before after : List ℕ) (first i steps : ℕ) → before ≡ walked head first (min i steps) value
+pub walked-next : (head value before after : List ℕ) (first i steps : ℕ)
+    → before ≡ walked head first (min i steps) value
     → (i < steps → after ≡ sha256 (head ++ (first + i) % 256 ∷ before)) → (steps ≤ i → after ≡ before)
     → after ≡ walked head first (min (i + 1) steps) value
 walked-next head value before after first i steps so_far taken left = by (ltb i steps) refl

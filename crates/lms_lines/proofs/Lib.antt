@@ -1,5 +1,5 @@
 pub mod JobLines
-pub mod Fronts
+pub mod AnswerLines
 pub mod LineLemmas
 pub mod Growth
 pub mod Steps

@@ -1,4 +1,5 @@
-use Rattle.std.proofs.Common.{◌≡◌, ◌<◌, inl, inr, ℕ, suc, List, [], ◌∷◌, ◌++◌, length, Result, Ok, Err, refl, sym, ap, ◌∙◌, subst, length-append, arith}
+use Rattle.std.proofs.Common.{◌≡◌, ◌<◌, inl, inr, ℕ, suc, List, [], ◌∷◌, ◌++◌, length, Result, Ok, Err, refl, sym, ap}
+use Rattle.std.proofs.Common.{◌∙◌, subst, length-append, arith}
 use Rattle.std.proofs.lemmas.Bool.{cases_order}
 use Rattle.hex.specs.Hex.{decode_of, decode_sized}
 use Rattle.lms_batch.specs.Jobs.{JobText}
@@ -31,7 +32,8 @@ same-jobs [] (x ∷ a) b p q = absurd p
 same-jobs (l ∷ lines) [] b p q = absurd p
 same-jobs (l ∷ lines) (x ∷ a) [] p q = absurd q
 same-jobs (l ∷ lines) (x ∷ a) (y ∷ b) p q =
-    ap (λ (j : JobText). j ∷ a) (one-job l x y p.0 q.0) ∙ ap (λ (js : List JobText). y ∷ js) (same-jobs lines a b p.1 q.1)
+    ap (λ (j : JobText). j ∷ a) (one-job l x y p.0 q.0)
+    ∙ ap (λ (js : List JobText). y ∷ js) (same-jobs lines a b p.1 q.1)
 
 same-length : (lines : List (List ℕ)) (jobs : List JobText) → AreJobLines lines jobs → length lines ≡ length jobs
 same-length [] [] p = refl
@@ -39,7 +41,8 @@ same-length [] (x ∷ jobs) p = absurd p
 same-length (l ∷ lines) [] p = absurd p
 same-length (l ∷ lines) (x ∷ jobs) p = ap suc (same-length lines jobs p.1)
 
-no-bad : (before : List (List ℕ)) (bad : List ℕ) (after : List (List ℕ)) (jobs : List JobText) → AreJobLines (before ++ bad ∷ after) jobs → ((job : JobText) → ¬ IsJobLine bad job) → ⊥
+no-bad : (before : List (List ℕ)) (bad : List ℕ) (after : List (List ℕ)) (jobs : List JobText)
+    → AreJobLines (before ++ bad ∷ after) jobs → ((job : JobText) → ¬ IsJobLine bad job) → ⊥
 no-bad [] bad after [] p none = p
 no-bad [] bad after (j ∷ jobs) p none = none j p.0
 no-bad (l ∷ before) bad after [] p none = p
@@ -54,11 +57,14 @@ rest_of_lines [] = []
 rest_of_lines (l ∷ lines) = lines
 
 -- a bad line is none of the good ones
-bad-within : (before : List (List ℕ)) (bad : List ℕ) (after good rest : List (List ℕ)) (jobs : List JobText) → before ++ bad ∷ after ≡ good ++ rest → AreJobLines good jobs → ((job : JobText) → ¬ IsJobLine bad job) → length before < length good → ⊥
+bad-within : (before : List (List ℕ)) (bad : List ℕ) (after good rest : List (List ℕ)) (jobs : List JobText)
+    → before ++ bad ∷ after ≡ good ++ rest → AreJobLines good jobs → ((job : JobText) → ¬ IsJobLine bad job)
+    → length before < length good → ⊥
 unfolding first_of_lines rest_of_lines
 bad-within [] bad after [] rest jobs same p none less = (let h : ⊥ = omega arith in h)
 bad-within [] bad after (l ∷ good) rest [] same p none less = p
-bad-within [] bad after (l ∷ good) rest (j ∷ jobs) same p none less = none j (subst (λ (x : List ℕ). IsJobLine x j) (sym (ap first_of_lines same)) p.0)
+bad-within [] bad after (l ∷ good) rest (j ∷ jobs) same p none less =
+    none j (subst (λ (x : List ℕ). IsJobLine x j) (sym (ap first_of_lines same)) p.0)
 bad-within (k ∷ before) bad after [] rest jobs same p none less = (let h : ⊥ = omega arith in h)
 bad-within (k ∷ before) bad after (l ∷ good) rest [] same p none less = p
 bad-within (k ∷ before) bad after (l ∷ good) rest (j ∷ jobs) same p none less =
@@ -81,7 +87,8 @@ one-outcome text = record {
     | inr (inl less) ↦ absurd (bad-no-later text m n p q less)
     | inr (inr more) ↦ absurd (bad-no-later text n m q p more)
   ];
-  jobs_or_bad = λ jobs n p q. no-bad q.before q.bad q.after jobs (subst (λ (l : List (List ℕ)). AreJobLines l jobs) q.parts p.each) q.is_bad;
+  jobs_or_bad = λ jobs n p q.
+      no-bad q.before q.bad q.after jobs (subst (λ (l : List (List ℕ)). AreJobLines l jobs) q.parts p.each) q.is_bad;
   jobs_or_many = λ jobs p q.
       let all = same-length (lines_of text) jobs p.each in
       let first = same-length q.before q.jobs q.good in
@@ -96,5 +103,6 @@ one-outcome text = record {
       let few = p.count in
       let many = q.count in
       let below : length p.before < length q.before = omega (arith, one, first, few, many) in
-      bad-within p.before p.bad p.after q.before (q.next ∷ q.after) q.jobs (sym p.parts ∙ q.parts) q.good p.is_bad below;
+      bad-within p.before p.bad p.after q.before (q.next ∷ q.after) q.jobs
+      (sym p.parts ∙ q.parts) q.good p.is_bad below;
 }

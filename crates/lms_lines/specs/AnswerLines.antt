@@ -1,7 +1,6 @@
 -- What is written of a batch.
-use Rattle.std.specs.Prelude.{◌≡◌, ℕ, ◌+◌, List, [], ◌∷◌, ◌++◌, codes, decimal, map, Option, None, Some}
+use Rattle.std.specs.Prelude.{ℕ, ◌+◌, List, [], ◌∷◌, ◌++◌, codes, decimal, map, Option, None, Some}
 use Rattle.std.specs.Option.{option_map}
-use Rattle.std.specs.Io.KnownBytes.{Appends}
 use Rattle.hex.specs.Hex.{encode_lower}
 use Rattle.lms_batch.specs.declared.collector.Batch.{Batch}
 use Rattle.lms_batch.specs.declared.collector.Batch.TheVariants.{Complete, Partial}
@@ -19,10 +18,3 @@ answers index (Some signature ∷ slots) = answer_line index signature ++ answer
 abbrev pub answer_text : Batch → List ℕ
 answer_text (Complete start signatures) = answers start (map (λ v. Some v.items) signatures.items)
 answer_text (Partial start slots) = answers start (map (option_map (λ v. v.items)) slots.items)
-
--- a beginning of the text was appended
-pub record AppendsFront (old new : Option (List ℕ)) (text : List ℕ) : Type 0 where
-  pub front : List ℕ
-  pub rest : List ℕ
-  pub whole : text ≡ front ++ rest
-  pub appended : Appends old new front

@@ -13,7 +13,3 @@ jobs_fault_text Read = codes "cannot read input"
 jobs_fault_text (BadJob line) = codes "line " ++ (decimal line ++ codes ": bad job")
 jobs_fault_text TooManyJobs = batch_fault_text batch.TooMany
 jobs_fault_text OutOfMemory = out_of_memory_text
-
--- the text of answers that were not all written
-abbrev pub write_fault_text : List ℕ
-write_fault_text = codes "cannot write output"

@@ -1,5 +1,6 @@
 -- What becomes of job lines that a service signs.
-use Rattle.std.specs.Prelude.{◌≡◌, ◌≢◌, ℕ, ◌+◌, ◌≤◌, List, Option, Result, IfErr, IfOk, IfSome, count_by, is_some, length, Err, Ok}
+use Rattle.std.specs.Prelude.{◌≡◌, ◌≢◌, ℕ, ◌+◌, ◌≤◌, List, Option, Result, IfErr, IfOk, IfSome, count_by, is_some}
+use Rattle.std.specs.Prelude.{length, Err, Ok}
 use Rattle.std.specs.Io.KnownBytes.{Appends}
 use Rattle.lms_spec.specs.Hss.{capacity_of}
 use Rattle.lms_hss.specs.Keys.{hss_key_of}
@@ -10,7 +11,8 @@ use Rattle.lms_batch.specs.declared.collector.Batch.{Batch}
 use Rattle.lms_batch.specs.declared.collector.Batch.TheVariants.{Complete, Partial}
 use Rattle.lms_batch.specs.declared.fault.BatchFault.{BatchFault}
 use Rattle.lms_batch.specs.declared.fault.BatchFault.TheVariants.{TooMany}
-use Rattle.lms_lines.specs.AnswerLines.{answer_text, AppendsFront}
+use Rattle.lms_lines.specs.AnswerLines.{answer_text}
+use Rattle.lms_blocks.specs.Writing.{AppendsFront}
 use Rattle.lms_lines.specs.JobsTexts.{IsFaultOf, ReadsJobs}
 use Rattle.lms_lines.specs.declared.signing.Done.{Done}
 use Rattle.lms_lines.specs.declared.fault.LinesFault.{LinesFault}

@@ -1,13 +1,14 @@
 //! Answer lines.
-ghost use Rattle.std.specs.Prelude.{◌<◌, ◌≤◌, ◌+◌, length, take, decimal, OnOk, OnErr, IfOk, Some};
-ghost use Rattle.std.specs.Io.KnownBytes.{Appends, Keeps};
+ghost use Rattle.std.specs.Prelude.{decimal, OnOk, OnErr};
+ghost use Rattle.std.specs.Io.KnownBytes.{Appends};
 ghost use Rattle.hex.specs.Hex.{encode_lower};
-ghost use Rattle.lms_lines.specs.AnswerLines.{answer_line, answer_text, AppendsFront};
+ghost use Rattle.lms_lines.specs.AnswerLines.{answer_line, answer_text};
+ghost use Rattle.lms_blocks.specs.Writing.{AppendsFront};
 
-use crate::fault::WriteFault;
 use itoa::Buffer;
 use lms_batch::Batch;
-use std::io::{ErrorKind, Write};
+use lms_blocks::{WriteFault, write_bytes};
+use std::io::Write;
 
 /// Writes a line for each signature of the batch. On a fault, a beginning of the lines was written.
 pub fn write_batch<W: Write>(writer: &mut W, batch: &Batch) -> Result<(), WriteFault>
@@ -75,40 +76,4 @@ fn write_hex<W: Write>(writer: &mut W, bytes: &[u8]) -> Result<(), WriteFault>
         rest = tail;
     }
     Ok(())
-}
-
-/// Writes these bytes, by as many writes as it takes. On a fault, a beginning of them was written.
-pub fn write_bytes<W: Write>(writer: &mut W, bytes: &[u8]) -> Result<(), WriteFault>
-    ensures ok { OnOk result (Appends (W.contents writer.old) (W.contents writer.new) bytes.now) }
-    ensures err { OnErr result
-        (AppendsFront (W.contents writer.old) (W.contents writer.new) bytes.now) }
-{
-    let mut rest = bytes;
-    while !rest.is_empty() {
-        let taken = write_some(writer, rest)?;
-        rest = &rest[taken..];
-    }
-    Ok(())
-}
-
-/// One write, which is tried again where it was interrupted. A writer that takes nothing has
-/// failed.
-fn write_some<W: Write>(writer: &mut W, bytes: &[u8]) -> Result<usize, WriteFault>
-    ensures some { IfOk result (λ n. (0 < n) × (n ≤ length bytes.now)) }
-    ensures ok { IfOk result (λ n.
-        Appends (W.contents writer.old) (W.contents writer.new) (take n bytes.now)) }
-    ensures err { OnErr result (Keeps (W.contents writer.old) (W.contents writer.new)) }
-{
-    for _try in 0..u64::MAX {
-        match writer.write(bytes) {
-            Ok(0) => return Err(WriteFault),
-            Ok(taken) => return Ok(taken),
-            Err(e) => {
-                if e.kind() != ErrorKind::Interrupted {
-                    return Err(WriteFault);
-                }
-            }
-        }
-    }
-    Err(WriteFault)
 }

@@ -1,9 +1,10 @@
 //! Why job lines give no jobs, are not signed, or are not answered.
 ghost use Rattle.std.specs.Prelude.{◌≡◌, Some};
-ghost use Rattle.lms_lines.specs.Faults.{jobs_fault_text, write_fault_text};
+ghost use Rattle.lms_lines.specs.Faults.{jobs_fault_text};
 ghost use Rattle.lms_lines.specs.declared.fault.JobsFault.TheVariants.{OutOfMemory as FaultOfMemory};
 
 use lms_batch::BatchFault;
+use lms_blocks::WriteFault;
 use lms_params::OutOfMemory;
 use std::alloc::{AllocError, AllocFailed};
 use std::{error, fmt};
@@ -66,17 +67,3 @@ pub enum LinesFault {
     #[error("{WriteFault}")]
     Write,
 }
-
-/// Not all was written.
-#[derive(Clone, Copy, Debug, PartialEq, Eq)]
-pub struct WriteFault;
-
-impl fmt::Display for WriteFault {
-    ghost output = { λ _. Some write_fault_text };
-
-    fn fmt<W: fmt::Write>(&self, f: &mut fmt::Formatter<W>) -> fmt::Result {
-        f.write_str("cannot write output")
-    }
-}
-
-impl error::Error for WriteFault {}

@@ -9,9 +9,10 @@ mod jobs;
 pub mod laws;
 mod signing;
 
-pub use crate::answers::{write_batch, write_bytes};
-pub use crate::fault::{JobsFault, LinesFault, WriteFault};
+pub use crate::answers::write_batch;
+pub use crate::fault::{JobsFault, LinesFault};
 pub use crate::jobs::read_jobs;
 pub use crate::signing::{
     Done, SignedJobs, count_signatures, read_and_sign, sign_lines, sign_lines_watched,
 };
+pub use lms_blocks::WriteFault;

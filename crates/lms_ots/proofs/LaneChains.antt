@@ -1,5 +1,6 @@
 -- Chains as they are walked in lanes.
-use Rattle.std.proofs.Common.{ℕ, zero, suc, ◌≡◌, ◌+◌, ◌-◌, ◌%◌, ◌<◌, ◌≤◌, ◌∙◌, List, [], ◌∷◌, ◌++◌, slice_index, refl, ap₂, arith, lit≤}
+use Rattle.std.proofs.Common.{ℕ, zero, suc, ◌≡◌, ◌+◌, ◌-◌, ◌%◌, ◌<◌, ◌≤◌, ◌∙◌, List, [], ◌∷◌, ◌++◌, slice_index, refl}
+use Rattle.std.proofs.Common.{ap₂, arith, lit≤}
 use Rattle.sha2.specs.Sha256.{sha256}
 use Rattle.lms_lanes.specs.Chains.{walked}
 use Rattle.lms_spec.specs.Bytes.{u16str}
@@ -16,7 +17,8 @@ unfolding chain_step
 walked-chain id q i from zero value most = refl
 walked-chain id q i from (suc n) value most =
     let byte : (from + n) % 256 ≡ from + n = omega (arith, most) in
-    ap₂ (λ byte x. sha256 ((hash_prefix id q ++ u16str i) ++ byte ∷ x)) byte (walked-chain id q i from n value (omega (arith, most)))
+    ap₂ (λ byte x. sha256 ((hash_prefix id q ++ u16str i) ++ byte ∷ x)) byte
+    (walked-chain id q i from n value (omega (arith, most)))
 
 -- from the seed on, whose hash is the secret
 pub walked-secret : (id seed : List ℕ) (q i digit : ℕ) → digit ≤ 255
@@ -25,11 +27,14 @@ unfolding chain_step chain_secret
 walked-secret id seed q i zero most = refl
 walked-secret id seed q i (suc n) most =
     let byte : (255 + suc n) % 256 ≡ 0 + n = omega (arith, most) in
-    ap₂ (λ byte x. sha256 ((hash_prefix id q ++ u16str i) ++ byte ∷ x)) byte (walked-secret id seed q i n (omega (arith, most)))
+    ap₂ (λ byte x. sha256 ((hash_prefix id q ++ u16str i) ++ byte ∷ x)) byte
+    (walked-secret id seed q i n (omega (arith, most)))
 
 -- eight numbers in a row
 pub eight_in_row : (first k : ℕ) → k < 8
-    → slice_index (first ∷ (first + 1) ∷ (first + 2) ∷ (first + 3) ∷ (first + 4) ∷ (first + 5) ∷ (first + 6) ∷ (first + 7) ∷ []) k ≡ first + k
+    → slice_index
+    (first ∷ (first + 1) ∷ (first + 2) ∷ (first + 3) ∷ (first + 4) ∷ (first + 5) ∷ (first + 6) ∷ (first + 7) ∷ []) k
+    ≡ first + k
 eight_in_row first zero lt = omega arith
 eight_in_row first (suc zero) lt = omega arith
 eight_in_row first (suc (suc zero)) lt = omega arith
@@ -52,7 +57,8 @@ pub lane-from_digit : (id : List ℕ) (q i from to byte steps : ℕ) (start valu
     → byte ≡ from → steps ≡ to - from → start ≡ value → from ≤ to → to ≤ 255
     → walked (hash_prefix id q ++ u16str i) byte steps start ≡ chain id q i from (to - from) value
 lane-from_digit id q i from to byte steps start value eb es ev order most =
-    (λ j. walked (hash_prefix id q ++ u16str i) (eb j) (es j) (ev j)) ∙ walked-chain id q i from (to - from) value (omega (arith, order, most))
+    (λ j. walked (hash_prefix id q ++ u16str i) (eb j) (es j) (ev j))
+    ∙ walked-chain id q i from (to - from) value (omega (arith, order, most))
 
 pub last_digit-byte : (t : OtsType) → last_digit (ots_set_of t) ≤ 255
 last_digit-byte W1 = lit≤ tt

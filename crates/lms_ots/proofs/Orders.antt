@@ -1,5 +1,6 @@
 -- Orders of chains, and values that are put into their places.
-use Rattle.std.proofs.Common.{ℕ, ◌≡◌, ◌+◌, ◌*◌, ◌-◌, ◌%◌, ◌<◌, ◌≤◌, Bool, true, false, eqb, ltb, min, List, [], ◌++◌, length, All, get_or, set, slice_index, refl, sym, ◌∙◌, ap, arith, subst}
+use Rattle.std.proofs.Common.{ℕ, ◌≡◌, ◌+◌, ◌*◌, ◌-◌, ◌%◌, ◌<◌, ◌≤◌, Bool, true, false, eqb, ltb, min, List, [], ◌++◌}
+use Rattle.std.proofs.Common.{length, All, get_or, set, slice_index, refl, sym, ◌∙◌, ap, arith, subst}
 use Rattle.std.specs.List.Sorted.{IsPermutation}
 use Rattle.std.proofs.lemmas.Bool.{eqb-true, eqb-false, ltb-true, ltb-false}
 use Rattle.std.proofs.lemmas.List.{get_or_append_left, get_or_default, get_or-set_same, get_or-set_other}
@@ -8,7 +9,8 @@ use Rattle.lms_ots.specs.Orders.{chain_in, IsOrder}
 
 -- what is sorted is an order where each number ends in its place's
 pub sorted-order : (keys sorted rest : List ℕ) (count : ℕ) → length keys ≡ count → count ≤ 65536
-    → ((i : ℕ) → i < count → slice_index keys i % 65536 ≡ i) → IsPermutation keys sorted → IsOrder (sorted ++ rest) count
+    → ((i : ℕ) → i < count → slice_index keys i % 65536 ≡ i) → IsPermutation keys sorted
+    → IsOrder (sorted ++ rest) count
 sorted-order keys sorted rest count long few ends moved =
     let same : length sorted ≡ count = length_permutation keys sorted moved ∙ long in
     let small : All (λ x. x % 65536 < count) sorted =
@@ -17,12 +19,14 @@ sorted-order keys sorted rest count long few ends moved =
     let at : i < count = omega (arith, long, h) in
     let end : get_or keys i d % 65536 ≡ i = ap (λ x. x % 65536) (get_or_default keys i d 0 h) ∙ ends i at in
     omega (arith, at, end)) in
-    let front : (m : ℕ) → m < count → slice_index (sorted ++ rest) m ≡ slice_index sorted m = λ m lt. get_or_append_left sorted rest 0 m (omega (arith, lt, same)) in
+    let front : (m : ℕ) → m < count → slice_index (sorted ++ rest) m ≡ slice_index sorted m =
+    λ m lt. get_or_append_left sorted rest 0 m (omega (arith, lt, same)) in
     record {
       within = λ m lt. subst (λ x. x % 65536 < count) (sym (front m lt)) (small m 0 (omega (arith, lt, same)));
       each = λ i lt.
           let key = slice_index keys i in
-          let found = Contains-permutation keys sorted key moved (i, omega (arith, lt, long), get_or_default keys i key 0 (omega (arith, lt, long))) in
+          let found = Contains-permutation keys sorted key moved
+          (i, omega (arith, lt, long), get_or_default keys i key 0 (omega (arith, lt, long))) in
           let m = found.0 in
           let at : m < count = omega (arith, found.1, same) in
           (m, at, ap (λ x. x % 65536) (front m at ∙ (get_or_default sorted m 0 key found.1 ∙ found.2)) ∙ ends i lt);

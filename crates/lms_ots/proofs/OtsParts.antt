@@ -1,5 +1,6 @@
 -- The parts of a one-time signature, as they are cut from its bytes.
-use Rattle.std.proofs.Common.{ℕ, ◌≡◌, ◌+◌, ◌*◌, ◌/◌, List, ◌++◌, length, All, take, drop, sym, ◌∙◌, ap, ap₂, arith, subst, refl, append_assoc, length-drop, take-append-drop}
+use Rattle.std.proofs.Common.{ℕ, ◌≡◌, ◌+◌, ◌*◌, ◌/◌, List, ◌++◌, length, All, take, drop, sym, ◌∙◌, ap, ap₂, arith}
+use Rattle.std.proofs.Common.{subst, refl, append_assoc, length-drop, take-append-drop}
 use Rattle.std.specs.List.{concat}
 use Rattle.std.specs.Simd.{first_chunks}
 use Rattle.std.proofs.lemmas.List.{length-take-le, take_at, drop_at}
@@ -19,7 +20,8 @@ ots-parts t signature rest randomizer last values long es er el ev =
     let count : length last / 32 ≡ t.p = omega arith in
     let pieces : values ≡ first_chunks 32 t.p last = ev ∙ ap (λ n. first_chunks 32 n last) count in
     let whole : rest ≡ randomizer ++ concat values
-    = sym (take-append-drop 32 rest) ∙ ap₂ (λ x y. x ++ y) (sym er) (sym el ∙ sym (ap concat pieces ∙ concat-chunks t.p last last_long)) in
+    = sym (take-append-drop 32 rest)
+    ∙ ap₂ (λ x y. x ++ y) (sym er) (sym el ∙ sym (ap concat pieces ∙ concat-chunks t.p last last_long)) in
     record {
       randomizer_length = ap length er ∙ length-take-le 32 rest (omega arith);
       values_count = ap length pieces ∙ length-chunks t.p last;
@@ -31,7 +33,8 @@ ots-parts t signature rest randomizer last values long es er el ev =
 pub randomizer-of : (t : OtsSet) (randomizer : List ℕ) (values : List (List ℕ)) (signature : List ℕ)
     → IsOtsSignature t randomizer values signature → take 32 (drop 4 signature) ≡ randomizer
 randomizer-of t randomizer values signature is =
-    let whole : signature ≡ u32str t.code ++ (randomizer ++ concat values) = is.parts ∙ append_assoc (u32str t.code) randomizer (concat values) in
+    let whole : signature ≡ u32str t.code ++ (randomizer ++ concat values) =
+    is.parts ∙ append_assoc (u32str t.code) randomizer (concat values) in
     ap (λ x. take 32 (drop 4 x)) whole
     ∙ (ap (take 32) (drop_at (u32str t.code) (randomizer ++ concat values) 4 refl)
     ∙ take_at randomizer (concat values) 32 is.randomizer_length)

@@ -1,5 +1,6 @@
 -- A table that is filled from its first place on.
-use Rattle.std.proofs.Common.{ℕ, suc, ◌≡◌, ◌+◌, ◌-◌, ◌<◌, List, [], ◌∷◌, ◌++◌, map, set, replicate, sym, ◌∙◌, ap, ap₂, arith, append_assoc}
+use Rattle.std.proofs.Common.{ℕ, suc, ◌≡◌, ◌+◌, ◌-◌, ◌<◌, List, [], ◌∷◌, ◌++◌, map, set, replicate, sym, ◌∙◌, ap, ap₂}
+use Rattle.std.proofs.Common.{arith, append_assoc}
 use Rattle.std.proofs.Math.Seq.{set-append_seam}
 use Rattle.lms_spec.specs.Bytes.{below}
 use Rattle.lms_spec.proofs.Below.{length-map-below, map-below-push}

@@ -1,5 +1,6 @@
 -- Digits under the widths of the table: each is some bits of one byte.
-use Rattle.std.proofs.Common.{ℕ, ◌≡◌, ◌+◌, ◌-◌, ◌*◌, ◌/◌, ◌%◌, ◌^◌, ◌<◌, ◌≤◌, List, length, All, slice_index, refl, sym, ◌∙◌, ap, arith, pow_pos, lit<, lit≤, div-add-mod', ap₂}
+use Rattle.std.proofs.Common.{ℕ, ◌≡◌, ◌+◌, ◌-◌, ◌*◌, ◌/◌, ◌%◌, ◌^◌, ◌<◌, ◌≤◌, List, length, All, slice_index, refl, sym}
+use Rattle.std.proofs.Common.{◌∙◌, ap, arith, pow_pos, lit<, lit≤, div-add-mod', ap₂}
 use Rattle.std.proofs.lemmas.Nat.{div_below, mod_below, div-mul-add}
 use Rattle.lms_spec.specs.Digits.{digit}
 use Rattle.lms_spec.proofs.Numbers.{IsByte}
@@ -30,7 +31,8 @@ some_bit W8 = lit< tt
 -- a digit by its first bit
 pub digit-byte : (t : OtsType) (bytes : List ℕ) (i : ℕ) → All IsByte bytes → i < length bytes * (8 / (ots_set_of t).w)
     → digit bytes i (ots_set_of t).w
-    ≡ slice_index bytes (i * (ots_set_of t).w / 8) / 2 ^ (8 - (ots_set_of t).w - i * (ots_set_of t).w % 8) % 2 ^ (ots_set_of t).w
+    ≡ slice_index bytes (i * (ots_set_of t).w / 8) / 2 ^ (8 - (ots_set_of t).w - i * (ots_set_of t).w % 8)
+    % 2 ^ (ots_set_of t).w
 digit-byte t bytes i small h =
     let w = (ots_set_of t).w in
     let u = 8 / w in

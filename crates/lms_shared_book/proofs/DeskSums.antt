@@ -27,17 +27,23 @@ joined all d ds = plus_assoc all d (total ds) ∙ ap (plus all) (plus_comm d (to
 -- what was given, or burnt, is within what was reserved
 pub given_le : (es : List Entry) → given_of es ≤ sum_by len_of es
 given_le [] = omega arith
-given_le (Given len ∷ es) = omega (arith, given_le es, sum_by-cons len_of (Given len) es, sum_by-cons given_len (Given len) es)
-given_le (Burnt len ∷ es) = omega (arith, given_le es, sum_by-cons len_of (Burnt len) es, sum_by-cons given_len (Burnt len) es)
+given_le (Given len ∷ es) =
+    omega (arith, given_le es, sum_by-cons len_of (Given len) es, sum_by-cons given_len (Given len) es)
+given_le (Burnt len ∷ es) =
+    omega (arith, given_le es, sum_by-cons len_of (Burnt len) es, sum_by-cons given_len (Burnt len) es)
 
 pub burnt_le : (es : List Entry) → burnt_of es ≤ sum_by len_of es
 burnt_le [] = omega arith
-burnt_le (Given len ∷ es) = omega (arith, burnt_le es, sum_by-cons len_of (Given len) es, sum_by-cons burnt_len (Given len) es)
-burnt_le (Burnt len ∷ es) = omega (arith, burnt_le es, sum_by-cons len_of (Burnt len) es, sum_by-cons burnt_len (Burnt len) es)
+burnt_le (Given len ∷ es) =
+    omega (arith, burnt_le es, sum_by-cons len_of (Given len) es, sum_by-cons burnt_len (Given len) es)
+burnt_le (Burnt len ∷ es) =
+    omega (arith, burnt_le es, sum_by-cons len_of (Burnt len) es, sum_by-cons burnt_len (Burnt len) es)
 
 -- the sums with one entry more
 pub given_more : (es : List Entry) (n : ℕ) → plus (sums_of es) (sums 1 n 0) ≡ sums_of (es ++ Given n ∷ [])
-given_more es n = same_sums _ _ (omega (arith, length-append es (Given n ∷ []))) (omega (arith, sum_by_push given_len es (Given n))) (omega (arith, sum_by_push burnt_len es (Given n)))
+given_more es n = same_sums _ _ (omega (arith, length-append es (Given n ∷ [])))
+    (omega (arith, sum_by_push given_len es (Given n))) (omega (arith, sum_by_push burnt_len es (Given n)))
 
 pub burnt_more : (es : List Entry) (n : ℕ) → plus (sums_of es) (sums 1 0 n) ≡ sums_of (es ++ Burnt n ∷ [])
-burnt_more es n = same_sums _ _ (omega (arith, length-append es (Burnt n ∷ []))) (omega (arith, sum_by_push given_len es (Burnt n))) (omega (arith, sum_by_push burnt_len es (Burnt n)))
+burnt_more es n = same_sums _ _ (omega (arith, length-append es (Burnt n ∷ [])))
+    (omega (arith, sum_by_push given_len es (Burnt n))) (omega (arith, sum_by_push burnt_len es (Burnt n)))

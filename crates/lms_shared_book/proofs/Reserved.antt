@@ -13,20 +13,24 @@ use Rattle.lms_shared_book.specs.Desks.{Sums, plus, sums_of}
 use Rattle.lms_shared_book.specs.Shared.{IsAfter, IsAfterEntry, IsFound, IsSettled}
 
 -- one reservation more
-pub after_push : (start : BookState) (es : List Entry) (e : Entry) (book new : BookState) → IsAfter start es book → IsAfterEntry book e new
+pub after_push : (start : BookState) (es : List Entry) (e : Entry) (book new : BookState) → IsAfter start es book
+    → IsAfterEntry book e new
     → IsAfter start (es ++ e ∷ []) new
 after_push start [] e book new is step = (new, subst (λ (b : BookState). IsAfterEntry b e new) is step, refl)
 after_push start (x ∷ es) e book new (next, first, rest) step = (next, first, after_push next es e book new rest step)
 
-entry_history : (old : BookState) (e : Entry) (new : BookState) → IsAfterEntry old e new → new.history ≡ old.history ++ e ∷ []
+entry_history : (old : BookState) (e : Entry) (new : BookState) → IsAfterEntry old e new
+    → new.history ≡ old.history ++ e ∷ []
 entry_history old (Given n) new step = step.reservation.2
 entry_history old (Burnt n) new step = step.reservation.3
 
 -- the history goes on by the entries
-pub after_history : (start : BookState) (es : List Entry) (book : BookState) → IsAfter start es book → book.history ≡ start.history ++ es
+pub after_history : (start : BookState) (es : List Entry) (book : BookState) → IsAfter start es book
+    → book.history ≡ start.history ++ es
 after_history start [] book is = ap (λ (b : BookState). b.history) is ∙ sym (append-nil start.history)
 after_history start (e ∷ es) book (next, first, rest) =
-    after_history next es book rest ∙ ap (λ (h : List Entry). h ++ es) (entry_history start e next first) ∙ append_assoc start.history (e ∷ []) es
+    after_history next es book rest ∙ ap (λ (h : List Entry). h ++ es) (entry_history start e next first)
+    ∙ append_assoc start.history (e ∷ []) es
 
 same_sums : (a b : Sums) → a.entries ≡ b.entries → a.received ≡ b.received → a.burnt ≡ b.burnt → a ≡ b
 same_sums a b e r u i = record { entries = e i; received = r i; burnt = u i }
@@ -60,7 +64,8 @@ burns_entry n start len old new same (enough, s, l, history, failed) =
     record { opening = same; reservation = (enough, refl, refl, history, failed) }
 
 -- a book behind the lock; the part of the sums that is the book's own counts what was before
-pub behind : (shared : BookState) (desks : ℕ) (desk part totals : Sums) (found : BookState) (es : List Entry) → IsAfter shared es found
+pub behind : (shared : BookState) (desks : ℕ) (desk part totals : Sums) (found : BookState) (es : List Entry)
+    → IsAfter shared es found
     → totals ≡ sums_of found.history → part ≡ sums_of shared.history → (desks ≡ 1 → plus part desk ≡ totals)
     → IsFound (record { book = shared; desks = desks }) desk found
 behind shared desks desk part totals found es after all own alone = record {
@@ -81,4 +86,5 @@ settled shared desks book es after all = record {
 
 pub settled_sums : (shared : BookState) (desks : Sums) (book : BookState) → IsSettled shared desks book
     → sums_of book.history ≡ plus (sums_of shared.history) desks
-settled_sums shared desks book is = after_sums shared is.entries book is.after ∙ ap (plus (sums_of shared.history)) is.all
+settled_sums shared desks book is =
+    after_sums shared is.entries book is.after ∙ ap (plus (sums_of shared.history)) is.all

@@ -10,14 +10,15 @@ use std::sync::ledger::{Blank, Book as LedgerBook, Ledger, Share};
 /// count. Only contracts see its members.
 ///
 /// To share a book, write a function that is generic over three types with this bound and takes the
-/// book and its `Blanks`, and call it with `Brand` for each of the three. The proof of that call
-/// picks the members: the blank's name and parts, and the book.
+/// book and its `Blanks`, and call it with `Brand` for each of the three. There `Brand` stands for a
+/// ledger that the caller's proof names: by the blank's name and parts, and by the book.
 pub trait BookLedger: Ledger {
     /// The book that is shared, as it was before.
     ghost book: { BookState };
 }
 
 impl BookLedger for Brand {
+    // A placeholder; every proof replaces it.
     ghost book = { record {
       key = record { levels = []; seed = []; i = [] };
       base = 0;

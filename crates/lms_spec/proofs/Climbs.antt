@@ -1,5 +1,7 @@
 -- A climb by a tree's own path goes over its nodes, to the root.
-use Rattle.std.proofs.Common.{ℕ, zero, suc, ◌≡◌, ◌+◌, ◌-◌, ◌*◌, ◌/◌, ◌%◌, ◌^◌, ◌<◌, ◌≤◌, ◌==◌, List, [], ◌∷◌, ◌++◌, cond, map, length, sym, ◌∙◌, ap, ap₂, arith, ⊎_elim, div-one, div-le_self, eqb-true, pow-suc, pow_pos, pow_mono, one-mul, add-one}
+use Rattle.std.proofs.Common.{ℕ, zero, suc, ◌≡◌, ◌+◌, ◌-◌, ◌*◌, ◌/◌, ◌%◌, ◌^◌, ◌<◌, ◌≤◌, ◌==◌, List, [], ◌∷◌, ◌++◌}
+use Rattle.std.proofs.Common.{cond, map, length, sym, ◌∙◌, ap, ap₂, arith, ⊎_elim, div-one, div-le_self, eqb-true}
+use Rattle.std.proofs.Common.{pow-suc, pow_pos, pow_mono, one-mul, add-one}
 use Rattle.std.proofs.Math.Nat.{div-div-eq-div-mul, pow-succ'}
 use Rattle.std.proofs.lemmas.Bool.{cases_Bool, eqb-false}
 use Rattle.std.proofs.lemmas.Nat.{le-div, shr_high}
@@ -48,11 +50,13 @@ climb-nodes key q (suc n) leaf short =
     let up : r / 2 ≡ start / 2 ^ suc n = div-div-eq-div-mul start (2 ^ n) 2 ∙ ap (λ n. start / n) (sym (pow-suc 2 n)) in
     ap (climb key.id start (node key start)) (ap (λ k. map f (below k)) (sym (add-one n)) ∙ map-below-push f n)
     ∙ (climb-push key.id start (node key start) (map f (below n)) (f n)
-    ∙ (ap₂ (λ level value. climb_step key.id (start / 2 ^ level) value (f n)) (length-map-below f n) (climb-nodes key q n leaf (omega arith))
+    ∙ (ap₂ (λ level value. climb_step key.id (start / 2 ^ level) value (f n)) (length-map-below f n)
+    (climb-nodes key q n leaf (omega arith))
     ∙ (climb_step-node key r two low ∙ ap (node key) up)))
 
 pub climb-root : (key : Tree) (q : ℕ) → q < 2 ^ key.lms.h
     → climb key.id (2 ^ key.lms.h + q) (node key (2 ^ key.lms.h + q)) (path_of key q) ≡ node key 1
 climb-root key q leaf =
-    let top : (2 ^ key.lms.h + q) / 2 ^ key.lms.h ≡ 1 = ap (λ n. (n + q) / 2 ^ key.lms.h) (sym (one-mul (2 ^ key.lms.h))) ∙ shr_high 1 key.lms.h q leaf in
+    let top : (2 ^ key.lms.h + q) / 2 ^ key.lms.h ≡ 1 =
+    ap (λ n. (n + q) / 2 ^ key.lms.h) (sym (one-mul (2 ^ key.lms.h))) ∙ shr_high 1 key.lms.h q leaf in
     climb-nodes key q key.lms.h leaf (omega arith) ∙ ap (node key) top

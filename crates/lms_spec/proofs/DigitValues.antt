@@ -1,5 +1,7 @@
 -- The values of digits: each fits its width, and is some bits of one byte.
-use Rattle.std.proofs.Common.{◌++◌, pow_pos, ℕ, zero, suc, ◌≡◌, ◌+◌, ◌-◌, ◌*◌, ◌/◌, ◌%◌, ◌^◌, ◌<◌, List, length, All, slice_index, sym, ◌∙◌, ap, arith, pow-add, pow-suc, shr-shr, mul-zero, pos_of_ne-zero, mul-div_cancel}
+use Rattle.std.proofs.Common.{◌++◌, pow_pos, ℕ, zero, suc, ◌≡◌, ◌+◌, ◌-◌, ◌*◌, ◌/◌, ◌%◌, ◌^◌, ◌<◌, List, length, All}
+use Rattle.std.proofs.Common.{slice_index, sym, ◌∙◌, ap, arith, pow-add, pow-suc, shr-shr, mul-zero, pos_of_ne-zero}
+use Rattle.std.proofs.Common.{mul-div_cancel}
 use Rattle.std.proofs.Math.Nat.{pow-zero}
 use Rattle.std.proofs.Math.Pow.{mod-mod-pow}
 use Rattle.std.proofs.lemmas.Nat.{field_of}
@@ -10,7 +12,8 @@ use Rattle.lms_spec.specs.Bytes.{number_of, u16str}
 use Rattle.lms_spec.proofs.Numbers.{IsByte, byte-at}
 use Rattle.lms_spec.proofs.Below.{length-map-below, All-map-below}
 
-pub digits-fit : (t : OtsSet) (hash : List ℕ) → (length (digits_of t hash) ≡ t.p) × All (λ d. d < 2 ^ t.w) (digits_of t hash)
+pub digits-fit : (t : OtsSet) (hash : List ℕ) → (length (digits_of t hash) ≡ t.p)
+    × All (λ d. d < 2 ^ t.w) (digits_of t hash)
 unfolding digits_of digit
 digits-fit t hash =
     let value : ℕ → ℕ = λ i. digit (hash ++ u16str (checksum t hash)) i t.w in

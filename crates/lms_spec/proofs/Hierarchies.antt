@@ -1,5 +1,6 @@
 -- The signature of an index is accepted under the key's public key.
-use Rattle.std.proofs.Common.{ℕ, zero, suc, ◌≡◌, ◌+◌, ◌-◌, ◌^◌, ◌<◌, ◌≤◌, List, ◌++◌, map, length, All, Some, refl, sym, ap, arith, subst, pow_pos, append_assoc}
+use Rattle.std.proofs.Common.{ℕ, zero, suc, ◌≡◌, ◌+◌, ◌-◌, ◌^◌, ◌<◌, ◌≤◌, List, ◌++◌, map, length, All, Some, refl, sym}
+use Rattle.std.proofs.Common.{ap, arith, subst, pow_pos, append_assoc}
 use Rattle.std.proofs.lemmas.List.{length-take-le}
 use Rattle.std.proofs.lemmas.Nat.{mod_below}
 use Rattle.std.specs.List.{concat, range_with_len}
@@ -8,7 +9,8 @@ use Rattle.lms_spec.specs.Parameters.{OtsSet, LmsSet, ots_set, lms_set}
 use Rattle.lms_spec.specs.Bytes.{below, u32str}
 use Rattle.lms_spec.specs.Tree.{public_key_of, lms_signature, LmsAccepts}
 use Rattle.lms_spec.specs.Hss.{most_levels, HasKnownSets, HssKey, level, AcceptsThrough, HssAccepts, no_level}
-use Rattle.lms_spec.specs.Profile.{leaf_at, for_randomizer, for_child_id, derived, tree_at, signed_key, hss_public_key, hss_signature}
+use Rattle.lms_spec.specs.Profile.{leaf_at, for_randomizer, for_child_id, derived, tree_at, signed_key, hss_public_key}
+use Rattle.lms_spec.specs.Profile.{hss_signature}
 use Rattle.lms_spec.proofs.Below.{length-map-below}
 use Rattle.lms_spec.proofs.TreeSignatures.{tree-accepts}
 
@@ -33,10 +35,12 @@ length-id key g (suc k) sixteen =
 
 level-accepts : (key : HssKey) (g k : ℕ) (randomizer message : List ℕ)
     → All HasKnownSets key.levels → length key.id ≡ 16 → k < length key.levels → length randomizer ≡ 32
-    → LmsAccepts (public_key_of (tree_at key g k)) message (lms_signature (tree_at key g k) (leaf_at key g k) randomizer message)
+    → LmsAccepts (public_key_of (tree_at key g k)) message
+    (lms_signature (tree_at key g k) (leaf_at key g k) randomizer message)
 level-accepts key g k randomizer message known sixteen h long =
     let sets = known-level key k known h in
-    let in_tree : leaf_at key g k < 2 ^ (level key k).lms.h = mod_below _ (2 ^ (level key k).lms.h) (pow_pos (level key k).lms.h) in
+    let in_tree : leaf_at key g k < 2 ^ (level key k).lms.h =
+    mod_below _ (2 ^ (level key k).lms.h) (pow_pos (level key k).lms.h) in
     tree-accepts (tree_at key g k) (leaf_at key g k) randomizer message
     (subst (λ (m : LmsSet). lms_set m.code ≡ Some m) (sym (level-lms key g k)) sets.0)
     (subst (λ (t : OtsSet). ots_set t.code ≡ Some t) (sym (level-ots key g k)) sets.1)
@@ -49,13 +53,15 @@ abbrev pub signatures_from : HssKey → ℕ → List ℕ → ℕ → ℕ → Lis
 signatures_from key g last k count = concat (map (signed_key key g) (range_with_len k count)) ++ last
 
 accepts-from : (key : HssKey) (g : ℕ) (randomizer message : List ℕ) (bottom k count : ℕ)
-    → All HasKnownSets key.levels → length key.id ≡ 16 → k + count ≡ bottom → bottom < length key.levels → length randomizer ≡ 32
+    → All HasKnownSets key.levels → length key.id ≡ 16 → k + count ≡ bottom → bottom < length key.levels
+    → length randomizer ≡ 32
     → AcceptsThrough count (public_key_of (tree_at key g k)) message
     (signatures_from key g (lms_signature (tree_at key g bottom) (leaf_at key g bottom) randomizer message) k count)
 unfolding signed_key derived
 accepts-from key g randomizer message bottom k zero known sixteen e h long =
     let here : k ≡ bottom = omega arith in
-    subst (λ b. LmsAccepts (public_key_of (tree_at key g k)) message (lms_signature (tree_at key g b) (leaf_at key g b) randomizer message)) here
+    subst (λ b. LmsAccepts (public_key_of (tree_at key g k)) message
+    (lms_signature (tree_at key g b) (leaf_at key g b) randomizer message)) here
     (level-accepts key g k randomizer message known sixteen (omega arith) long)
 accepts-from key g randomizer message bottom k (suc count) known sixteen e h long =
     let tree = tree_at key g k in
@@ -73,15 +79,18 @@ accepts-from key g randomizer message bottom k (suc count) known sixteen e h lon
 -- a signature by an index, part by part
 pub signature-parts : (key : HssKey) (g : ℕ) (randomizer message : List ℕ) → let bottom = length key.levels - 1 in
     hss_signature key g randomizer message
-    ≡ u32str bottom ++ concat (map (signed_key key g) (below bottom)) ++ lms_signature (tree_at key g bottom) (leaf_at key g bottom) randomizer message
+    ≡ u32str bottom ++ concat (map (signed_key key g) (below bottom))
+    ++ lms_signature (tree_at key g bottom) (leaf_at key g bottom) randomizer message
 unfolding hss_signature
 signature-parts key g randomizer message =
     let bottom = length key.levels - 1 in
     let last = lms_signature (tree_at key g bottom) (leaf_at key g bottom) randomizer message in
-    ap (λ n. u32str n ++ concat (map (signed_key key g) (below bottom)) ++ last) (length-map-below (signed_key key g) bottom)
+    ap (λ n. u32str n ++ concat (map (signed_key key g) (below bottom)) ++ last)
+    (length-map-below (signed_key key g) bottom)
 
 pub hss-accepts : (key : HssKey) (g : ℕ) (randomizer message : List ℕ)
-    → 1 ≤ length key.levels → length key.levels ≤ most_levels → All HasKnownSets key.levels → length key.id ≡ 16 → length randomizer ≡ 32
+    → 1 ≤ length key.levels → length key.levels ≤ most_levels → All HasKnownSets key.levels → length key.id ≡ 16
+    → length randomizer ≡ 32
     → HssAccepts (hss_public_key key) message (hss_signature key g randomizer message)
 unfolding hss_public_key
 hss-accepts key g randomizer message some most known sixteen long =

@@ -1,5 +1,6 @@
 -- The parts of a hierarchy's signature: how long they are, and that its bytes determine them.
-use Rattle.std.proofs.Common.{ℕ, zero, suc, ◌≡◌, ◌+◌, ◌-◌, ◌*◌, ◌≤◌, List, [], ◌++◌, map, length, take, drop, get_or, sum_by, Some, sym, ◌∙◌, ap, ap₂, subst₂, arith, length-append, append_assoc}
+use Rattle.std.proofs.Common.{ℕ, zero, suc, ◌≡◌, ◌+◌, ◌-◌, ◌*◌, ◌≤◌, List, [], ◌++◌, map, length, take, drop, get_or}
+use Rattle.std.proofs.Common.{sum_by, Some, sym, ◌∙◌, ap, ap₂, subst₂, arith, length-append, append_assoc}
 use Rattle.std.specs.List.{concat, range_with_len}
 use Rattle.std.proofs.lemmas.List.{take_at, drop_at, drop_all}
 use Rattle.std.proofs.lemmas.List.Sums.{sum_by-drop_more}
@@ -17,14 +18,16 @@ abbrev level_length : Level → ℕ
 level_length l = lms_signature_length l.lms l.ots
 
 length-level : (key : HssKey) (g k : ℕ) (randomizer message : List ℕ) → length randomizer ≡ 32
-    → length (lms_signature (tree_at key g k) (leaf_at key g k) randomizer message) ≡ level_length (get_or key.levels k no_level)
+    → length (lms_signature (tree_at key g k) (leaf_at key g k) randomizer message)
+    ≡ level_length (get_or key.levels k no_level)
 length-level key g k randomizer message long =
     length-lms_signature (tree_at key g k) (leaf_at key g k) randomizer message long
     ∙ ap₂ lms_signature_length (level-lms key g k) (level-ots key g k)
 
 length-from : (key : HssKey) (g : ℕ) (randomizer message : List ℕ) (bottom k count : ℕ)
     → length key.id ≡ 16 → k + count ≡ bottom → bottom + 1 ≡ length key.levels → length randomizer ≡ 32
-    → length (signatures_from key g (lms_signature (tree_at key g bottom) (leaf_at key g bottom) randomizer message) k count)
+    → length
+    (signatures_from key g (lms_signature (tree_at key g bottom) (leaf_at key g bottom) randomizer message) k count)
     ≡ sum_by level_length (drop k key.levels) + 56 * count
 unfolding signed_key derived
 length-from key g randomizer message bottom k zero sixteen e h long =
@@ -48,7 +51,8 @@ length-from key g randomizer message bottom k (suc count) sixteen e h long =
     ∙ (length-append (signed_key key g k) (signatures_from key g last (k + 1) count)
     ∙ omega (arith, length-append first next))
 
-pub length-hss : (key : HssKey) (g : ℕ) (randomizer message : List ℕ) → 1 ≤ length key.levels → length key.id ≡ 16 → length randomizer ≡ 32
+pub length-hss : (key : HssKey) (g : ℕ) (randomizer message : List ℕ) → 1 ≤ length key.levels → length key.id ≡ 16
+    → length randomizer ≡ 32
     → length (hss_signature key g randomizer message)
     ≡ hss_signature_length key.levels
 unfolding hss_signature
@@ -65,9 +69,11 @@ length-hss_public_key key sixteen =
     length-append (u32str (length key.levels)) (public_key_of (tree_at key 0 0)) ∙ omega arith
 
 -- the key that an upper tree signs has 56 bytes
-next-length : (count : ℕ) (public_key message signatures : List ℕ) → AcceptsThrough count public_key message signatures → length public_key ≡ 56
+next-length : (count : ℕ) (public_key message signatures : List ℕ) → AcceptsThrough count public_key message signatures
+    → length public_key ≡ 56
 next-length zero public_key message signatures a = (length-lms public_key message signatures a).0
-next-length (suc count) public_key message signatures (signature, next, rest, e, a, r) = (length-lms public_key next signature a).0
+next-length (suc count) public_key message signatures (signature, next, rest, e, a, r) =
+    (length-lms public_key next signature a).0
 
 -- how long an upper signature and the key that it signs are
 cut-lengths : (count : ℕ) (m : LmsSet) (t : OtsSet) (id root message signature next rest : List ℕ)
@@ -75,14 +81,19 @@ cut-lengths : (count : ℕ) (m : LmsSet) (t : OtsSet) (id root message signature
     → LmsAccepts (lms_public_key m t id root) next signature → AcceptsThrough count next message rest
     → (length signature ≡ lms_signature_length m t) × (length next ≡ 56)
 cut-lengths count m t id root message signature next rest km kt li a r =
-    let k = key-parts-same a.lms m a.ots t a.id id a.root root a.lms_known km a.ots_known kt a.id_length li (sym a.key_parts) in
-    ((length-lms (lms_public_key m t id root) next signature a).1 ∙ ap₂ lms_signature_length k.0 k.1, next-length count next message rest r)
+    let k = key-parts-same a.lms m a.ots t a.id id a.root root a.lms_known km a.ots_known kt a.id_length li
+    (sym a.key_parts) in (
+      (length-lms (lms_public_key m t id root) next signature a).1 ∙ ap₂ lms_signature_length k.0 k.1,
+      next-length count next message rest r,
+    )
 
 pub through-parts : (count : ℕ) (m : LmsSet) (t : OtsSet) (id root message signatures : List ℕ)
     → lms_set m.code ≡ Some m → ots_set t.code ≡ Some t → length id ≡ 16
     → AcceptsThrough (suc count) (lms_public_key m t id root) message signatures
-    → LmsAccepts (lms_public_key m t id root) (take 56 (drop (lms_signature_length m t) signatures)) (take (lms_signature_length m t) signatures)
-    × AcceptsThrough count (take 56 (drop (lms_signature_length m t) signatures)) message (drop (lms_signature_length m t + 56) signatures)
+    → LmsAccepts (lms_public_key m t id root) (take 56 (drop (lms_signature_length m t) signatures))
+    (take (lms_signature_length m t) signatures)
+    × AcceptsThrough count (take 56 (drop (lms_signature_length m t) signatures)) message
+    (drop (lms_signature_length m t + 56) signatures)
 through-parts count m t id root message signatures km kt li (signature, next, rest, e, a, r) =
     let n = lms_signature_length m t in
     let (ls, ln) = cut-lengths count m t id root message signature next rest km kt li a r in

@@ -34,13 +34,15 @@ length-lms public_key message signature a =
           ∙ omega (arith, length-append (u32str a.q ++ a.ots_part) (u32str a.lms.code))),
     )
 
-pub length-ots_signature : (t : OtsSet) (id seed : List ℕ) (q : ℕ) (randomizer message : List ℕ) → length randomizer ≡ 32
+pub length-ots_signature : (t : OtsSet) (id seed : List ℕ) (q : ℕ) (randomizer message : List ℕ)
+    → length randomizer ≡ 32
     → length (ots_signature t id seed q randomizer message) ≡ ots_signature_length t
 unfolding ots_signature chain_secret
 length-ots_signature t id seed q randomizer message long =
     let f = signed_value t id seed q randomizer message in
     let count = length-map-below f t.p in
-    let all = length-concat (map f (below t.p)) (All-map-below Is32 f t.p (λ i. length-chain id q i 0 _ _ (length-sha256 _))) in
+    let all = length-concat (map f (below t.p))
+    (All-map-below Is32 f t.p (λ i. length-chain id q i 0 _ _ (length-sha256 _))) in
     length-append (u32str t.code ++ randomizer) (concat (map f (below t.p))) ∙ omega arith
 
 pub length-lms_signature : (key : Tree) (q : ℕ) (randomizer message : List ℕ) → length randomizer ≡ 32
@@ -52,7 +54,8 @@ length-lms_signature key q randomizer message long =
     let all = length-concat (path_of key q) (All-map-below Is32 f key.lms.h (λ level. length-node key _)) in
     let o = ots_signature key.ots key.id key.seed q randomizer message in
     let front = length-ots_signature key.ots key.id key.seed q randomizer message long in
-    length-append (u32str q ++ o ++ u32str key.lms.code) (concat (path_of key q)) ∙ omega (arith, length-append (u32str q ++ o) (u32str key.lms.code))
+    length-append (u32str q ++ o ++ u32str key.lms.code) (concat (path_of key q))
+    ∙ omega (arith, length-append (u32str q ++ o) (u32str key.lms.code))
 
 pub length-public_key : (key : Tree) → length key.id ≡ 16 → length (public_key_of key) ≡ 56
 unfolding public_key_of lms_public_key

@@ -1,5 +1,6 @@
 -- The bytes of a public key and of a signature determine their parts.
-use Rattle.std.proofs.Common.{ℕ, ◌≡◌, ◌+◌, ◌^◌, ◌<◌, List, ◌++◌, length, All, Some, refl, sym, ◌∙◌, ap, arith, length-append}
+use Rattle.std.proofs.Common.{ℕ, ◌≡◌, ◌+◌, ◌^◌, ◌<◌, List, ◌++◌, length, All, Some, refl, sym, ◌∙◌, ap, arith}
+use Rattle.std.proofs.Common.{length-append}
 use Rattle.std.specs.List.{concat}
 use Rattle.lms_spec.specs.Parameters.{OtsSet, LmsSet, ots_set, lms_set, ots_signature_length}
 use Rattle.lms_spec.specs.Bytes.{u32str}
@@ -11,11 +12,13 @@ use Rattle.lms_spec.proofs.Lengths.{length-ots}
 use Rattle.lms_spec.proofs.Pieces.{same-front, same-rest, concat-same}
 use Rattle.lms_spec.proofs.OneTime.{candidate-one}
 
-same_lms : (m m' : LmsSet) → lms_set m.code ≡ Some m → lms_set m'.code ≡ Some m' → u32str m.code ≡ u32str m'.code → m ≡ m'
+same_lms : (m m' : LmsSet) → lms_set m.code ≡ Some m → lms_set m'.code ≡ Some m'
+    → u32str m.code ≡ u32str m'.code → m ≡ m'
 same_lms m m' known known' e =
     let codes = ap lms_set (u32str-same m.code m'.code (small-lms_code m known) (small-lms_code m' known') e) in cc
 
-same_ots : (t t' : OtsSet) → ots_set t.code ≡ Some t → ots_set t'.code ≡ Some t' → u32str t.code ≡ u32str t'.code → t ≡ t'
+same_ots : (t t' : OtsSet) → ots_set t.code ≡ Some t → ots_set t'.code ≡ Some t'
+    → u32str t.code ≡ u32str t'.code → t ≡ t'
 same_ots t t' known known' e =
     let codes = ap ots_set (u32str-same t.code t'.code (small-ots_code t known) (small-ots_code t' known') e) in cc
 
@@ -57,23 +60,28 @@ signature-parts-same q q' c c' n o o' path path' hq hq' lo lo' same long long' e
     let first = same-front (4 + n) (a ++ o) (a' ++ o') b b' k k' front in (
       u32str-same q q' hq hq' (same-front 4 a a' o o' refl refl first),
       same-rest 4 a a' o o' refl refl first,
-      concat-same path path' same long long' (same-rest (8 + n) (a ++ o ++ b) (a' ++ o' ++ b') (concat path) (concat path') l l' e),
+      concat-same path path' same long long'
+          (same-rest (8 + n) (a ++ o ++ b) (a' ++ o' ++ b') (concat path) (concat path') l l' e),
     )
 
 -- one parse of a key and a signature decides
-pub accepted-by-parts : (m : LmsSet) (t : OtsSet) (id root : List ℕ) (q : ℕ) (o : List ℕ) (path : List (List ℕ)) (message candidate : List ℕ)
-    → lms_set m.code ≡ Some m → ots_set t.code ≡ Some t → length id ≡ 16 → q < 2 ^ m.h → length path ≡ m.h → All (λ v. length v ≡ 32) path
+pub accepted-by-parts : (m : LmsSet) (t : OtsSet) (id root : List ℕ) (q : ℕ) (o : List ℕ) (path : List (List ℕ))
+    (message candidate : List ℕ)
+    → lms_set m.code ≡ Some m → ots_set t.code ≡ Some t → length id ≡ 16 → q < 2 ^ m.h → length path ≡ m.h
+    → All (λ v. length v ≡ 32) path
     → LeadsTo t id q o message candidate
     → LmsAccepts (lms_public_key m t id root) message (u32str q ++ o ++ u32str m.code ++ concat path)
     → climb id (2 ^ m.h + q) (leaf_hash id (2 ^ m.h + q) candidate) path ≡ root
 accepted-by-parts m t id root q o path message candidate km kt li hq lp long leads a =
-    let k = key-parts-same a.lms m a.ots t a.id id a.root root a.lms_known km a.ots_known kt a.id_length li (sym a.key_parts) in
+    let k = key-parts-same a.lms m a.ots t a.id id a.root root a.lms_known km a.ots_known kt a.id_length li
+    (sym a.key_parts) in
     let em : a.lms ≡ m = k.0 in
     let et : a.ots ≡ t = k.1 in
     let eid : a.id ≡ id = k.2 in
     let eroot : a.root ≡ root = k.3 in
     let lo = length-ots t leads.randomizer leads.values o leads.signature_parts in
-    let lo' : length a.ots_part ≡ ots_signature_length t = length-ots a.ots a.leads_to.randomizer a.leads_to.values a.ots_part a.leads_to.signature_parts ∙ ap ots_signature_length et in
+    let lo' : length a.ots_part ≡ ots_signature_length t = length-ots a.ots a.leads_to.randomizer a.leads_to.values
+    a.ots_part a.leads_to.signature_parts ∙ ap ots_signature_length et in
     let qa : a.q < 2 ^ 32 = small-leaf a.lms a.q a.lms_known a.q_in_tree in
     let qb : q < 2 ^ 32 = small-leaf m q km hq in
     let s = signature-parts-same a.q q a.lms.code m.code (ots_signature_length t) a.ots_part o a.path path qa qb lo' lo

@@ -1,5 +1,6 @@
 -- Byte strings joined of pieces: how long they are, and that they determine the pieces.
-use Rattle.std.proofs.Common.{ℕ, ◌≡◌, ◌*◌, List, [], ◌∷◌, ◌++◌, length, All, take, drop, refl, sym, ◌∙◌, ap, ap₂, arith, length-append}
+use Rattle.std.proofs.Common.{ℕ, ◌≡◌, ◌*◌, List, [], ◌∷◌, ◌++◌, length, All, take, drop, refl, sym, ◌∙◌, ap, ap₂, arith}
+use Rattle.std.proofs.Common.{length-append}
 use Rattle.std.specs.List.{concat}
 use Rattle.std.proofs.Math.Nat.{suc_inj}
 use Rattle.std.proofs.lemmas.List.{take_at, drop_at}
@@ -23,7 +24,8 @@ pub same-rest : (n : ℕ) (a b x y : List ℕ) → length a ≡ n → length b �
 same-rest n a b x y la lb e = sym (drop_at a x n la) ∙ (ap (drop n) e ∙ drop_at b y n lb)
 
 -- byte strings of 32 bytes are determined by what they are joined to
-pub concat-same : (xs ys : List (List ℕ)) → length xs ≡ length ys → All Is32 xs → All Is32 ys → concat xs ≡ concat ys → xs ≡ ys
+pub concat-same : (xs ys : List (List ℕ)) → length xs ≡ length ys → All Is32 xs → All Is32 ys
+    → concat xs ≡ concat ys → xs ≡ ys
 concat-same [] [] same long long' e = refl
 concat-same [] (y ∷ ys) same long long' e = absurd (omega arith)
 concat-same (x ∷ xs) [] same long long' e = absurd (omega arith)
@@ -31,4 +33,5 @@ concat-same (x ∷ xs) (y ∷ ys) same long long' e =
     let lx = All-head Is32 x xs long in
     let ly = All-head Is32 y ys long' in
     ap₂ (λ v vs. v ∷ vs) (same-front 32 x y (concat xs) (concat ys) lx ly e)
-    (concat-same xs ys (suc_inj same) (All-tail Is32 x xs long) (All-tail Is32 y ys long') (same-rest 32 x y (concat xs) (concat ys) lx ly e))
+    (concat-same xs ys (suc_inj same) (All-tail Is32 x xs long) (All-tail Is32 y ys long')
+    (same-rest 32 x y (concat xs) (concat ys) lx ly e))

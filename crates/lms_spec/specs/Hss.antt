@@ -1,7 +1,8 @@
 -- HSS, the hierarchy of LMS trees (RFC 8554, section 6): levels, public keys, signatures and their
 -- acceptance, over any trees. Level 0 is the top. Which trees, leaves and randomizers a key of this
 -- project signs with says `Profile`.
-use Rattle.std.specs.Prelude.{ℕ, zero, suc, ◌≡◌, ◌+◌, ◌-◌, ◌*◌, ◌^◌, ◌≤◌, List, ◌++◌, length, sum_by, slice_index_or, Some}
+use Rattle.std.specs.Prelude.{ℕ, zero, suc, ◌≡◌, ◌+◌, ◌-◌, ◌*◌, ◌^◌, ◌≤◌, List, ◌++◌, length, sum_by, slice_index_or}
+use Rattle.std.specs.Prelude.{Some}
 use Rattle.std.specs.List.{concat}
 use Rattle.lms_spec.specs.Parameters.{OtsSet, LmsSet, ots_set, lms_set, lms_signature_length, lms_public_key_length}
 use Rattle.lms_spec.specs.Bytes.{u32str}

@@ -1,14 +1,18 @@
 -- Laws over the definitions, from the bottom up: numbers and tables, digits, one-time signatures,
 -- trees, levels.
-use Rattle.std.specs.Prelude.{ℕ, suc, ◌≡◌, ◌+◌, ◌-◌, ◌*◌, ◌/◌, ◌%◌, ◌^◌, ◌<◌, ◌≤◌, List, ◌++◌, length, All, Some, slice_index, take, drop}
+use Rattle.std.specs.Prelude.{ℕ, suc, ◌≡◌, ◌+◌, ◌-◌, ◌*◌, ◌/◌, ◌%◌, ◌^◌, ◌<◌, ◌≤◌, List, ◌++◌, length, All, Some}
+use Rattle.std.specs.Prelude.{slice_index, take, drop}
 use Rattle.std.specs.List.{concat}
 use Rattle.lms_spec.specs.Bytes.{number_of, u16str, u32str}
 use Rattle.lms_spec.specs.HashLength.{hash_length}
-use Rattle.lms_spec.specs.Parameters.{OtsSet, LmsSet, ots_set, lms_set, ots_signature_length, lms_signature_length, lms_public_key_length}
+use Rattle.lms_spec.specs.Parameters.{OtsSet, LmsSet, ots_set, lms_set, ots_signature_length, lms_signature_length}
+use Rattle.lms_spec.specs.Parameters.{lms_public_key_length}
 use Rattle.lms_spec.specs.Digits.{digit, checksum, digits_of}
 use Rattle.lms_spec.specs.Ots.{chain, public_hash, ots_signature, LeadsTo}
-use Rattle.lms_spec.specs.Tree.{Tree, leaf_hash, inner_hash, node, path_of, climb, lms_public_key, public_key_of, lms_signature, LmsAccepts}
-use Rattle.lms_spec.specs.Hss.{most_levels, HasKnownSets, HssKey, hss_signature_length, capacity_of, AcceptsThrough, HssAccepts}
+use Rattle.lms_spec.specs.Tree.{Tree, leaf_hash, inner_hash, node, path_of, climb, lms_public_key, public_key_of}
+use Rattle.lms_spec.specs.Tree.{lms_signature, LmsAccepts}
+use Rattle.lms_spec.specs.Hss.{most_levels, HasKnownSets, HssKey, hss_signature_length, capacity_of, AcceptsThrough}
+use Rattle.lms_spec.specs.Hss.{HssAccepts}
 use Rattle.lms_spec.specs.Profile.{leaf_at, signed_key, hss_public_key, hss_signature}
 
 -- a number's bytes read as one number are that number

@@ -3,7 +3,8 @@ use Rattle.std.specs.Prelude.{ℕ, ◌≡◌, List, [], ◌∷◌, ◌++◌, len
 use Rattle.std.specs.List.{concat}
 use Rattle.sha2.specs.Sha256.{sha256}
 use Rattle.lms_spec.specs.Bytes.{below}
-use Rattle.lms_spec.specs.Parameters.{OtsSet, LmsSet, ots_w1, ots_w2, ots_w4, ots_w8, lms_h5, lms_h10, lms_h15, lms_h25, ots_sets, ots_signature_length, lms_signature_length}
+use Rattle.lms_spec.specs.Parameters.{OtsSet, LmsSet, ots_w1, ots_w2, ots_w4, ots_w8, lms_h5, lms_h10, lms_h15, lms_h25}
+use Rattle.lms_spec.specs.Parameters.{ots_sets, ots_signature_length, lms_signature_length}
 use Rattle.lms_spec.specs.Digits.{digits_of}
 use Rattle.lms_spec.specs.Hashing.{chain_secret, chain_step}
 use Rattle.lms_spec.specs.Ots.{last_digit, ends_hash, message_hash}

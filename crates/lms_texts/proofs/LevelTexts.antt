@@ -1,11 +1,13 @@
 -- Texts of levels, cut at their commas and slashes.
-use Rattle.std.proofs.Common.{◌≡◌, ℕ, ◌<◌, ◌==◌, false, List, [], ◌∷◌, ◌++◌, length, map, Option, Some, None, Bor, codes, get_or, refl, sym, ap, ◌∙◌, arith, append_assoc, append-nil, lit<}
+use Rattle.std.proofs.Common.{◌≡◌, ℕ, ◌<◌, ◌==◌, false, List, [], ◌∷◌, ◌++◌, length, map, Option, Some, None, Bor}
+use Rattle.std.proofs.Common.{codes, get_or, refl, sym, ap, ◌∙◌, arith, append_assoc, append-nil, lit<}
 use Rattle.std.specs.Prelude.{◌≢◌, All, IfNone}
 use Rattle.std.specs.Fmt.{digits}
 use Rattle.std.specs.List.{join_with_byte, slice_split}
 use Rattle.std.proofs.lemmas.List.{length-map}
 use Rattle.std.proofs.lemmas.List.Elements.{All-append, All-cons, All-get_or, All-nil, All-weaker}
-use Rattle.std.proofs.lemmas.List.Splits.{join_with_byte-slice_split, length-slice_split, slice_split_at, slice_split_none}
+use Rattle.std.proofs.lemmas.List.Splits.{join_with_byte-slice_split, length-slice_split, slice_split_at}
+use Rattle.std.proofs.lemmas.List.Splits.{slice_split_none}
 use Rattle.std.proofs.lemmas.Str.Pattern.{split_after, IsSplitOnceResult}
 use Rattle.lms_params.specs.declared.lms_type.LmsType.{LmsType}
 use Rattle.lms_params.specs.declared.lms_type.LmsType.TheVariants.{H5, H10, H15, H20, H25}
@@ -15,7 +17,8 @@ use Rattle.lms_hss.specs.Texts.{height_text, levels_text, pair_text, width_text}
 use Rattle.lms_texts.specs.Options.{IsLevelsText}
 
 -- a text that is none of these is no height's
-pub no_height : (text : List ℕ) → text ≢ codes "5" → text ≢ codes "10" → text ≢ codes "15" → text ≢ codes "20" → text ≢ codes "25"
+pub no_height : (text : List ℕ) → text ≢ codes "5" → text ≢ codes "10" → text ≢ codes "15" → text ≢ codes "20"
+    → text ≢ codes "25"
     → (lms : LmsType) → text ≢ height_text lms
 unfolding digits
 no_height text a b c d e H5 = a
@@ -40,10 +43,14 @@ IsPlain b = ((b == 44) ≡ false) × (47 < b)
 height_plain : (lms : LmsType) → All IsPlain (height_text lms)
 unfolding digits
 height_plain H5 = All-cons IsPlain 53 [] (refl, lit< tt) (All-nil IsPlain)
-height_plain H10 = All-cons IsPlain 49 (48 ∷ []) (refl, lit< tt) (All-cons IsPlain 48 [] (refl, lit< tt) (All-nil IsPlain))
-height_plain H15 = All-cons IsPlain 49 (53 ∷ []) (refl, lit< tt) (All-cons IsPlain 53 [] (refl, lit< tt) (All-nil IsPlain))
-height_plain H20 = All-cons IsPlain 50 (48 ∷ []) (refl, lit< tt) (All-cons IsPlain 48 [] (refl, lit< tt) (All-nil IsPlain))
-height_plain H25 = All-cons IsPlain 50 (53 ∷ []) (refl, lit< tt) (All-cons IsPlain 53 [] (refl, lit< tt) (All-nil IsPlain))
+height_plain H10 =
+    All-cons IsPlain 49 (48 ∷ []) (refl, lit< tt) (All-cons IsPlain 48 [] (refl, lit< tt) (All-nil IsPlain))
+height_plain H15 =
+    All-cons IsPlain 49 (53 ∷ []) (refl, lit< tt) (All-cons IsPlain 53 [] (refl, lit< tt) (All-nil IsPlain))
+height_plain H20 =
+    All-cons IsPlain 50 (48 ∷ []) (refl, lit< tt) (All-cons IsPlain 48 [] (refl, lit< tt) (All-nil IsPlain))
+height_plain H25 =
+    All-cons IsPlain 50 (53 ∷ []) (refl, lit< tt) (All-cons IsPlain 53 [] (refl, lit< tt) (All-nil IsPlain))
 
 width_plain : (ots : OtsType) → All IsPlain (width_text ots)
 unfolding digits
@@ -78,16 +85,19 @@ joined (pair ∷ []) = sym (append-nil (pair_text pair))
 joined (pair ∷ other ∷ pairs) = ap (λ (t : List ℕ). pair_text pair ++ (44 ∷ t)) (joined (other ∷ pairs))
 
 -- the text of levels, cut at each comma, is the text of each
-pub split_of_levels : (pairs : List (LmsType × OtsType)) → 0 < length pairs → slice_split (λ b. b == 44) (levels_text pairs) ≡ map pair_text pairs
+pub split_of_levels : (pairs : List (LmsType × OtsType)) → 0 < length pairs
+    → slice_split (λ b. b == 44) (levels_text pairs) ≡ map pair_text pairs
 split_of_levels [] some = absurd (omega (arith, some))
 split_of_levels (pair ∷ []) some =
-    ap (slice_split (λ b. b == 44)) (append-nil (pair_text pair)) ∙ slice_split_none (λ b. b == 44) (pair_text pair) (pair_lacks_comma pair)
+    ap (slice_split (λ b. b == 44)) (append-nil (pair_text pair))
+    ∙ slice_split_none (λ b. b == 44) (pair_text pair) (pair_lacks_comma pair)
 split_of_levels (pair ∷ other ∷ pairs) some =
     slice_split_at (λ b. b == 44) (pair_text pair) 44 (levels_text (other ∷ pairs)) (pair_lacks_comma pair) refl
     ∙ ap (λ (t : List (List ℕ)). pair_text pair ∷ t) (split_of_levels (other ∷ pairs) (omega arith))
 
 -- pieces that are the texts of levels make a text of levels
-pub levels_of_pieces : (text : List ℕ) (pairs : List (LmsType × OtsType)) → map pair_text pairs ≡ slice_split (λ b. b == 44) text → IsLevelsText text pairs
+pub levels_of_pieces : (text : List ℕ) (pairs : List (LmsType × OtsType))
+    → map pair_text pairs ≡ slice_split (λ b. b == 44) text → IsLevelsText text pairs
 levels_of_pieces text pairs pieces =
     let size = sym (length-map pairs pair_text) ∙ ap length pieces ∙ length-slice_split (λ b. b == 44) text in (
       omega (arith, size),
@@ -105,8 +115,10 @@ all_texts (pair ∷ pairs) =
     All-cons IsPairText (pair_text pair) (map pair_text pairs) head (all_texts pairs)
 
 -- a text with a piece that is no level's is that of no levels
-pub no_levels : (text piece : List ℕ) (i : ℕ) → (i < length (slice_split (λ b. b == 44) text)) × (piece ≡ get_or (slice_split (λ b. b == 44) text) i piece)
-    → ((pair : LmsType × OtsType) → piece ≢ pair_text pair) → (pairs : List (LmsType × OtsType)) → ¬ IsLevelsText text pairs
+pub no_levels : (text piece : List ℕ) (i : ℕ) → (i < length (slice_split (λ b. b == 44) text))
+    × (piece ≡ get_or (slice_split (λ b. b == 44) text) i piece)
+    → ((pair : LmsType × OtsType) → piece ≢ pair_text pair) → (pairs : List (LmsType × OtsType))
+    → ¬ IsLevelsText text pairs
 no_levels text piece i at bad pairs is =
     let pieces = ap (slice_split (λ b. b == 44)) is.1 ∙ split_of_levels pairs is.0 in
     let size = ap length pieces in
@@ -121,10 +133,13 @@ if_none P (Some x) h = tt
 -- a text with no slash is that of no level
 pub no_slash : (text : List ℕ) → IsSplitOnceResult 47 text None → (pair : LmsType × OtsType) → text ≢ pair_text pair
 no_slash text none pair is =
-    split_after 47 text (height_text pair.0) (width_text pair.1) None none (lit< tt) (is ∙ pair_parts pair) (height_lacks_slash pair.0)
+    split_after 47 text (height_text pair.0) (width_text pair.1) None none (lit< tt) (is ∙ pair_parts pair)
+    (height_lacks_slash pair.0)
 
 -- a level's text is cut at its slash into its height and its width
 pub slash_parts : (text : List ℕ) (parts : Bor (List ℕ) × Bor (List ℕ)) → IsSplitOnceResult 47 text (Some parts)
-    → (pair : LmsType × OtsType) → text ≡ pair_text pair → (parts.0.now ≡ height_text pair.0) × (parts.1.now ≡ width_text pair.1)
+    → (pair : LmsType × OtsType) → text ≡ pair_text pair → (parts.0.now ≡ height_text pair.0)
+    × (parts.1.now ≡ width_text pair.1)
 slash_parts text parts cut pair is =
-    split_after 47 text (height_text pair.0) (width_text pair.1) (Some parts) cut (lit< tt) (is ∙ pair_parts pair) (height_lacks_slash pair.0)
+    split_after 47 text (height_text pair.0) (width_text pair.1) (Some parts) cut (lit< tt) (is ∙ pair_parts pair)
+    (height_lacks_slash pair.0)

@@ -1,5 +1,7 @@
 -- A seed's text, cut at its digits, and a block that is filled part by part.
-use Rattle.std.proofs.Common.{◌≡◌, ◌⊎◌, ◌*◌, ◌-◌, ◌+◌, ◌≤◌, ◌<◌, ℕ, List, [], ◌∷◌, ◌++◌, length, take, drop, Option, Some, None, Result, Ok, Err, inl, inr, ⊎_elim, sym, ap, ◌∙◌, subst, arith, append-nil, length-append, length-drop}
+use Rattle.std.proofs.Common.{◌≡◌, ◌-◌, ◌+◌, ◌≤◌, ◌<◌, ℕ, List, [], ◌++◌, length, take, drop, Option}
+use Rattle.std.proofs.Common.{Some, None, Result, Ok, Err, inl, inr, ⊎_elim, sym, ap, ◌∙◌, subst, arith, append-nil}
+use Rattle.std.proofs.Common.{length-append, length-drop}
 use Rattle.std.specs.Prelude.{IfNone, IfSome}
 use Rattle.std.specs.Result.{result_ok}
 use Rattle.std.proofs.lemmas.List.{length-take-le, take_at, drop_at, drop_all}
@@ -24,17 +26,20 @@ filled-whole a k block ys rest =
 pub filled-length : (a k : ℕ) (block ys : List ℕ) → a ≤ length block → k ≡ length block - a → length ys ≡ k
     → length (put_mid a k block ys) ≡ length block
 filled-length a k block ys within rest long =
-    ap length (filled-whole a k block ys rest) ∙ (length-append (take a block) ys ∙ omega (arith, length-take-le a block within))
+    ap length (filled-whole a k block ys rest)
+    ∙ (length-append (take a block) ys ∙ omega (arith, length-take-le a block within))
 
 pub filled-more : (a k n : ℕ) (block ys : List ℕ) → a ≤ length block → k ≡ length block - a
     → take (a + n) (put_mid a k block ys) ≡ take a block ++ take n ys
 filled-more a k n block ys within rest =
     ap (take (a + n)) (filled-whole a k block ys rest)
-    ∙ (ap (λ m. take (m + n) (take a block ++ ys)) (sym (length-take-le a block within)) ∙ take-append-add (take a block) ys n)
+    ∙ (ap (λ m. take (m + n) (take a block ++ ys)) (sym (length-take-le a block within))
+    ∙ take-append-add (take a block) ys n)
 
 -- ---- what is read
 
-kept : (old mid new : Option (List ℕ)) (bytes : List ℕ) → Consumes old mid bytes → Keeps mid new → Consumes old new bytes
+kept : (old mid new : Option (List ℕ)) (bytes : List ℕ) → Consumes old mid bytes → Keeps mid new
+    → Consumes old new bytes
 kept None mid new bytes first then = tt
 kept (Some xs) None new bytes first then = absurd first
 kept (Some xs) (Some ys) None bytes first then = absurd then
@@ -47,7 +52,8 @@ taken most n block old new within bound consumed =
     (take n block, omega (arith, length-take-le n block within, within, bound), consumed)
 
 -- and then a read failed
-pub taken_before : (most n : ℕ) (block : List ℕ) (old mid new : Option (List ℕ)) → n ≤ length block → length block ≤ most
+pub taken_before : (most n : ℕ) (block : List ℕ) (old mid new : Option (List ℕ)) → n ≤ length block
+    → length block ≤ most
     → Consumes old mid (take n block) → Keeps mid new → TakesAtMost most old new
 taken_before most n block old mid new within bound consumed same =
     taken most n block old new within bound (kept old mid new (take n block) consumed same)
@@ -67,7 +73,13 @@ ending-short ending (inr lf) = omega (arith, ap length lf)
 -- it is at most its digits and LF
 pub seed-short : (text seed : List ℕ) → IsSeedText text seed → length text ≤ 65
 seed-short text seed is =
-    omega (arith, ap length is.parts, length-append is.digits is.ending, is.digits_length, ending-short is.ending is.line_end)
+    omega (
+      arith,
+      ap length is.parts,
+      length-append is.digits is.ending,
+      is.digits_length,
+      ending-short is.ending is.line_end,
+    )
 
 -- the digits before a line's end were decoded, or not
 pub some-seed : (text digits ending : List ℕ) (decoded : Result (List ℕ) FromHexError) → text ≡ digits ++ ending
@@ -93,14 +105,23 @@ none-seed text digits (Err fault) front long is = λ seed is_text.
     cc both
 
 -- where what was read of an input is no seed's text, neither is the input
-pub no-seed : (old new : Option (List ℕ)) (block : List ℕ) (n : ℕ) → length block ≡ 66 → n ≤ length block → Consumes old new (take n block)
+pub no-seed : (old new : Option (List ℕ)) (block : List ℕ) (n : ℕ) → length block ≡ 66 → n ≤ length block
+    → Consumes old new (take n block)
     → (n < length block → IsAtEnd new) → ((seed : List ℕ) → ¬ IsSeedText (take n block) seed) → GivesNoSeed old
 no-seed None new block n size within consumed end none = tt
 no-seed (Some xs) None block n size within consumed end none = absurd consumed
 no-seed (Some xs) (Some ys) block n size within consumed end none = λ seed is.
     ⊎_elim
     (λ (lt : n < 66).
-    none seed (subst (λ text. IsSeedText text seed) (consumed ∙ (ap (λ ys. take n block ++ ys) (end (omega (arith, lt, size))) ∙ append-nil (take n block))) is))
+    none seed (subst (λ text. IsSeedText text seed)
+    (consumed ∙ (ap (λ ys. take n block ++ ys) (end (omega (arith, lt, size))) ∙ append-nil (take n block))) is))
     (λ (ge : 66 ≤ n).
-    absurd (omega (arith, seed-short xs seed is, ap length consumed, length-append (take n block) ys, length-take-le n block within, ge)))
+    absurd (omega (
+      arith,
+      seed-short xs seed is,
+      ap length consumed,
+      length-append (take n block) ys,
+      length-take-le n block within,
+      ge,
+    )))
     (cases_lt n 66)

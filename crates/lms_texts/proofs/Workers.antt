@@ -1,5 +1,6 @@
 -- The text of a number of workers.
-use Rattle.std.proofs.Common.{◌≡◌, ◌≢◌, ◌∙◌, ℕ, ◌<◌, ◌≤◌, ◌^◌, List, length, get_or, Option, None, Result, Ok, Err, refl, sym, ap, arith, decimal, lit<}
+use Rattle.std.proofs.Common.{◌≡◌, ◌≢◌, ◌∙◌, ℕ, ◌<◌, ◌≤◌, ◌^◌, List, length, get_or, Option, None, Result, Ok, Err}
+use Rattle.std.proofs.Common.{refl, sym, ap, arith, decimal, lit<}
 use Rattle.std.specs.Prelude.{slice_get}
 use Rattle.std.specs.Option.{unwrap_or}
 use Rattle.std.proofs.lemmas.Option.{unwrap_or-slice_get}
@@ -25,11 +26,13 @@ ok_is answer m n is also = ap ok_or (sym is ∙ also)
 
 module _ (text : List ℕ) where
   -- a text that begins with no sign and no zero is that of the number which was read
-  pub is_text_of : {E : Type 0} (answer : Result ℕ E) (n : ℕ) → ParsesUnsigned 64 10 text answer → 48 < get_or text 0 0 → answer ≡ Ok n → text ≡ decimal n
+  pub is_text_of : {E : Type 0} (answer : Result ℕ E) (n : ℕ) → ParsesUnsigned 64 10 text answer → 48 < get_or text 0 0
+      → answer ≡ Ok n → text ≡ decimal n
   is_text_of answer n parses first is =
       let no_sign : get_or text 0 0 ≢ 43 = λ sign. (let h : ⊥ = omega (arith, first, sign) in h) in
       let read = OkIff-at_ok answer _ _ n (parse_plain own 64 text answer parses no_sign) is in
-      let no_zero : get_or text 0 0 ≡ 48 → length text ≡ 1 = λ zero. (let h : ⊥ = omega (arith, first, zero) in absurd h) in
+      let no_zero : get_or text 0 0 ≡ 48 → length text ≡ 1 =
+      λ zero. (let h : ⊥ = omega (arith, first, zero) in absurd h) in
       sym (decimal-digits_value own text read.0.0 read.0.1 no_zero read.0.2) ∙ ap decimal (sym read.1)
 
   -- the text of a number of workers begins so, and is read
@@ -39,7 +42,8 @@ module _ (text : List ℕ) where
       let first = first_decimal n some fits in
       omega (arith, first, ap (λ (t : List ℕ). get_or t 0 0) is)
 
-  pub workers_are_read : {E : Type 0} (answer : Result ℕ E) → ParsesUnsigned 64 10 text answer → AreWorkers text → (n : ℕ) × (1 ≤ n) × (n ≤ 64) × (answer ≡ Ok n)
+  pub workers_are_read : {E : Type 0} (answer : Result ℕ E) → ParsesUnsigned 64 10 text answer → AreWorkers text
+      → (n : ℕ) × (1 ≤ n) × (n ≤ 64) × (answer ≡ Ok n)
   workers_are_read answer parses (n, (some, most, is)) =
       let fits : n < 2 ^ 64 = let big : 64 < 2 ^ 64 = lit< tt in omega (arith, most, big) in
       (n, some, most, parse-decimal 64 n text answer fits fits is parses)

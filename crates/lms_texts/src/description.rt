@@ -1,15 +1,14 @@
 //! What is printed of a key.
 ghost use Rattle.std.specs.Prelude.{◌≤◌, OnErr, OnOk, codes};
 ghost use Rattle.std.specs.Io.KnownBytes.{Appends};
-ghost use Rattle.lms_lines.specs.AnswerLines.{AppendsFront};
+ghost use Rattle.lms_blocks.specs.Writing.{AppendsFront};
 ghost use Rattle.lms_spec.specs.Hss.{capacity_of};
 ghost use Rattle.lms_hss.specs.Keys.{hss_key_of};
 ghost use Rattle.lms_texts.specs.Descriptions.{indices_text, info_text, number_line};
 
-use crate::line::print_line;
+use lms_blocks::{WriteFault, print_line};
 use lms_hss::{HssKey, LevelsText};
 use lms_image::Image;
-use lms_lines::WriteFault;
 use std::io::Write;
 
 /// Prints six lines: a key's levels, the indices used so far, those that there are, and those that

@@ -3,12 +3,10 @@
 
 mod description;
 mod fault;
-mod line;
 mod options;
 mod seed;
 
 pub use crate::description::{print_capacity, print_index, print_info};
 pub use crate::fault::{LevelsTextFault, SeedFault};
-pub use crate::line::print_line;
 pub use crate::options::{read_bytes, read_levels, workers_from};
 pub use crate::seed::read_seed;

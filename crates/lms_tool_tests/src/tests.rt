@@ -18,7 +18,7 @@ use lms_hss::Unwatched;
 use lms_slow::vectors::ONE_5_8;
 use lms_world::{MemoryWorld, Printer, World, WorldFault};
 use std::alloc::Global;
-use std::io::Write;
+use std::io::{Read, Write};
 use std::sync::Wait;
 use std::test::Fail;
 use std::thread::Threads;
@@ -67,16 +67,15 @@ fn text_of(bytes: &[u8]) -> &str {
     str::from_utf8(bytes).unwrap_or("no text")
 }
 
-/// Runs the program with no input. What `run` promises of the status and of what it is lent is left
-/// to its proof.
-fn status_of<W: World, O: Write, E: Write>(
+/// Runs the program. What `run` promises of the status and of what it is lent is left to its proof.
+fn status_of<W: World, I: Read, O: Write, E: Write>(
     rt: &(impl Threads + Wait + AllocGlobal + Sync),
     arguments: &[&str],
     world: &mut W,
+    input: &mut I,
     output: &mut O,
     errors: &mut E,
 ) -> u8 {
-    let mut input: &[u8] = &[];
     run(
         &Resources {
             rt,
@@ -85,21 +84,34 @@ fn status_of<W: World, O: Write, E: Write>(
         },
         arguments,
         world,
-        &mut input,
+        input,
         &mut Printer::new(output),
         errors,
     )
     .code()
 }
 
+/// What a run with no input leaves.
 fn end_of<W: World>(
     rt: &(impl Threads + Wait + AllocGlobal + Sync),
     arguments: &[&str],
     world: &mut W,
 ) -> ProgramEnd {
-    let mut output = Vec::new(rt.alloc());
+    let mut input: &[u8] = &[];
+    end_with(rt, arguments, world, &mut input, Vec::new(rt.alloc()))
+}
+
+/// What a run with this input leaves, whose output goes into this list.
+fn end_with<W: World, I: Read>(
+    rt: &(impl Threads + Wait + AllocGlobal + Sync),
+    arguments: &[&str],
+    world: &mut W,
+    input: &mut I,
+    output: Vec<u8>,
+) -> ProgramEnd {
+    let mut output = output;
     let mut errors = Vec::new(rt.alloc());
-    let status = status_of(rt, arguments, world, &mut output, &mut errors);
+    let status = status_of(rt, arguments, world, input, &mut output, &mut errors);
     ProgramEnd {
         status,
         output,
@@ -244,7 +256,8 @@ fn is_unprinted<O: Write>(
     output: &mut O,
 ) -> bool {
     let mut errors = Vec::new(rt.alloc());
-    let status = status_of(rt, arguments, world, output, &mut errors);
+    let mut input: &[u8] = &[];
+    let status = status_of(rt, arguments, world, &mut input, output, &mut errors);
     status == 6 && errors.as_slice() == b"error: cannot write output\n".as_slice()
 }
 

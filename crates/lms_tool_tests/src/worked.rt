@@ -1,8 +1,14 @@
 //! A worked case of a premise, as a contract.
-ghost use Rattle.lms_tool_tests.specs.Worked.{WorkedRuns};
+ghost use Rattle.lms_tool_tests.specs.Worked.{WorkedRuns, WorkedTurns};
 
 /// Runs one after another can carry along what is stored, with a failed write between them: so the
 /// premise on which no index leaves twice is not one that nothing meets.
 pub fn runs_carry_their_state_along()
     ensures { WorkedRuns }
+{}
+
+/// Such runs take their turns at the state: by what they read and store, the first and the third
+/// may sign.
+pub fn runs_take_their_turns()
+    ensures { WorkedTurns }
 {}

@@ -1,5 +1,6 @@
 -- The nodes that a source has to know are nodes of its tree.
-use Rattle.std.proofs.Common.{ℕ, suc, ◌≡◌, ◌+◌, ◌*◌, ◌/◌, ◌%◌, ◌^◌, ◌<◌, ◌≤◌, ◌==◌, inl, inr, arith, ⊎_elim, div-le_self, eqb-true, pow-suc, pow_pos, pow_mono}
+use Rattle.std.proofs.Common.{ℕ, suc, ◌≡◌, ◌+◌, ◌*◌, ◌/◌, ◌%◌, ◌^◌, ◌<◌, ◌≤◌, ◌==◌, inl, inr, arith, ⊎_elim}
+use Rattle.std.proofs.Common.{div-le_self, eqb-true, pow-suc, pow_pos, pow_mono}
 use Rattle.std.proofs.lemmas.Bool.{cases_Bool}
 use Rattle.std.proofs.lemmas.Nat.{le-div}
 use Rattle.lms_spec.specs.Tree.{sibling}

@@ -1,6 +1,7 @@
 -- The bottom subtrees that hold a range of leaves have all nodes below their roots that signatures
 -- by these leaves need.
-use Rattle.std.proofs.Common.{ℕ, ◌≡◌, ◌≢◌, ◌+◌, ◌-◌, ◌*◌, ◌/◌, ◌%◌, ◌^◌, ◌<◌, ◌≤◌, ◌==◌, inl, inr, sym, ◌∙◌, ap, arith, subst, ⊎_elim, eqb-true, pow_pos, pow_mono, pow-suc, add-one, shr-shr}
+use Rattle.std.proofs.Common.{ℕ, ◌≡◌, ◌≢◌, ◌+◌, ◌-◌, ◌*◌, ◌/◌, ◌%◌, ◌^◌, ◌<◌, ◌≤◌, ◌==◌, inl, inr, sym, ◌∙◌, ap, arith}
+use Rattle.std.proofs.Common.{subst, ⊎_elim, eqb-true, pow_pos, pow_mono, pow-suc, add-one, shr-shr}
 use Rattle.std.proofs.lemmas.Bool.{cases_Bool, eqb-false}
 use Rattle.std.proofs.lemmas.Nat.{pow-add}
 use Rattle.std.proofs.Math.Nat.{lt_of_not-le, le-div_iff_mul-le, div-lt_iff_lt-mul, div-eq_of_lt, mul-add-div_right}
@@ -31,7 +32,8 @@ row-at-most level h r from to =
     omega arith
 
 -- the nodes above a node of a leaf's path, in a tree whose bottom subtrees have height m
-shr-in-path : (t m leaf k j r : ℕ) → k + j ≡ m → 1 ≤ j → r ≡ sibling ((2 ^ (t + m) + leaf) / 2 ^ k) → r / 2 ^ j ≡ 2 ^ t + leaf / 2 ^ m
+shr-in-path : (t m leaf k j r : ℕ) → k + j ≡ m → 1 ≤ j → r ≡ sibling ((2 ^ (t + m) + leaf) / 2 ^ k)
+    → r / 2 ^ j ≡ 2 ^ t + leaf / 2 ^ m
 shr-in-path t m leaf k j r whole some is =
     let parts : 2 ^ (t + m) ≡ 2 ^ t * 2 ^ m = pow-add 2 t m in
     ap (λ r. r / 2 ^ j) is
@@ -47,7 +49,8 @@ row-in-path t m leaf k r level in_tree low is from to =
     let h = t + m in
     let up = h - k in
     let whole : h ≡ 0 + h = omega arith in
-    let above : r / 2 ^ up ≡ 1 + leaf / 2 ^ h = shr-in-path 0 h leaf k up r (omega arith) (omega arith) (subst (λ n. r ≡ sibling ((2 ^ n + leaf) / 2 ^ k)) whole is) in
+    let above : r / 2 ^ up ≡ 1 + leaf / 2 ^ h = shr-in-path 0 h leaf k up r (omega arith) (omega arith)
+    (subst (λ n. r ≡ sibling ((2 ^ n + leaf) / 2 ^ k)) whole is) in
     let none : leaf / 2 ^ h ≡ 0 = div-eq_of_lt in_tree in
     let at_least : 1 * 2 ^ up ≤ r = (le-div_iff_mul-le (pow_pos up)).0 (omega arith) in
     let below : r < 2 * 2 ^ up = (div-lt_iff_lt-mul (pow_pos up)).0 (omega arith) in
@@ -58,7 +61,8 @@ is-root r is more = omega arith
 
 -- a needed node is in the bottom subtrees of the leaves served, where it is below
 -- their roots
-below-roots : (t m first last r level : ℕ) → last < 2 ^ (t + m) → IsNeeded (t + m) first last r → 2 ^ level ≤ r → r < 2 * 2 ^ level → t < level
+below-roots : (t m first last r level : ℕ) → last < 2 ^ (t + m) → IsNeeded (t + m) first last r → 2 ^ level ≤ r
+    → r < 2 * 2 ^ level → t < level
     → (level - t ≤ m) × ((2 ^ t + first / 2 ^ m) * 2 ^ (level - t) ≤ r)
     × (r < (2 ^ t + first / 2 ^ m + (last / 2 ^ m - first / 2 ^ m + 1)) * 2 ^ (level - t))
 below-roots t m first last r level in_tree (inl is) from to below =
@@ -67,7 +71,8 @@ below-roots t m first last r level in_tree (inl is) from to below =
 below-roots t m first last r level in_tree (inr p) from to below =
     let j = level - t in
     let sum = row-in-path t m p.leaf p.level r level (omega (arith, p.to_last)) p.below_root p.is_sibling from to in
-    let above : r / 2 ^ j ≡ 2 ^ t + p.leaf / 2 ^ m = shr-in-path t m p.leaf p.level j r (omega arith) (omega arith) p.is_sibling in
+    let above : r / 2 ^ j ≡ 2 ^ t + p.leaf / 2 ^ m =
+    shr-in-path t m p.leaf p.level j r (omega arith) (omega arith) p.is_sibling in
     let lower : first / 2 ^ m ≤ p.leaf / 2 ^ m = shr_mono m p.from_first in
     let upper : p.leaf / 2 ^ m ≤ last / 2 ^ m = shr_mono m p.to_last in
     (omega arith, (le-div_iff_mul-le (pow_pos j)).0 (omega arith), (div-lt_iff_lt-mul (pow_pos j)).0 (omega arith))
@@ -75,7 +80,8 @@ below-roots t m first last r level in_tree (inr p) from to below =
 kept-part : (h : ℕ) → h - bottom_height h + bottom_height h ≡ h
 kept-part h = omega arith
 
-pub needed-in-lower : (h first last r level : ℕ) → last < 2 ^ h → IsNeeded h first last r → 2 ^ level ≤ r → r < 2 * 2 ^ level → h - bottom_height h < level
+pub needed-in-lower : (h first last r level : ℕ) → last < 2 ^ h → IsNeeded h first last r → 2 ^ level ≤ r
+    → r < 2 * 2 ^ level → h - bottom_height h < level
     → (level - (h - bottom_height h) ≤ bottom_height h)
     × ((lower_rows h first last).first * 2 ^ (level - (h - bottom_height h)) ≤ r)
     × (r < ((lower_rows h first last).first + (lower_rows h first last).width) * 2 ^ (level - (h - bottom_height h)))
@@ -83,4 +89,5 @@ needed-in-lower h first last r level in_tree needed from to below =
     let t = h - bottom_height h in
     let m = bottom_height h in
     let whole : h ≡ t + m = sym (kept-part h) in
-    below-roots t m first last r level (subst (λ h. last < 2 ^ h) whole in_tree) (subst (λ h. IsNeeded h first last r) whole needed) from to below
+    below-roots t m first last r level (subst (λ h. last < 2 ^ h) whole in_tree)
+    (subst (λ h. IsNeeded h first last r) whole needed) from to below

@@ -1,12 +1,12 @@
 -- Which rows of a tree are held, where a range of its leaves is served.
-use Rattle.std.specs.Prelude.{ℕ, ◌≡◌, ◌+◌, ◌-◌, ◌*◌, ◌/◌, ◌^◌, ◌<◌, ◌≤◌, min}
+use Rattle.std.specs.Prelude.{ℕ, ◌≡◌, ◌+◌, ◌-◌, ◌*◌, ◌/◌, ◌^◌, ◌<◌, ◌≤◌, List, length, min}
 use Rattle.lms_tree.specs.declared.tree_key.TreeKey.{TreeKey}
 use Rattle.lms_tree.specs.declared.band.Rows.{Rows}
 use Rattle.lms_tree.specs.TreeKey.{tree_of}
-use Rattle.lms_tree.specs.Held.{RowsOf}
+use Rattle.lms_tree.specs.Held.{RowsOf, nodes_in}
 
--- what contracts see of a `BandTree`: a key, and the first and the last of the leaves that are
--- served
+-- what contracts see of a `BandTree` and of a `PlannedTree`: a key, and the first and the last of the
+-- leaves that are served
 pub record ServedLeaves : Type 0 where
   pub key : TreeKey
   pub first : ℕ
@@ -59,6 +59,13 @@ pub record CanServe (key : TreeKey) (first last : ℕ) : Type 0 where
   pub order : first ≤ last
   pub in_tree : last < 2 ^ (tree_of key).lms.h
   pub at_most : last - first < most_served
+
+-- a `BandTree` can serve them, and has as many places for nodes as that takes
+pub record HasRoom (key : TreeKey) (first last : ℕ) (upper lower : List (List ℕ)) : Type 0 where
+  pub can : CanServe key first last
+  pub upper_count : length upper
+      ≡ nodes_in (root_rows ((tree_of key).lms.h - bottom_height (tree_of key).lms.h))
+  pub lower_count : length lower ≡ nodes_in (lower_rows (tree_of key).lms.h first last)
 
 -- what serves the leaves from `first` to `last`
 pub record HoldsBands (first last : ℕ) (upper lower : RowsOf) : Type 0 where

@@ -8,6 +8,7 @@ ghost use Rattle.lms_tree.specs.Kept.{AreNodes, HasShape, ServesLeaf, upper_rows
 use crate::band::{Band, Rows};
 use crate::kept_tree::KeptTree;
 use crate::node_source::NodeSource;
+use crate::planned_tree::PlannedTree;
 use crate::progress::{Begun, Progress, Unwatched};
 use crate::tree_key::TreeKey;
 use lms_params::{HASH_LEN, LmsType, OutOfMemory};
@@ -23,10 +24,10 @@ const TALLEST_SUBTREE: u32 = 10;
 /// bottom subtrees that have the leaves served. Contracts see the key and the range.
 #[derive(Drop)]
 pub struct BandTree {
-    first: u32,
-    last: u32,
-    upper: Band,
-    lower: Band,
+    pub(crate) first: u32,
+    pub(crate) last: u32,
+    pub(crate) upper: Band,
+    pub(crate) lower: Band,
 }
 
 impl Model for BandTree {
@@ -40,11 +41,9 @@ impl Model for BandTree {
 }
 
 impl BandTree {
-    /// Computes what serves the leaves from `first` to `last`, at most 1024 leaves of the tree:
-    /// first the bottom subtrees that have them, then the roots of the others and the nodes above.
-    /// Leaves and roots are computed by as many threads as there are processors, at most 32.
-    /// `OutOfMemory` where one of the two requests for memory is refused, before anything is
-    /// computed.
+    /// Computes what serves the leaves from `first` to `last`, at most 1024 leaves of the tree, by as
+    /// many threads as there are processors, at most 32. `OutOfMemory` where one of the two requests
+    /// for memory is refused, before anything is computed.
     pub fn build(
         rt: &(impl Threads + Sync),
         alloc: Global,
@@ -71,18 +70,8 @@ impl BandTree {
         requires { CanServe key first last }
         ensures { IfOk result (λ tree. tree ≡ record { key = key; first = first; last = last }) }
     {
-        let lower_rows = lower_rows(key.lms, first, last);
-        let upper_rows = upper_rows(key.lms);
-        let lower_memory = lower_rows.allocate(alloc)?;
-        let upper_memory = upper_rows.allocate(alloc)?;
-        let lower = Band::build(rt, key, lower_rows, lower_memory, None, begun);
-        let upper = Band::build(rt, key, upper_rows, upper_memory, Some(&lower), begun);
-        Ok(BandTree {
-            first,
-            last,
-            upper,
-            lower,
-        })
+        let planned = PlannedTree::new(alloc, key, first, last)?;
+        Ok(planned.build(rt, begun))
     }
 
     /// The number of nodes that are held: those from the root down to the roots of all bottom
@@ -168,7 +157,7 @@ pub(crate) fn upper_rows(lms: LmsType) -> Rows
 }
 
 /// The rows of the bottom subtrees that have a range of leaves.
-fn lower_rows(lms: LmsType, first: u32, last: u32) -> Rows
+pub(crate) fn lower_rows(lms: LmsType, first: u32, last: u32) -> Rows
     requires order { first ≤ last }
     requires in_tree { last < 2 ^ (lms_set_of lms).h }
     ensures { result ≡ lower_rows_of (lms_set_of lms).h first last }

@@ -26,7 +26,8 @@ pub parts-of-accepted : (m : LmsSet) (t : OtsSet) (id root public_key message si
     → IsLmsPublicKey m t id root public_key → (a : LmsAccepts public_key message signature)
     → IsLmsSignature m t a.q a.ots_part a.path signature × LeadsTo t id a.q a.ots_part message a.candidate
 parts-of-accepted m t id root public_key message signature key a =
-    let same = key-parts-same a.lms m a.ots t a.id id a.root root a.lms_known key.lms_known a.ots_known key.ots_known a.id_length key.id_length
+    let same = key-parts-same a.lms m a.ots t a.id id a.root root a.lms_known key.lms_known a.ots_known key.ots_known
+    a.id_length key.id_length
     (sym a.key_parts ∙ key.parts) in
     let lms : a.lms ≡ m = same.0 in
     let ots : a.ots ≡ t = same.1 in
@@ -43,31 +44,39 @@ parts-of-accepted m t id root public_key message signature key a =
     )
 
 -- the parts of an accepted signature lead to a candidate
-pub candidate-of-accepted : (m : LmsSet) (t : OtsSet) (id root public_key : List ℕ) (q : ℕ) (ots_part : List ℕ) (path : List (List ℕ)) (message signature : List ℕ)
-    → IsLmsPublicKey m t id root public_key → IsLmsSignature m t q ots_part path signature → LmsAccepts public_key message signature
+pub candidate-of-accepted : (m : LmsSet) (t : OtsSet) (id root public_key : List ℕ) (q : ℕ) (ots_part : List ℕ)
+    (path : List (List ℕ)) (message signature : List ℕ)
+    → IsLmsPublicKey m t id root public_key → IsLmsSignature m t q ots_part path signature
+    → LmsAccepts public_key message signature
     → (k : List ℕ) × LeadsTo t id q ots_part message k
 candidate-of-accepted m t id root public_key q ots_part path message signature key is a =
     let found = parts-of-accepted m t id root public_key message signature key a in
     let of_a = found.0 in
     let same = signature-parts-same a.q q m.code m.code (ots_signature_length t) a.ots_part ots_part a.path path
-    (small-leaf m a.q key.lms_known of_a.q_in_tree) (small-leaf m q key.lms_known is.q_in_tree) of_a.ots_length is.ots_length
+    (small-leaf m a.q key.lms_known of_a.q_in_tree) (small-leaf m q key.lms_known is.q_in_tree)
+    of_a.ots_length is.ots_length
     (of_a.path_count ∙ sym is.path_count) of_a.path_lengths is.path_lengths (sym of_a.parts ∙ is.parts) in
     let leaf : a.q ≡ q = same.0 in
     let part : a.ots_part ≡ ots_part = same.1 in
     (a.candidate, rw (leaf, part) at found.1)
 
 -- the parts of an accepted signature climb to the root
-pub climb-of-accepted : (m : LmsSet) (t : OtsSet) (id root public_key : List ℕ) (q : ℕ) (ots_part : List ℕ) (path : List (List ℕ)) (message signature candidate : List ℕ)
-    → IsLmsPublicKey m t id root public_key → IsLmsSignature m t q ots_part path signature → LeadsTo t id q ots_part message candidate
+pub climb-of-accepted : (m : LmsSet) (t : OtsSet) (id root public_key : List ℕ) (q : ℕ) (ots_part : List ℕ)
+    (path : List (List ℕ)) (message signature candidate : List ℕ)
+    → IsLmsPublicKey m t id root public_key → IsLmsSignature m t q ots_part path signature
+    → LeadsTo t id q ots_part message candidate
     → LmsAccepts public_key message signature
     → climb id (2 ^ m.h + q) (leaf_hash id (2 ^ m.h + q) candidate) path ≡ root
 climb-of-accepted m t id root public_key q ots_part path message signature candidate key is leads a =
     let there = rw (key.parts, is.parts) at a in
-    accepted-by-parts m t id root q ots_part path message candidate key.lms_known key.ots_known key.id_length is.q_in_tree is.path_count is.path_lengths leads there
+    accepted-by-parts m t id root q ots_part path message candidate key.lms_known key.ots_known key.id_length
+    is.q_in_tree is.path_count is.path_lengths leads there
 
 -- parts that climb to the root are accepted
-pub accepts-parts : (m : LmsSet) (t : OtsSet) (id root public_key : List ℕ) (q : ℕ) (ots_part : List ℕ) (path : List (List ℕ)) (message signature candidate : List ℕ)
-    → IsLmsPublicKey m t id root public_key → IsLmsSignature m t q ots_part path signature → LeadsTo t id q ots_part message candidate
+pub accepts-parts : (m : LmsSet) (t : OtsSet) (id root public_key : List ℕ) (q : ℕ) (ots_part : List ℕ)
+    (path : List (List ℕ)) (message signature candidate : List ℕ)
+    → IsLmsPublicKey m t id root public_key → IsLmsSignature m t q ots_part path signature
+    → LeadsTo t id q ots_part message candidate
     → climb id (2 ^ m.h + q) (leaf_hash id (2 ^ m.h + q) candidate) path ≡ root
     → LmsAccepts public_key message signature
 accepts-parts m t id root public_key q ots_part path message signature candidate key is leads climbs = record {
@@ -93,12 +102,17 @@ accepts-parts m t id root public_key q ots_part path message signature candidate
 }
 
 -- a test of whether a leaf's climb ends at the root says whether the signature is accepted
-pub accepts-when-root : (m : LmsSet) (t : OtsSet) (id root public_key : List ℕ) (q : ℕ) (ots_part : List ℕ) (path : List (List ℕ)) (message signature candidate : List ℕ) (leaf : ℕ) (result : Bool)
+pub accepts-when-root : (m : LmsSet) (t : OtsSet) (id root public_key : List ℕ) (q : ℕ) (ots_part : List ℕ)
+    (path : List (List ℕ)) (message signature candidate : List ℕ) (leaf : ℕ) (result : Bool)
     → IsLmsPublicKey m t id root public_key → IsLmsSignature m t q ots_part path signature → leaf ≡ 2 ^ m.h + q
-    → LeadsTo t id q ots_part message candidate → (IsTrue result ↔ climb id leaf (leaf_hash id leaf candidate) path ≡ root)
+    → LeadsTo t id q ots_part message candidate
+    → (IsTrue result ↔ climb id leaf (leaf_hash id leaf candidate) path ≡ root)
     → (IsTrue result ↔ LmsAccepts public_key message signature)
-accepts-when-root m t id root public_key q ots_part path message signature candidate leaf result key is leaf_is leads test =
+accepts-when-root m t id root public_key q ots_part path message signature candidate leaf result key is
+    leaf_is leads test =
     let ends : ℕ → Type 0 = λ r. climb id r (leaf_hash id r candidate) path ≡ root in (
-      λ e. accepts-parts m t id root public_key q ots_part path message signature candidate key is leads (subst ends leaf_is (test.0 e)),
-      λ a. test.1 (subst ends (sym leaf_is) (climb-of-accepted m t id root public_key q ots_part path message signature candidate key is leads a)),
+      λ e. accepts-parts m t id root public_key q ots_part path message signature candidate key is leads
+          (subst ends leaf_is (test.0 e)),
+      λ a. test.1 (subst ends (sym leaf_is)
+          (climb-of-accepted m t id root public_key q ots_part path message signature candidate key is leads a)),
     )

@@ -1,5 +1,6 @@
 -- The parts of an LMS public key and of an LMS signature, as they are cut from their bytes.
-use Rattle.std.proofs.Common.{ℕ, ◌≡◌, ◌+◌, ◌*◌, ◌/◌, ◌^◌, ◌<◌, List, ◌++◌, length, All, Some, take, drop, sym, ◌∙◌, ap, ap₂, arith, subst, append_assoc, length-append, length-drop, take-append-drop}
+use Rattle.std.proofs.Common.{ℕ, ◌≡◌, ◌+◌, ◌*◌, ◌/◌, ◌^◌, ◌<◌, List, ◌++◌, length, All, Some, take, drop, sym, ◌∙◌, ap}
+use Rattle.std.proofs.Common.{ap₂, arith, subst, append_assoc, length-append, length-drop, take-append-drop}
 use Rattle.std.specs.List.{concat}
 use Rattle.std.specs.Simd.{first_chunks}
 use Rattle.std.proofs.lemmas.List.{length-take-le}
@@ -13,7 +14,8 @@ use Rattle.lms_spec.proofs.Sets.{small-ots_code, small-lms_code}
 use Rattle.lms_spec.proofs.FirstNumber.{first-number-same, rest-same}
 
 -- how long a public key is
-pub length-lms_key : (m : LmsSet) (t : OtsSet) (id root public_key : List ℕ) → IsLmsPublicKey m t id root public_key → length public_key ≡ 56
+pub length-lms_key : (m : LmsSet) (t : OtsSet) (id root public_key : List ℕ) → IsLmsPublicKey m t id root public_key
+    → length public_key ≡ 56
 unfolding lms_public_key
 length-lms_key m t id root public_key is =
     let first = is.id_length in

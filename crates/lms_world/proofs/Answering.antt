@@ -14,21 +14,27 @@ use Rattle.lms_world.specs.declared.memory.MemoryWorld.{MemoryWorld}
 use Rattle.lms_world.specs.Held.{Acts, Answers, MayRefuseNodes, answer_in, with_file, with_nodes_kept}
 use Rattle.lms_world.specs.declared.fault.WorldFault.{WorldFault}
 
-answer_of_first : (is : Bool) (entry : Entry) (rest : Option Entry) → entry_answer (cond is (Some entry) rest) ≡ cond is (read_of entry.1) (entry_answer rest)
+answer_of_first : (is : Bool) (entry : Entry) (rest : Option Entry)
+    → entry_answer (cond is (Some entry) rest) ≡ cond is (read_of entry.1) (entry_answer rest)
 answer_of_first true entry rest = refl
 answer_of_first false entry rest = refl
 
 -- the first entry of the name counts
 pub answer_found : (entries : List Entry) (name : Bytes)
-    → entry_answer (find (λ entry. bytes_eq (string_bytes entry.0) name) entries) ≡ answer_in (map answer_at entries) name
+    → entry_answer (find (λ entry. bytes_eq (string_bytes entry.0) name) entries)
+    ≡ answer_in (map answer_at entries) name
 answer_found [] name = refl
 answer_found (entry ∷ older) name =
-    answer_of_first (bytes_eq (string_bytes entry.0) name) entry (find (λ other. bytes_eq (string_bytes other.0) name) older)
-    ∙ ap (λ (answer : Result (List ℕ) WorldFault). cond (bytes_eq (string_bytes entry.0) name) (read_of entry.1) answer) (answer_found older name)
+    answer_of_first (bytes_eq (string_bytes entry.0) name) entry
+    (find (λ other. bytes_eq (string_bytes other.0) name) older)
+    ∙ ap (λ (answer : Result (List ℕ) WorldFault). cond (bytes_eq (string_bytes entry.0) name) (read_of entry.1) answer)
+    (answer_found older name)
 
 -- the newest entry counts
-pub answer_first : (name : Bytes) (answer : Result (List ℕ) WorldFault) (files : Answers) → answer_in ((name, answer) ∷ files) name ≡ answer
-answer_first name answer files = ap (λ (is : Bool). cond is answer (answer_in files name)) ((bytes_eq-Decides name name).1 refl)
+pub answer_first : (name : Bytes) (answer : Result (List ℕ) WorldFault) (files : Answers)
+    → answer_in ((name, answer) ∷ files) name ≡ answer
+answer_first name answer files =
+    ap (λ (is : Bool). cond is answer (answer_in files name)) ((bytes_eq-Decides name name).1 refl)
 
 is_other : (is : Bool) (written name : Bytes) → (is ≡ true → written ≡ name) → name ≢ written → is ≡ false
 is_other true written name decides other = absurd (other (sym (decides refl)))
@@ -38,22 +44,30 @@ is_other false written name decides other = refl
 pub answer_other : (written name : Bytes) (answer : Result (List ℕ) WorldFault) (files : Answers) → name ≢ written
     → answer_in ((written, answer) ∷ files) name ≡ answer_in files name
 answer_other written name answer files other =
-    ap (λ (is : Bool). cond is answer (answer_in files name)) (is_other (bytes_eq written name) written name (bytes_eq-Decides written name).0 other)
+    ap (λ (is : Bool). cond is answer (answer_in files name))
+    (is_other (bytes_eq written name) written name (bytes_eq-Decides written name).0 other)
 
 -- a read of a world in memory
-pub reads_as : (world : MemoryWorld) (name : Bytes) (result : Result (Vec ℕ) WorldFault) → IfOk result (λ bytes. answer_of world name ≡ Ok bytes.items)
-    → IfErr result (λ fault. (answer_of world name ≡ Err fault) ⊎ (fault ≡ OutOfMemory)) → Acts (Read name (read_of result)) (held_in world) (held_in world)
+pub reads_as : (world : MemoryWorld) (name : Bytes) (result : Result (Vec ℕ) WorldFault)
+    → IfOk result (λ bytes. answer_of world name ≡ Ok bytes.items)
+    → IfErr result (λ fault. (answer_of world name ≡ Err fault) ⊎ (fault ≡ OutOfMemory))
+    → Acts (Read name (read_of result)) (held_in world) (held_in world)
 reads_as world name (Ok bytes) gives refused = (refl, sym (answer_found world.entries.items name) ∙ gives)
-reads_as world name (Err fault) gives refused = (refl, ⊎_elim (λ is. inl (sym (answer_found world.entries.items name) ∙ is)) inr refused)
+reads_as world name (Err fault) gives refused =
+    (refl, ⊎_elim (λ is. inl (sym (answer_found world.entries.items name) ∙ is)) inr refused)
 
 -- a write to a world in memory
-pub writes_as : (old new : MemoryWorld) (name bytes : Bytes) (answer : Writing) → held_in new ≡ (if is_ok answer then with_file name bytes (held_in old) else held_in old)
-    → IfErr answer (λ fault. (answer_of old name ≡ Err fault) ⊎ (fault ≡ OutOfMemory)) → Acts (Written name bytes answer) (held_in old) (held_in new)
+pub writes_as : (old new : MemoryWorld) (name bytes : Bytes) (answer : Writing)
+    → held_in new ≡ (if is_ok answer then with_file name bytes (held_in old) else held_in old)
+    → IfErr answer (λ fault. (answer_of old name ≡ Err fault) ⊎ (fault ≡ OutOfMemory))
+    → Acts (Written name bytes answer) (held_in old) (held_in new)
 writes_as old new name bytes (Ok done) held refused = held
-writes_as old new name bytes (Err fault) held refused = (held, ⊎_elim (λ is. inl (sym (answer_found old.entries.items name) ∙ is)) inr refused)
+writes_as old new name bytes (Err fault) held refused =
+    (held, ⊎_elim (λ is. inl (sym (answer_found old.entries.items name) ∙ is)) inr refused)
 
 -- a write of nodes
-pub keeps_as : (old new : MemoryWorld) (text : List ℕ) (answer : Writing) → held_in new ≡ (if is_ok answer then with_nodes_kept text (held_in old) else held_in old)
+pub keeps_as : (old new : MemoryWorld) (text : List ℕ) (answer : Writing)
+    → held_in new ≡ (if is_ok answer then with_nodes_kept text (held_in old) else held_in old)
     → IfErr answer (MayRefuseNodes (held_in old)) → Acts (NodesWritten text answer) (held_in old) (held_in new)
 keeps_as old new text (Ok done) held refused = held
 keeps_as old new text (Err fault) held refused = (held, refused)

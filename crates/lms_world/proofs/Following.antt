@@ -12,7 +12,8 @@ none_added (Some held) log = ([], refl, refl)
 pub nothing_done : (at : Memory) (log : List Event) → Follows at log at log
 nothing_done at log = record { calls = none_added at log }
 
-one_added : (old mid new : Memory) (log then now : List Event) (event : Event) → AreAdded old log mid then → now ≡ event ∷ then
+one_added : (old mid new : Memory) (log then now : List Event) (event : Event)
+    → AreAdded old log mid then → now ≡ event ∷ then
     → Does event mid new → AreAdded old log new now
 one_added None None None log then now event follows logged acts = tt
 one_added None None (Some new) log then now event follows logged never = absurd never
@@ -26,19 +27,24 @@ one_added (Some old) (Some mid) (Some new) log then now event follows logged act
 )
 
 -- one call more
-pub one_more : {old mid new : Memory} {log then now : List Event} {event : Event} → Follows old log mid then → now ≡ event ∷ then
+pub one_more : {old mid new : Memory} {log then now : List Event} {event : Event}
+    → Follows old log mid then → now ≡ event ∷ then
     → Does event mid new → Follows old log new now
 one_more follows logged acts = record { calls = one_added _ _ _ _ _ _ _ follows.calls logged acts }
 
 -- one call
-pub one_call : {old new : Memory} {log now : List Event} {event : Event} → now ≡ event ∷ log → Does event old new → Follows old log new now
+pub one_call : {old new : Memory} {log now : List Event} {event : Event} → now ≡ event ∷ log → Does event old new
+    → Follows old log new now
 one_call logged acts = one_more (nothing_done _ _) logged acts
 
-replays_both : (old mid new : Held) (earlier later : List Event) → Replays old earlier mid → Replays mid later new → Replays old (later ++ earlier) new
+replays_both : (old mid new : Held) (earlier later : List Event) → Replays old earlier mid → Replays mid later new
+    → Replays old (later ++ earlier) new
 replays_both old mid new earlier [] first then = subst (λ (held : Held). Replays old earlier held) (sym then) first
-replays_both old mid new earlier (event ∷ later) first then = (then.0, replays_both old mid then.0 earlier later first then.1, then.2)
+replays_both old mid new earlier (event ∷ later) first then =
+    (then.0, replays_both old mid then.0 earlier later first then.1, then.2)
 
-both_added : (old mid new : Memory) (log then now : List Event) → AreAdded old log mid then → AreAdded mid then new now → AreAdded old log new now
+both_added : (old mid new : Memory) (log then now : List Event) → AreAdded old log mid then → AreAdded mid then new now
+    → AreAdded old log new now
 both_added None None None log then now first last = tt
 both_added None None (Some new) log then now first never = absurd never
 both_added None (Some mid) new log then now never last = absurd never
@@ -51,5 +57,6 @@ both_added (Some old) (Some mid) (Some new) log then now first last = (
 )
 
 -- calls and then others
-pub both_follow : {old mid new : Memory} {log then now : List Event} → Follows old log mid then → Follows mid then new now → Follows old log new now
+pub both_follow : {old mid new : Memory} {log then now : List Event}
+    → Follows old log mid then → Follows mid then new now → Follows old log new now
 both_follow first last = record { calls = both_added _ _ _ _ _ _ first.calls last.calls }

@@ -1,5 +1,7 @@
 -- What contracts see of the calls that a log records.
-use Rattle.lms_world.specs.Events.{Event, Acquired, InUse, NoMemory, Read, Opened, Written, Locked, Unlocked, Asked, Taken, NodesRead, NodesWritten, Printed}
+use Rattle.lms_world.specs.Events.{Event, Read, Opened, Written, Locked, Unlocked, Asked}
+use Rattle.lms_world.specs.Events.{Acquired, NotAvailable, NoMemory}
+use Rattle.lms_world.specs.Events.{Taken, NodesRead, NodesWritten, Printed}
 use Rattle.std.specs.Prelude.{None, Some, Ok, Err}
 use Rattle.lms_world.specs.declared.log.Call.{Call as LoggedCall}
 use Rattle.lms_world.specs.declared.log.Call.TheVariants as logged
@@ -10,8 +12,8 @@ event_of (logged.Refused name fault) = Read name.now (Err fault)
 event_of (logged.NotOpened name fault) = Opened name.now (Err fault)
 event_of (logged.Written name bytes answer) = Written name.now bytes.now answer
 event_of (logged.Acquired name) = Locked name.now Acquired
-event_of (logged.InUse name) = Locked name.now InUse
-event_of (logged.NoLock name) = Locked name.now NoMemory
+event_of (logged.NotAvailable name) = Locked name.now NotAvailable
+event_of (logged.NoMemory name) = Locked name.now NoMemory
 event_of logged.Unlocked = Unlocked
 event_of (logged.Asked there) = Asked there
 event_of logged.NotTaken = Taken None

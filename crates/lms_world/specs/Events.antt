@@ -2,13 +2,15 @@
 use Rattle.std.specs.Prelude.{ℕ, List, [], ◌∷◌, ◌++◌, Bool, Option, Some, None, Result, Ok, Err}
 use Rattle.std.specs.Global.{Vec}
 use Rattle.lms_book.specs.Stops.{StoreView}
+use Rattle.lms_file_store.specs.declared.fault.LockFault.{LockFault}
+use Rattle.lms_file_store.specs.declared.fault.LockFault.TheVariants as fault
 use Rattle.lms_world.specs.Names.{Bytes}
 use Rattle.lms_world.specs.declared.fault.WorldFault.{WorldFault}
 
 -- what a lock of a state comes to: it is acquired, or not available, or memory for it was refused
 pub data Locking : Type 0 where
   Acquired : Locking
-  InUse : Locking
+  NotAvailable : Locking
   NoMemory : Locking
 
 -- what a write comes to
@@ -60,10 +62,11 @@ opening_of holds (Ok contents) = Ok (holds contents)
 opening_of holds (Err fault) = Err fault
 
 -- what a lock comes to
-abbrev pub locking_of : {T E : Type 0} → Result (Option T) E → Locking
-locking_of (Ok (Some lock)) = Acquired
-locking_of (Ok None) = InUse
-locking_of (Err fault) = NoMemory
+abbrev pub locking_of : {T : Type 0} → Result T LockFault → Locking
+locking_of (Ok lock) = Acquired
+locking_of (Err fault.InUse) = NotAvailable
+locking_of (Err fault.Unreachable) = NotAvailable
+locking_of (Err fault.OutOfMemory) = NoMemory
 
 -- a store, as it is taken out
 abbrev pub as_taken : {S : Type 0} → (S → StoreView) → (S → Bool) → S → Taking

@@ -1,5 +1,6 @@
 -- Files and a state in memory.
-use Rattle.std.specs.Prelude.{ℕ, List, map, Bool, true, Option, Some, None, Result, Err, String, find, option_map, string_bytes}
+use Rattle.std.specs.Prelude.{ℕ, List, map, Bool, true, Option, Some, None, Result, Err, String, find, option_map}
+use Rattle.std.specs.Prelude.{string_bytes}
 use Rattle.std.specs.Global.{Global, Vec}
 use Rattle.std.specs.Str.{bytes_eq}
 use Rattle.lms_book.specs.Memory.{MemoryState, cannot_read, held}

@@ -1,9 +1,12 @@
 -- What a world in memory holds, and what each call makes of it. Of a disk nothing is known.
-use Rattle.std.specs.Prelude.{ℕ, ◌≡◌, ◌⊎◌, List, [], ◌∷◌, ◌++◌, Bool, true, false, if◌then◌else◌, Option, Some, None, Result, Ok, Err}
+use Rattle.std.specs.Prelude.{ℕ, ◌≡◌, ◌⊎◌, List, [], ◌∷◌, ◌++◌, Bool, true, false, if◌then◌else◌, Option, Some, None}
+use Rattle.std.specs.Prelude.{Result, Ok, Err}
 use Rattle.std.specs.Str.{bytes_eq}
 use Rattle.lms_book.specs.Stops.{Texts}
 use Rattle.lms_world.specs.Names.{Bytes}
-use Rattle.lms_world.specs.Events.{Event, Acquired, InUse, NoMemory, Read, Opened, Written, Locked, Unlocked, Asked, Taken, PutBack, NodesRead, NodesWritten, Printing, Printed}
+use Rattle.lms_world.specs.Events.{Event, Read, Opened, Written, Locked, Unlocked, Asked}
+use Rattle.lms_world.specs.Events.{Acquired, NotAvailable, NoMemory}
+use Rattle.lms_world.specs.Events.{Taken, PutBack, NodesRead, NodesWritten, Printing, Printed}
 use Rattle.lms_world.specs.declared.fault.WorldFault.{WorldFault}
 use Rattle.lms_world.specs.declared.fault.WorldFault.TheVariants.{Device, OutOfMemory}
 
@@ -66,7 +69,7 @@ Acts (Opened name (Err fault)) old new = (new ≡ old) × MayRefuse old name fau
 Acts (Written name bytes (Ok done)) old new = new ≡ with_file name bytes old
 Acts (Written name bytes (Err fault)) old new = (new ≡ old) × MayRefuse old name fault
 Acts (Locked name Acquired) old new = (new ≡ old) × (old.in_use ≡ false)
-Acts (Locked name InUse) old new = (new ≡ old) × (old.in_use ≡ true)
+Acts (Locked name NotAvailable) old new = (new ≡ old) × (old.in_use ≡ true)
 Acts (Locked name NoMemory) old new = new ≡ old
 Acts Unlocked old new = new ≡ old
 Acts (Asked there) old new = (new ≡ old) × (there ≡ is_there old.state)

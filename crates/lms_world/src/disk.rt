@@ -9,7 +9,7 @@ use crate::log::{Call, Log, OpenedAs, PutIn, TakenOut};
 use crate::printer::{Beginning, Printer};
 use crate::world::World;
 use lms_blocks::read_block;
-use lms_file_store::{FileStore, StateLock, TryLock, lock, write_flushed, write_output};
+use lms_file_store::{FileStore, LockFault, StateLock, TryLock, lock, write_flushed, write_output};
 use lms_params::OutOfMemory;
 use std::alloc::Global;
 use std::fs::OpenFile;
@@ -119,25 +119,15 @@ where
         self.written(name, bytes, answer)
     }
 
-    fn lock(
-        &mut self,
-        alloc: Global,
-        name: &str,
-    ) -> Result<Option<StateLock<R::File>>, OutOfMemory> {
-        match lock(self.files, alloc, name) {
-            Ok(Some(found)) => {
-                self.log = self.log.and(&Call::Acquired { name });
-                Ok(Some(found))
-            }
-            Ok(None) => {
-                self.log = self.log.and(&Call::InUse { name });
-                Ok(None)
-            }
-            Err(fault) => {
-                self.log = self.log.and(&Call::NoLock { name });
-                Err(fault)
-            }
-        }
+    fn lock(&mut self, alloc: Global, name: &str) -> Result<StateLock<R::File>, LockFault> {
+        let answer = lock(self.files, alloc, name);
+        let call = match &answer {
+            Ok(_) => Call::Acquired { name },
+            Err(LockFault::InUse | LockFault::Unreachable) => Call::NotAvailable { name },
+            Err(LockFault::OutOfMemory) => Call::NoMemory { name },
+        };
+        self.log = self.log.and(&call);
+        answer
     }
 
     /// The file is closed here, which frees the lock.

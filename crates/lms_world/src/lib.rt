@@ -19,4 +19,5 @@ pub use crate::fault::WorldFault;
 pub use crate::memory::{MemoryContents, MemoryLock, MemoryWorld};
 pub use crate::printer::Printer;
 pub use crate::world::World;
+pub use lms_file_store::LockFault;
 pub use lms_params::OutOfMemory;

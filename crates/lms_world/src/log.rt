@@ -49,10 +49,10 @@ pub(crate) enum Call<'a> {
     Acquired {
         name: &'a str,
     },
-    InUse {
+    NotAvailable {
         name: &'a str,
     },
-    NoLock {
+    NoMemory {
         name: &'a str,
     },
     Unlocked,

@@ -11,6 +11,7 @@ use crate::log::{Call, Log, OpenedAs, PutIn, TakenOut};
 use crate::printer::{Beginning, Printer};
 use crate::world::World;
 use lms_book::MemoryStore;
+use lms_file_store::LockFault;
 use lms_params::OutOfMemory;
 use std::alloc::{AllocError, Global};
 use std::io::Write;
@@ -293,13 +294,13 @@ impl World for MemoryWorld {
         self.write(name, bytes)
     }
 
-    fn lock(&mut self, _alloc: Global, name: &str) -> Result<Option<MemoryLock>, OutOfMemory> {
+    fn lock(&mut self, _alloc: Global, name: &str) -> Result<MemoryLock, LockFault> {
         if self.in_use {
-            self.log = self.log.and(&Call::InUse { name });
-            Ok(None)
+            self.log = self.log.and(&Call::NotAvailable { name });
+            Err(LockFault::InUse)
         } else {
             self.log = self.log.and(&Call::Acquired { name });
-            Ok(Some(MemoryLock(())))
+            Ok(MemoryLock(()))
         }
     }
 

@@ -7,6 +7,7 @@ use crate::contents::Contents;
 use crate::fault::WorldFault;
 use crate::printer::Printer;
 use lms_book::StateStore;
+use lms_file_store::LockFault;
 use lms_params::OutOfMemory;
 use std::alloc::Global;
 use std::io::Write;
@@ -59,14 +60,17 @@ pub trait World {
         ensures logged { events self.new ≡ Written name.now bytes.now result ∷ events self.old }
         ensures acts { Does (Written name.now bytes.now result) (memory self.old) (memory self.new) };
 
-    /// The same, and flushes the file where that can be done: a loss of power leaves it then.
+    /// The same, and flushes the file where that can be done: a loss of power leaves it then. After a
+    /// fault the file may be written.
     fn write_flushed(&mut self, alloc: Global, name: &str, bytes: &[u8]) -> Result<(), WorldFault>
         ensures logged { events self.new ≡ Written name.now bytes.now result ∷ events self.old }
         ensures acts { Does (Written name.now bytes.now result) (memory self.old) (memory self.new) };
 
-    /// Locks the state of this name, without waiting. `None` where the lock is not available,
-    /// `OutOfMemory` where memory for it was refused.
-    fn lock(&mut self, alloc: Global, name: &str) -> Result<Option<Self::Lock>, OutOfMemory>
+    /// Locks the state of this name, without waiting.
+    ///
+    /// `InUse` where another holds the lock or it can't be acquired, `Unreachable` where there can't
+    /// be one, `OutOfMemory` where memory for it was refused.
+    fn lock(&mut self, alloc: Global, name: &str) -> Result<Self::Lock, LockFault>
         ensures logged { events self.new ≡ Locked name.now (locking_of result) ∷ events self.old }
         ensures acts { Does (Locked name.now (locking_of result)) (memory self.old) (memory self.new) };
 

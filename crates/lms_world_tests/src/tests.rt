@@ -303,8 +303,8 @@ fn a_folder_breaks_off(rt: HostRuntime) -> Result<(), Fail> {
 fn is_there(rt: &HostRuntime, name: &str) -> Option<bool> {
     let mut world = DiskWorld::new(rt);
     match world.lock(rt.alloc(), name) {
-        Ok(Some(lock)) => Some(world.exists(&lock)),
-        _ => None,
+        Ok(lock) => Some(world.exists(&lock)),
+        Err(_) => None,
     }
 }
 
@@ -319,9 +319,7 @@ fn what_can_not_be_looked_up_exists(rt: HostRuntime) -> Result<(), Fail> {
     assert!(rt; is_there(&rt, long.as_str()).is_none());
     let poor = PoorFiles { files: &rt };
     let mut world = DiskWorld::new(&poor);
-    let Some(lock) = world.lock(rt.alloc(), "disk_world_names/file")? else {
-        return Err(Fail::from("the state can be locked"));
-    };
+    let lock = world.lock(rt.alloc(), "disk_world_names/file")?;
     fs::remove_file(&rt, "disk_world_names/file")?;
     assert!(rt; world.exists(&lock));
     fs::remove_dir_all(&rt, "disk_world_names")?;

@@ -4,13 +4,15 @@ use Rattle.lms_verification.specs.Heads.{lms_head}
 use Rattle.lms_c.proofs.lms_verify_hash.Goals as goal
 
 pub returns-in_default-clause-verdict : goal.returns-in_default-clause-verdict
-returns-in_default-clause-verdict c head message is_head hashed = (λ e. absurd (false≢true e), λ a. absurd (c.in_default.ensures.none message a))
+returns-in_default-clause-verdict c head message is_head hashed =
+    (λ e. absurd (false≢true e), λ a. absurd (c.in_default.ensures.none message a))
 
 pub returns-in_default-clause-head : goal.returns-in_default-clause-head
 returns-in_default-clause-head c e = absurd (false≢true e)
 
 pub returns-clause-verdict : goal.returns-clause-verdict
-returns-clause-verdict c head message is_head hashed = c.finish_by_hash.ensures _ _ _ head message c.in-Some.ensures.some is_head hashed
+returns-clause-verdict c head message is_head hashed =
+    c.finish_by_hash.ensures _ _ _ head message c.in-Some.ensures.some is_head hashed
 
 pub returns-clause-head : goal.returns-clause-head
 returns-clause-head c _ =

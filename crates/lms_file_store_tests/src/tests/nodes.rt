@@ -55,7 +55,7 @@ impl Kept<'_> {
 
 /// What is kept beside the state of this name. `Fail` where it can't be locked.
 fn kept_beside<'a>(rt: &'a HostRuntime, name: &str) -> Result<Kept<'a>, Fail> {
-    let held = lock(rt, rt.alloc(), name)?.ok_or("the lock is free")?;
+    let held = lock(rt, rt.alloc(), name)?;
     Ok(Kept { rt, held })
 }
 
@@ -175,8 +175,8 @@ fn what_is_no_plain_file_is_not_read(rt: HostRuntime) -> Result<(), Fail> {
 /// What is kept beside a state, whose lock is had at the first or at the second try.
 fn second_try<'a>(rt: &'a HostRuntime, name: &str) -> Result<Kept<'a>, Fail> {
     match lock(rt, rt.alloc(), name) {
-        Ok(Some(held)) => Ok(Kept { rt, held }),
-        _ => kept_beside(rt, name),
+        Ok(held) => Ok(Kept { rt, held }),
+        Err(_) => kept_beside(rt, name),
     }
 }
 

@@ -37,16 +37,36 @@ fn what_is_written_is_there(rt: HostRuntime) -> Result<(), Fail> {
     Ok(())
 }
 
-/// Whether a file with these bytes is not written over, by its name and by a link.
-fn is_left(rt: &HostRuntime, text: &[u8]) -> Result<bool, Fail> {
+const NEW: &[u8] = b"a signature";
+
+/// Whether a write goes through to a file with this text, by this name of it, with a flush or
+/// without. `None` where the file has other bytes then than that says: the new ones, or the text.
+fn goes_through(
+    rt: &HostRuntime,
+    text: &[u8],
+    name: &str,
+    flushes: bool,
+) -> Result<Option<bool>, Fail> {
     fs::write(rt, "outputs_left/state", text)?;
-    let mut left = true;
-    for name in ["outputs_left/state", "outputs_left/link"] {
-        let plain = write_output(rt, name, b"a signature");
-        let flushed = write_flushed(rt, rt.alloc(), name, b"a public key");
-        left = left && plain.is_err() && flushed.is_err();
-    }
-    Ok(left && holds(rt, "outputs_left/state", text))
+    let answer = if flushes {
+        write_flushed(rt, rt.alloc(), name, NEW)
+    } else {
+        write_output(rt, name, NEW)
+    };
+    let done = answer.is_ok();
+    let left = if done { NEW } else { text };
+    Ok(holds(rt, "outputs_left/state", left).then_some(done))
+}
+
+/// Whether all of these go through to a file with this text, or none, as said: a write by its name
+/// and by a link, each with a flush and without.
+fn all_go_through(rt: &HostRuntime, text: &[u8], said: bool) -> Result<bool, Fail> {
+    let (state, link) = ("outputs_left/state", "outputs_left/link");
+    let plain = goes_through(rt, text, state, false)? == Some(said);
+    let flushed = goes_through(rt, text, state, true)? == Some(said);
+    let by_link = goes_through(rt, text, link, false)? == Some(said);
+    let flushed_by_link = goes_through(rt, text, link, true)? == Some(said);
+    Ok(plain && flushed && by_link && flushed_by_link)
 }
 
 #[test]
@@ -57,11 +77,11 @@ fn a_state_is_not_written_over(rt: HostRuntime) -> Result<(), Fail> {
     longest[..4].copy_from_slice(b"HSSK");
     let mut longer = [0; 181];
     longer[..4].copy_from_slice(b"HSSK");
-    assert!(rt; is_left(&rt, b"HSSK")?);
-    assert!(rt; is_left(&rt, &longest)?);
-    assert!(rt; !is_left(&rt, &longer)?);
-    assert!(rt; !is_left(&rt, b"HSS")?);
-    assert!(rt; !is_left(&rt, &[7; 180])?);
+    assert!(rt; all_go_through(&rt, b"HSSK", false)?);
+    assert!(rt; all_go_through(&rt, &longest, false)?);
+    assert!(rt; all_go_through(&rt, &longer, true)?);
+    assert!(rt; all_go_through(&rt, b"HSS", true)?);
+    assert!(rt; all_go_through(&rt, &[7; 180], true)?);
     fs::remove_dir_all(&rt, "outputs_left")?;
     Ok(())
 }

@@ -1,8 +1,6 @@
-use crate::tests::{
-    LEVEL, QUICK, RANDOMIZER, THREE_LEVELS, cover, key_of, sign, slow_key, vectors,
-};
+use crate::tests::{LEVEL, QUICK, RANDOMIZER, THREE_LEVELS, slow_key, vectors};
 use hex::FromHex;
-use lms_fixtures::Sums;
+use lms_fixtures::{Sums, forest_of, key_of, signature_of};
 use lms_hss::{Forest, HssKey, Levels, verify};
 use lms_params::{LmsType, OtsType, OutOfMemory};
 use lms_slow::slow_sign;
@@ -18,7 +16,7 @@ fn check_index(
     levels: &[(LmsType, OtsType)],
     g: u64,
 ) -> Result<Vec<u8>, Fail> {
-    let signature = sign(rt, forest, g, &RANDOMIZER, b"abc")?;
+    let signature = signature_of(forest, g, &RANDOMIZER, b"abc")?;
     assert!(rt; !levels.is_empty() && levels.len() <= 8);
     let slow = slow_sign(rt.alloc(), &slow_key(levels), g, &RANDOMIZER, b"abc")?;
     assert!(rt; signature == slow, "{g}");
@@ -53,9 +51,9 @@ fn check_accepted_index(
 
 #[test]
 fn signs_through_two_levels(rt: HostRuntime) -> Result<(), Fail> {
-    let key = key_of(&[LEVEL; 2])?;
+    let key = key_of(&[LEVEL; 2], 0x11)?;
     let public = key.public_key(&rt, rt.alloc())?;
-    let forest = cover(&rt, key, 0, 1024)?;
+    let forest = forest_of(&rt, key, 0, 1024)?;
     assert!(rt; forest.covers(0) && forest.covers(1023) && !forest.covers(1024));
     let first = check_accepted_index(&rt, &public, &forest, 0)?;
     let last_below = check_accepted_index(&rt, &public, &forest, 31)?;
@@ -73,7 +71,7 @@ fn check_covered(
     len: u64,
     g: u64,
 ) -> Result<(), Fail> {
-    let forest = cover(rt, key_of(levels)?, start, len)?;
+    let forest = forest_of(rt, key_of(levels, 0x11)?, start, len)?;
     let _signature = check_index(rt, &forest, levels, g)?;
     Ok(())
 }
@@ -90,7 +88,7 @@ const EACH_WIDTH: [(LmsType, OtsType); 4] = [
 fn signs_through_levels_of_different_sets(rt: HostRuntime) -> Result<(), Fail> {
     check_covered(&rt, &THREE_LEVELS, 1024, 2, 1025)?;
     check_covered(&rt, &[(LmsType::H10, OtsType::W4), LEVEL], 22400, 32, 22409)?;
-    let _forest = check_ends(&rt, key_of(&EACH_WIDTH)?, 1048575, 1, 16956)?;
+    let _forest = check_ends(&rt, key_of(&EACH_WIDTH, 0x11)?, 1048575, 1, 16956)?;
     Ok(())
 }
 
@@ -102,7 +100,7 @@ fn check_length(
     g: u64,
     length: usize,
 ) -> Result<(), Fail> {
-    let signature = sign(rt, forest, g, &RANDOMIZER, b"abc")?;
+    let signature = signature_of(forest, g, &RANDOMIZER, b"abc")?;
     assert!(rt; signature.len() == length, "{g}");
     assert!(rt; verify(public, b"abc", &signature), "{g}");
     Ok(())
@@ -118,7 +116,7 @@ fn check_ends(
     length: usize,
 ) -> Result<Forest, Fail> {
     let public = key.public_key(rt, rt.alloc())?;
-    let forest = cover(rt, key, start, len)?;
+    let forest = forest_of(rt, key, start, len)?;
     assert!(rt; forest.public() == public);
     check_length(rt, &public, &forest, start, length)?;
     let last = start.saturating_add(len).saturating_sub(1);
@@ -128,7 +126,7 @@ fn check_ends(
 
 #[test]
 fn signs_through_eight_levels(rt: HostRuntime) -> Result<(), Fail> {
-    let forest = check_ends(&rt, key_of(&[LEVEL; 8])?, 34359738367, 2, 10732)?;
+    let forest = check_ends(&rt, key_of(&[LEVEL; 8], 0x11)?, 34359738367, 2, 10732)?;
     assert!(rt; !forest.covers(34359738366) && !forest.covers(34359738369));
     Ok(())
 }
@@ -140,7 +138,7 @@ fn check_last(
     levels: &[(LmsType, OtsType)],
     len: u64,
 ) -> Result<(), Fail> {
-    let key = key_of(levels)?;
+    let key = key_of(levels, 0x11)?;
     let start = key.capacity().saturating_sub(len);
     let _forest = check_ends(rt, key, start, len, key.sig_len())?;
     Ok(())
@@ -166,7 +164,10 @@ fn covers_many_indices(rt: HostRuntime) -> Result<(), Fail> {
 /// Leaf 1023 of the top tree is the last of a bottom subtree, leaf 1024 the first of the next.
 #[test]
 fn signs_across_bottom_subtrees(rt: HostRuntime) -> Result<(), Fail> {
-    let key = key_of(&[(LmsType::H15, OtsType::W2), (LmsType::H5, OtsType::W4)])?;
+    let key = key_of(
+        &[(LmsType::H15, OtsType::W2), (LmsType::H5, OtsType::W4)],
+        0x11,
+    )?;
     let _forest = check_ends(&rt, key, 32767, 2, key.sig_len())?;
     Ok(())
 }
@@ -192,10 +193,10 @@ fn check_vector(
     let id = FromHex::from_hex(vector.id)?;
     let key = HssKey::new(Levels::new(vector.levels)?, seed, id);
     check_public(rt, key, vector.public)?;
-    let forest = cover(rt, key, vector.index, 1)?;
+    let forest = forest_of(rt, key, vector.index, 1)?;
     let randomizer = FromHex::from_hex(vector.randomizer)?;
     let message = vector.message.as_bytes();
-    let signature = sign(rt, &forest, vector.index, &randomizer, message)?;
+    let signature = signature_of(&forest, vector.index, &randomizer, message)?;
     let expected = hex::decode(rt.alloc(), vector.signature)?;
     assert!(rt; signature == expected, "{message:?}");
     Ok(())
@@ -213,7 +214,7 @@ fn signs_as_another_implementation(rt: HostRuntime) -> Result<(), Fail> {
 /// works.
 #[test]
 fn covers_and_signs_after_refused_memory(rt: HostRuntime) -> Result<(), Fail> {
-    let key = key_of(&[(LmsType::H5, OtsType::W1); 2])?;
+    let key = key_of(&[(LmsType::H5, OtsType::W1); 2], 0x11)?;
     assert!(rt; key.capacity() == 1024);
     let forest = match Forest::cover(&rt, rt.alloc(), key, 31, 2) {
         Ok(forest) => forest,
@@ -236,7 +237,7 @@ fn covers_and_signs_after_refused_memory(rt: HostRuntime) -> Result<(), Fail> {
 /// each request in turn.
 #[test]
 fn no_leaf_is_computed_where_memory_is_refused(rt: HostRuntime) -> Result<(), Fail> {
-    let key = key_of(&[QUICK])?;
+    let key = key_of(&[QUICK], 0x11)?;
     assert!(rt; key.capacity() == 32);
     let sums = Sums::new();
     let done = match Forest::cover_watched(&rt, rt.alloc(), key, 3, 7, &sums) {
@@ -251,7 +252,7 @@ fn no_leaf_is_computed_where_memory_is_refused(rt: HostRuntime) -> Result<(), Fa
 /// through.
 #[test]
 fn reports_all_leaves(rt: HostRuntime) -> Result<(), Fail> {
-    let key = key_of(&[QUICK; 3])?;
+    let key = key_of(&[QUICK; 3], 0x11)?;
     let sums = Sums::new();
     let _public = key.public_key_watched(&rt, rt.alloc(), &sums)?;
     assert!(rt; sums.are(1, 32));

@@ -1,4 +1,5 @@
-use crate::tests::{LEVEL, THREE_LEVELS, key_of, slow_key};
+use crate::tests::{LEVEL, THREE_LEVELS, slow_key};
+use lms_fixtures::key_of;
 use lms_hss::{HssKey, KeyFault, Levels, LevelsText, same_key};
 use lms_params::{LmsType, OtsType};
 use lms_slow::slow_public;
@@ -71,7 +72,7 @@ fn knows_capacities_and_lengths(rt: HostRuntime) -> Result<(), Fail> {
     for (levels, capacity, sig_len) in SIZES {
         let taken = Levels::new(levels)?;
         assert_eq!(rt; taken.as_slice(), levels);
-        let key = key_of(levels)?;
+        let key = key_of(levels, 0x11)?;
         assert_eq!(rt; (key.capacity(), key.sig_len()), (capacity, sig_len));
     }
     Ok(())
@@ -103,7 +104,7 @@ const PLACES: [(&[(LmsType, OtsType)], u64, [u32; 8]); 11] = [
 #[test]
 fn knows_the_places_of_an_index(rt: HostRuntime) -> Result<(), Fail> {
     for (levels, g, places) in PLACES {
-        let key = key_of(levels)?;
+        let key = key_of(levels, 0x11)?;
         assert!(rt; g < key.capacity());
         assert_eq!(rt; key.places(g), places, "{g}");
     }
@@ -112,19 +113,19 @@ fn knows_the_places_of_an_index(rt: HostRuntime) -> Result<(), Fail> {
 
 #[test]
 fn makes_the_public_key(rt: HostRuntime) -> Result<(), Fail> {
-    let public = key_of(&THREE_LEVELS)?.public_key(&rt, rt.alloc())?;
+    let public = key_of(&THREE_LEVELS, 0x11)?.public_key(&rt, rt.alloc())?;
     let slow = slow_public(rt.alloc(), &slow_key(&THREE_LEVELS))?;
     assert!(rt; public.as_slice() == slow.as_slice());
     Ok(())
 }
 
 /// Keys that are not that of `LEVEL`.
-fn other_keys() -> Result<[HssKey; 5], KeyFault> {
+fn other_keys() -> Result<[HssKey; 5], Fail> {
     let levels = Levels::new(&[LEVEL])?;
     Ok([
-        key_of(&[LEVEL; 2])?,
-        key_of(&[(LmsType::H5, OtsType::W1)])?,
-        key_of(&[(LmsType::H10, OtsType::W8)])?,
+        key_of(&[LEVEL; 2], 0x11)?,
+        key_of(&[(LmsType::H5, OtsType::W1)], 0x11)?,
+        key_of(&[(LmsType::H10, OtsType::W8)], 0x11)?,
         HssKey::new(levels, [0x12; 32], [0x22; 16]),
         HssKey::new(levels, [0x11; 32], [0x23; 16]),
     ])
@@ -132,8 +133,8 @@ fn other_keys() -> Result<[HssKey; 5], KeyFault> {
 
 #[test]
 fn tells_keys_apart(rt: HostRuntime) -> Result<(), Fail> {
-    let key = key_of(&[LEVEL])?;
-    assert!(rt; same_key(&key, &key_of(&[LEVEL])?));
+    let key = key_of(&[LEVEL], 0x11)?;
+    assert!(rt; same_key(&key, &key_of(&[LEVEL], 0x11)?));
     for other in other_keys()? {
         assert!(rt; !same_key(&key, &other) && same_key(&other, &other));
     }

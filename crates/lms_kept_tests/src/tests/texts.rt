@@ -1,7 +1,7 @@
 //! Which bytes are read.
-use crate::tests::{LEVEL, compute, key_of};
-use lms_fixtures::Sums;
-use lms_hss::{HssKey, KeyFault, Levels};
+use crate::tests::{LEVEL, compute};
+use lms_fixtures::{Sums, key_of};
+use lms_hss::{HssKey, Levels};
 use lms_kept::KeptTrees;
 use lms_params::{LmsType, OtsType, OutOfMemory};
 use std::alloc::Global;
@@ -50,7 +50,7 @@ fn taken_change(
 /// bytes and 64 nodes of the bottom tree; 32 bytes.
 #[test]
 fn takes_its_own_text_alone(rt: HostRuntime) -> Result<(), Fail> {
-    let key = key_of(&[LEVEL; 2])?;
+    let key = key_of(&[LEVEL; 2], 0x11)?;
     let mut text = compute(&rt, key, 40, &Sums::new())?.text(rt.alloc())?;
     assert!(rt; text.len() == 16 + 64 * 32 + (1348 + 64 * 32) + 32);
     assert!(rt; text.starts_with(b"HSSN\0\0\0\x01\0\0\0\0\0\0\0\x28"));
@@ -65,7 +65,7 @@ fn takes_its_own_text_alone(rt: HostRuntime) -> Result<(), Fail> {
 /// Keys that differ in the seed, the identifier, the number of levels, or the sets of one.
 #[test]
 fn takes_no_text_of_another_key(rt: HostRuntime) -> Result<(), Fail> {
-    let key = key_of(&[LEVEL; 2])?;
+    let key = key_of(&[LEVEL; 2], 0x11)?;
     let text = compute(&rt, key, 0, &Sums::new())?.text(rt.alloc())?;
     let top = KeptTrees::top(&rt, rt.alloc(), key, &Sums::new())?.text(rt.alloc())?;
     assert!(rt; is_taken(rt.alloc(), &key, &text)? && is_taken(rt.alloc(), &key, &top)?);
@@ -77,15 +77,15 @@ fn takes_no_text_of_another_key(rt: HostRuntime) -> Result<(), Fail> {
 }
 
 /// Other keys than the one of 5/8,5/8.
-fn others() -> Result<[HssKey; 6], KeyFault> {
+fn others() -> Result<[HssKey; 6], Fail> {
     let levels = Levels::new(&[LEVEL; 2])?;
     let narrow = (LmsType::H5, OtsType::W4);
     Ok([
         HssKey::new(levels, [0x12; 32], [0x22; 16]),
         HssKey::new(levels, [0x11; 32], [0x23; 16]),
-        key_of(&[LEVEL])?,
-        key_of(&[LEVEL; 3])?,
-        key_of(&[narrow, LEVEL])?,
-        key_of(&[LEVEL, narrow])?,
+        key_of(&[LEVEL], 0x11)?,
+        key_of(&[LEVEL; 3], 0x11)?,
+        key_of(&[narrow, LEVEL], 0x11)?,
+        key_of(&[LEVEL, narrow], 0x11)?,
     ])
 }

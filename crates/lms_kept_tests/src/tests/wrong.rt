@@ -1,8 +1,8 @@
 //! Bytes with the right check value and wrong nodes, as only a holder of the seed can make them.
 ghost use Rattle.std.specs.Prelude.{◌≡◌, IfOk};
 
-use crate::tests::{QUICK, TALL_ABOVE, compute, expected, key_of, moved, signed};
-use lms_fixtures::Sums;
+use crate::tests::{QUICK, TALL_ABOVE, compute, expected, moved, signed};
+use lms_fixtures::{Sums, key_of};
 use lms_hss::{HssKey, verify};
 use lms_kept::KeptTrees;
 use lms_params::{LmsType, OtsType};
@@ -105,7 +105,7 @@ fn taken(rt: &impl AllocGlobal, key: HssKey, text: &[u8]) -> Result<KeptTrees, F
 /// other leaves it plays no part.
 #[test]
 fn gives_no_signature_by_a_changed_node(rt: HostRuntime) -> Result<(), Fail> {
-    let key = key_of(&[QUICK])?;
+    let key = key_of(&[QUICK], 0x11)?;
     let mut text = compute(&rt, key, 0, &Sums::new())?.text(rt.alloc())?;
     let changed = at(&text, place(33)).map(|byte| byte ^ 1);
     set(&mut text, place(33), &changed);
@@ -120,7 +120,7 @@ fn gives_no_signature_by_a_changed_node(rt: HostRuntime) -> Result<(), Fail> {
 /// refuses.
 #[test]
 fn signs_what_is_refused_at_worst(rt: HostRuntime) -> Result<(), Fail> {
-    let key = key_of(&[QUICK])?;
+    let key = key_of(&[QUICK], 0x11)?;
     let public = key.public_key(&rt, rt.alloc())?;
     let mut text = compute(&rt, key, 0, &Sums::new())?.text(rt.alloc())?;
     change_consistently(&key, &mut text);
@@ -139,7 +139,7 @@ fn signs_what_is_refused_at_worst(rt: HostRuntime) -> Result<(), Fail> {
 /// same one-time signature as ever: only the path above it is another one.
 #[test]
 fn signs_the_same_public_keys_at_worst(rt: HostRuntime) -> Result<(), Fail> {
-    let key = key_of(&[QUICK; 2])?;
+    let key = key_of(&[QUICK; 2], 0x11)?;
     let mut text = compute(&rt, key, 0, &Sums::new())?.text(rt.alloc())?;
     change_consistently(&key, &mut text);
     // Index 64 goes through leaf 2 of the top tree, which has node 16, over the changed leaf, in
@@ -158,7 +158,7 @@ fn signs_the_same_public_keys_at_worst(rt: HostRuntime) -> Result<(), Fail> {
 /// In an upper tree of height 15 a changed root of the bottom subtree to go on to is found.
 #[test]
 fn goes_on_to_no_other_subtree(rt: HostRuntime) -> Result<(), Fail> {
-    let key = key_of(&TALL_ABOVE)?;
+    let key = key_of(&TALL_ABOVE, 0x11)?;
     let mut text = compute(&rt, key, 0, &Sums::new())?.text(rt.alloc())?;
     // Node 33 is the root of the second bottom subtree, whose first leaf index 32768 goes through.
     let start = TOP + 32 * 32;
@@ -182,7 +182,7 @@ fn is_taken(rt: &impl AllocGlobal, key: &HssKey, text: &[u8]) -> Result<bool, Fa
 /// bytes than its levels have, each with the right check value.
 #[test]
 fn takes_no_other_form(rt: HostRuntime) -> Result<(), Fail> {
-    let key = key_of(&[QUICK; 2])?;
+    let key = key_of(&[QUICK; 2], 0x11)?;
     let text = compute(&rt, key, 0, &Sums::new())?.text(rt.alloc())?;
     assert!(rt; is_taken(&rt, &key, &text)?);
     for place in [0, 3, 4, 7, 8, 13] {

@@ -1,9 +1,6 @@
 //! `batch`: job lines signed by the whole program.
-use super::ProgramEnd;
-use lms_cli::run::run;
-use lms_commands::Resources;
-use lms_hss::Unwatched;
-use lms_world::{MemoryWorld, Printer};
+use super::{ProgramEnd, end_with};
+use lms_world::MemoryWorld;
 use std::sync::Wait;
 use std::thread::Threads;
 
@@ -52,24 +49,5 @@ pub(super) fn end_of_batch_to(
     output: Vec<u8>,
 ) -> ProgramEnd {
     let mut rest = input.as_bytes();
-    let mut output = output;
-    let mut errors = Vec::new(rt.alloc());
-    let arguments = batch(workers);
-    let status = run(
-        &Resources {
-            rt,
-            alloc: rt.alloc(),
-            progress: &Unwatched,
-        },
-        &arguments,
-        world,
-        &mut rest,
-        &mut Printer::new(&mut output),
-        &mut errors,
-    );
-    ProgramEnd {
-        status: status.code(),
-        output,
-        errors,
-    }
+    end_with(rt, &batch(workers), world, &mut rest, output)
 }

@@ -2,12 +2,10 @@
 use super::arguments::{CHEAP, ONE, TWO};
 use super::batch::{FOUR_LINES, TWO_LINES, batch, end_of_batch, end_of_batch_to};
 use super::states::{is_with, keyed, store_at};
-use super::{Closed, ProgramEnd, Stuck, text_of};
+use super::{Closed, ProgramEnd, Stuck, status_of, text_of};
 use lms_book::Left;
-use lms_cli::run::run;
-use lms_commands::{Resources, Status};
-use lms_hss::Unwatched;
-use lms_world::{MemoryWorld, Printer, World};
+use lms_commands::Status;
+use lms_world::{MemoryWorld, World};
 use std::alloc::Global;
 use std::io;
 use std::io::{ErrorKind, Read, Write};
@@ -65,20 +63,8 @@ fn fails_by<I: Read, O: Write>(
     line: &str,
 ) -> bool {
     let mut said = Vec::new(rt.alloc());
-    let arguments = batch("2");
-    let status = run(
-        &Resources {
-            rt,
-            alloc: rt.alloc(),
-            progress: &Unwatched,
-        },
-        &arguments,
-        world,
-        input,
-        &mut Printer::new(output),
-        &mut said,
-    );
-    status == Status::Stream && said.as_slice() == line.as_bytes()
+    let status = status_of(rt, &batch("2"), world, input, output, &mut said);
+    status == Status::Stream.code() && said.as_slice() == line.as_bytes()
 }
 
 /// No index is used where the lines can't be read.

@@ -4,13 +4,14 @@ use super::batch::{TWO_LINES, batch};
 use super::lines::Marked;
 use lms_cli::run::run;
 use lms_commands::Resources;
+use lms_fixtures::Sums;
 use lms_hss::Progress;
 use lms_meter::{Meter, Wiping};
 use lms_world::{MemoryWorld, Printer, World};
 use std::fmt::Display;
 use std::io;
 use std::io::{Print, Write};
-use std::sync::atomic::{AtomicBool, AtomicU64, Ordering};
+use std::sync::atomic::{AtomicU64, Ordering};
 use std::sync::{Mutex, Wait};
 use std::test::Fail;
 use std::thread::Threads;
@@ -129,31 +130,6 @@ fn on_a_terminal_a_line_goes_before_others_come(rt: HostRuntime) -> Result<(), F
     Ok(())
 }
 
-/// Adds up what is reported, and keeps whether more leaves were reported than were announced by
-/// then.
-#[derive(Drop)]
-struct Sums {
-    to_do: AtomicU64,
-    done: AtomicU64,
-    is_early: AtomicBool,
-}
-
-impl Progress for Sums {
-    fn begin(&self, leaves: u64) {
-        self.to_do.fetch_add(leaves, Ordering::SeqCst);
-    }
-
-    fn done(&self, leaves: u64) {
-        let done = self
-            .done
-            .fetch_add(leaves, Ordering::SeqCst)
-            .saturating_add(leaves);
-        if done > self.to_do.load(Ordering::SeqCst) {
-            self.is_early.store(true, Ordering::SeqCst);
-        }
-    }
-}
-
 /// Whether a run is done, announces so many leaves, and reports each.
 pub(super) fn reports(
     rt: &(impl Threads + Wait + AllocGlobal + Sync),
@@ -162,11 +138,7 @@ pub(super) fn reports(
     input: &[u8],
     leaves: u64,
 ) -> bool {
-    let sums = Sums {
-        to_do: AtomicU64::new(0),
-        done: AtomicU64::new(0),
-        is_early: AtomicBool::new(false),
-    };
+    let sums = Sums::new();
     let mut rest = input;
     let mut output = Vec::new(rt.alloc());
     let mut errors = Vec::new(rt.alloc());
@@ -182,10 +154,7 @@ pub(super) fn reports(
         &mut Printer::new(&mut output),
         &mut errors,
     );
-    status.code() == 0
-        && sums.to_do.load(Ordering::SeqCst) == leaves
-        && sums.done.load(Ordering::SeqCst) == leaves
-        && !sums.is_early.load(Ordering::SeqCst)
+    status.code() == 0 && sums.leaves_are(leaves, leaves)
 }
 
 #[test]

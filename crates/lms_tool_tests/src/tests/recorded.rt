@@ -1,6 +1,6 @@
 //! A world that records the calls on it that change what it holds.
 use lms_book::MemoryStore;
-use lms_world::{OutOfMemory, Printer, World, WorldFault};
+use lms_world::{LockFault, OutOfMemory, Printer, World, WorldFault};
 use std::alloc::{AllocError, Global};
 use std::io::Write;
 
@@ -85,7 +85,7 @@ impl<W: World<Store = MemoryStore>> World for Recorded<W> {
         answer
     }
 
-    fn lock(&mut self, alloc: Global, name: &str) -> Result<Option<W::Lock>, OutOfMemory> {
+    fn lock(&mut self, alloc: Global, name: &str) -> Result<W::Lock, LockFault> {
         self.world.lock(alloc, name)
     }
 

@@ -1,11 +1,8 @@
 //! `keygen` that reads its seed from an input.
-use super::ProgramEnd;
 use super::arguments::{ONE, SEED, keygen_by};
+use super::end_with;
 use super::states::is_with;
-use lms_cli::run::run;
-use lms_commands::Resources;
-use lms_hss::Unwatched;
-use lms_world::{MemoryWorld, Printer, World};
+use lms_world::{MemoryWorld, World};
 use std::io;
 use std::io::{ErrorKind, Read};
 use std::sync::Wait;
@@ -34,33 +31,6 @@ impl Read for Slow<'_> {
     }
 }
 
-/// What a `keygen` by an input leaves.
-fn end_of_keygen<I: Read>(
-    rt: &(impl Threads + Wait + AllocGlobal + Sync),
-    world: &mut MemoryWorld,
-    input: &mut I,
-) -> ProgramEnd {
-    let mut output = Vec::new(rt.alloc());
-    let mut errors = Vec::new(rt.alloc());
-    let status = run(
-        &Resources {
-            rt,
-            alloc: rt.alloc(),
-            progress: &Unwatched,
-        },
-        &keygen_by("5/8", "-"),
-        world,
-        input,
-        &mut Printer::new(&mut output),
-        &mut errors,
-    );
-    ProgramEnd {
-        status: status.code(),
-        output,
-        errors,
-    }
-}
-
 /// Whether these bytes of an input, which ends or fails after them, make the key of the digits, or
 /// end with this status and this line and make none.
 fn is_made(
@@ -76,7 +46,8 @@ fn is_made(
         was_interrupted: false,
         fails,
     };
-    let end = end_of_keygen(rt, &mut world, &mut input);
+    let arguments = keygen_by("5/8", "-");
+    let end = end_with(rt, &arguments, &mut world, &mut input, Vec::new(rt.alloc()));
     let output = if status == 0 { "capacity 32\n" } else { "" };
     let made = is_with(&world, &ONE, 0, 0, 0) && world.read(rt.alloc(), "key.pub").is_ok();
     end.is(status, output, line) && made == (status == 0)

@@ -3,8 +3,8 @@ ghost use Rattle.std.specs.Prelude.{◌^◌, ◌<◌, IsTrue};
 ghost use Rattle.lms_tree.specs.Kept.{upper_height};
 ghost use Rattle.lms_tree.specs.TreeKey.{tree_of};
 
-use super::progress::Sums;
 use crate::tests::{RANDOMIZER, band, key_of, signature};
+use lms_fixtures::Sums;
 use lms_params::{LmsType, OtsType, OutOfMemory, lms_sig_len};
 use lms_tree::{
     BandTree, Begun, KeptTree, Progress, TreeKey, Unwatched, WholeTree, bottom_height, public_bytes,
@@ -164,10 +164,10 @@ fn moves_on_where_the_root_is_right(rt: HostRuntime) -> Result<(), Fail> {
     // Nodes 32 to 63 are the roots of the 32 bottom subtrees, and node r is at place r - 1.
     let other_root = given(&rt, &tree, 31 + 2, NONE)?.ok_or("as many nodes")?;
     assert!(rt; moved(&rt, other_root, 2, &begun)?.is_none());
-    assert!(rt; sums.are(2048, 1024));
+    assert!(rt; sums.leaves_are(2048, 1024));
     let beside = given(&rt, &tree, 31 + 3, 7)?.ok_or("as many nodes")?;
     let there = moved(&rt, beside, 2, &begun)?.ok_or("the root is right")?;
-    assert!(rt; sums.are(2048, 2048));
+    assert!(rt; sums.leaves_are(2048, 2048));
     assert!(rt; there.subtree() == 2 && there.key() == tree.key());
     let right = kept(&rt, tree.key(), 2048)?;
     assert!(rt; there.lower() == right.lower());
@@ -190,12 +190,12 @@ fn moves_after_refused_memory(rt: HostRuntime) -> Result<(), Fail> {
     let there = match tree.into_kept().moved_to(&rt, rt.alloc(), 1, &begun) {
         Ok(there) => there,
         Err(OutOfMemory) => {
-            assert!(rt; sums.are(1024, 0));
+            assert!(rt; sums.leaves_are(1024, 0));
             let again = BandTree::build(&rt, rt.alloc(), key, 0, 0)?;
             again.into_kept().moved_to(&rt, rt.alloc(), 1, &begun)?
         }
     };
-    assert!(rt; sums.are(1024, 1024));
+    assert!(rt; sums.leaves_are(1024, 1024));
     assert!(rt; there.is_some_and(|there| there.subtree() == 1));
     Ok(())
 }

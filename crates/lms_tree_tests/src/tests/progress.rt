@@ -1,42 +1,11 @@
 //! What a build reports of the leaves that it computes.
 use super::key_of;
+use lms_fixtures::Sums;
 use lms_params::{LmsType, OtsType};
-use lms_tree::{BandTree, Begun, OutOfMemory, Progress};
+use lms_tree::{BandTree, Begun, OutOfMemory};
 use std::process::Abort;
-use std::sync::atomic::{AtomicU64, Ordering};
 use std::test::Fail;
 use std::thread::Threads;
-
-/// Adds up the leaves that are announced, and those that are computed.
-#[derive(Drop)]
-pub(super) struct Sums {
-    to_do: AtomicU64,
-    done: AtomicU64,
-}
-
-impl Sums {
-    pub(super) fn new() -> Self {
-        Sums {
-            to_do: AtomicU64::new(0),
-            done: AtomicU64::new(0),
-        }
-    }
-
-    /// Whether so many leaves were announced, and so many computed.
-    pub(super) fn are(&self, to_do: u64, done: u64) -> bool {
-        self.to_do.load(Ordering::SeqCst) == to_do && self.done.load(Ordering::SeqCst) == done
-    }
-}
-
-impl Progress for Sums {
-    fn begin(&self, leaves: u64) {
-        self.to_do.fetch_add(leaves, Ordering::SeqCst);
-    }
-
-    fn done(&self, leaves: u64) {
-        self.done.fetch_add(leaves, Ordering::SeqCst);
-    }
-}
 
 /// What serves these leaves of a tree of this height.
 fn built(
@@ -57,9 +26,9 @@ fn each_leaf_is_reported_once(rt: HostRuntime) -> Result<(), Fail> {
     for (lms, first, last, leaves) in [(LmsType::H5, 3, 7, 32), (LmsType::H15, 1023, 1024, 32768)] {
         let sums = Sums::new();
         let begun = Begun::new(&sums, leaves);
-        assert!(rt; sums.are(leaves, 0));
+        assert!(rt; sums.leaves_are(leaves, 0));
         drop(built(&rt, lms, first, last, &begun)?);
-        assert!(rt; sums.are(leaves, leaves));
+        assert!(rt; sums.leaves_are(leaves, leaves));
     }
     Ok(())
 }
@@ -69,7 +38,7 @@ fn each_leaf_is_reported_once(rt: HostRuntime) -> Result<(), Fail> {
 fn no_leaf_is_computed_where_memory_is_refused(rt: HostRuntime) {
     let sums = Sums::new();
     match built(&rt, LmsType::H5, 3, 9, &Begun::new(&sums, 32)) {
-        Ok(_) => assert!(rt; sums.are(32, 32)),
-        Err(OutOfMemory) => assert!(rt; sums.are(32, 0)),
+        Ok(_) => assert!(rt; sums.leaves_are(32, 32)),
+        Err(OutOfMemory) => assert!(rt; sums.leaves_are(32, 0)),
     }
 }

@@ -34,9 +34,7 @@ fn keeps_each<W: World>(
     name: &str,
     left: &[u8],
 ) -> Result<bool, Fail> {
-    let Some(lock) = world.lock(alloc, name)? else {
-        return Ok(false);
-    };
+    let lock = world.lock(alloc, name)?;
     let none = gives_none(alloc, world, &lock, usize::MAX);
     let texts = keeps(alloc, world, &lock, b"a")
         && keeps(alloc, world, &lock, b"")
@@ -54,9 +52,7 @@ fn fails<W: World>(
     fault: WorldFault,
     left: &[u8],
 ) -> Result<bool, Fail> {
-    let Some(lock) = world.lock(alloc, name)? else {
-        return Ok(false);
-    };
+    let lock = world.lock(alloc, name)?;
     let failed = world.write_nodes(alloc, &lock, b"new") == Err(fault);
     let stays = gives(alloc, world, &lock, left.len(), left);
     world.unlock(lock);
@@ -109,9 +105,7 @@ fn reads_none_of_what_is_written<W: World>(
     world: &mut W,
     name: &str,
 ) -> Result<bool, Fail> {
-    let Some(lock) = world.lock(alloc, name)? else {
-        return Ok(false);
-    };
+    let lock = world.lock(alloc, name)?;
     let written = world.write_nodes(alloc, &lock, b"nodes").is_ok();
     let none = gives_none(alloc, world, &lock, usize::MAX);
     world.unlock(lock);
@@ -146,9 +140,7 @@ fn gives_what_was_set(alloc: Global) -> Result<bool, Fail> {
     let none = world.nodes().is_none();
     world.set_nodes(Vec::from_slice(alloc, b"set")?);
     world.write("file", b"bytes")?;
-    let Some(lock) = world.lock(alloc, "state")? else {
-        return Ok(false);
-    };
+    let lock = world.lock(alloc, "state")?;
     let store = world.take_store(alloc, &lock)?;
     world.put_back(&lock, store);
     let given = gives(alloc, &mut world, &lock, 3, b"set")

@@ -1,6 +1,6 @@
 //! What a world in memory holds after calls, against a model that replays them.
 use lms_book::StateStore;
-use lms_world::{MemoryLock, MemoryWorld, World, WorldFault};
+use lms_world::{LockFault, MemoryLock, MemoryWorld, World, WorldFault};
 use std::alloc::Global;
 use std::test::Fail;
 
@@ -63,9 +63,7 @@ fn play(alloc: Global, world: &mut MemoryWorld, round: &Round) -> Result<bool, F
     world.write(round.name, round.file)?;
     let refused = world.write("broken", round.file).is_err()
         && world.write_flushed(alloc, "broken", round.file).is_err();
-    let Some(lock) = world.lock(alloc, "state")? else {
-        return Ok(false);
-    };
+    let lock = world.lock(alloc, "state")?;
     look(alloc, world, &lock, round);
     let mut store = world.take_store(alloc, &lock)?;
     let replaced = store.replace(round.state).is_ok();
@@ -106,5 +104,25 @@ fn a_world_ends_as_its_calls_say(rt: HostRuntime) -> Result<(), Fail> {
         assert!(rt; play(rt.alloc(), &mut world, round)?);
         assert!(rt; is_after(rt.alloc(), &mut world, &ROUNDS[..=at], round));
     }
+    Ok(())
+}
+
+/// Why the state of a world is not locked. `None` where it can be.
+fn lock_fault(alloc: Global, world: &mut MemoryWorld) -> Option<LockFault> {
+    match world.lock(alloc, "key.state") {
+        Ok(lock) => {
+            world.unlock(lock);
+            None
+        }
+        Err(fault) => Some(fault),
+    }
+}
+
+#[test]
+fn a_state_in_use_is_not_locked(rt: HostRuntime) -> Result<(), Fail> {
+    let mut world = MemoryWorld::new(rt.alloc());
+    assert!(rt; lock_fault(rt.alloc(), &mut world).is_none());
+    world.use_elsewhere();
+    assert!(rt; lock_fault(rt.alloc(), &mut world) == Some(LockFault::InUse));
     Ok(())
 }

@@ -13,9 +13,11 @@ is_built c =
     let bare_local : (fields_of c.after_help.result).has_globals ≡ false = search rules in
     let state = required_option (codes "state") in
     let bare = new_app (codes "batch") in
-    let with_state = with_option bare state _ _ _ (bare_app, bare_local) c.option.ensures.rule c.option.ensures.local c.in_ok-arg.ensures in
+    let with_state = with_option bare state _ _ _
+    (bare_app, bare_local) c.option.ensures.rule c.option.ensures.local c.in_ok-arg.ensures in
     IfOk-weaker c.arg-2.result _ _
-    (λ whole adds. with_option (with_rule bare state) (required_option (codes "workers")) _ _ whole with_state c.option-2.ensures.rule c.option-2.ensures.local adds)
+    (λ whole adds. with_option (with_rule bare state)
+    (required_option (codes "workers")) _ _ whole with_state c.option-2.ensures.rule c.option-2.ensures.local adds)
     c.arg-2.ensures
 
 pub returns-clause-app : goal.returns-clause-app

@@ -19,12 +19,17 @@ is_built c =
     let one = with_rule bare public in
     let two = with_rule one endorsement in
     let three = with_rule two signer in
-    let with_public = with_option bare public _ _ _ (bare_app, bare_local) c.option.ensures.rule c.option.ensures.local c.in_ok-arg.ensures in
-    let with_endorsement = with_option one endorsement _ _ _ with_public c.option-2.ensures.rule c.option-2.ensures.local c.in_ok-arg-2.ensures in
-    let with_signer = with_option two signer _ _ _ with_endorsement c.option-3.ensures.rule c.option-3.ensures.local c.in_ok-arg-3.ensures in
-    let with_signature = with_option three signature _ _ _ with_signer c.option-4.ensures.rule c.option-4.ensures.local c.in_ok-arg-4.ensures in
+    let with_public = with_option bare public _ _ _
+    (bare_app, bare_local) c.option.ensures.rule c.option.ensures.local c.in_ok-arg.ensures in
+    let with_endorsement = with_option one endorsement _ _ _ with_public c.option-2.ensures.rule
+    c.option-2.ensures.local c.in_ok-arg-2.ensures in
+    let with_signer = with_option two signer _ _ _ with_endorsement c.option-3.ensures.rule c.option-3.ensures.local
+    c.in_ok-arg-3.ensures in
+    let with_signature = with_option three signature _ _ _ with_signer c.option-4.ensures.rule c.option-4.ensures.local
+    c.in_ok-arg-4.ensures in
     IfOk-weaker c.arg-5.result _ _
-    (λ whole adds. with_option (with_rule three signature) (required_option (codes "out")) _ _ whole with_signature c.option-5.ensures.rule c.option-5.ensures.local adds)
+    (λ whole adds. with_option (with_rule three signature)
+    (required_option (codes "out")) _ _ whole with_signature c.option-5.ensures.rule c.option-5.ensures.local adds)
     c.arg-5.ensures
 
 pub returns-clause-app : goal.returns-clause-app

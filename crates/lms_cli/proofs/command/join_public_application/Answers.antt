@@ -15,10 +15,13 @@ is_built c =
     let signer = required_option (codes "signer") in
     let bare = new_app (codes "join-public") in
     let one = with_rule bare public in
-    let with_public = with_option bare public _ _ _ (bare_app, bare_local) c.option.ensures.rule c.option.ensures.local c.in_ok-arg.ensures in
-    let with_signer = with_option one signer _ _ _ with_public c.option-2.ensures.rule c.option-2.ensures.local c.in_ok-arg-2.ensures in
+    let with_public = with_option bare public _ _ _
+    (bare_app, bare_local) c.option.ensures.rule c.option.ensures.local c.in_ok-arg.ensures in
+    let with_signer = with_option one signer _ _ _ with_public c.option-2.ensures.rule c.option-2.ensures.local
+    c.in_ok-arg-2.ensures in
     IfOk-weaker c.arg-3.result _ _
-    (λ whole adds. with_option (with_rule one signer) (required_option (codes "out")) _ _ whole with_signer c.option-3.ensures.rule c.option-3.ensures.local adds)
+    (λ whole adds. with_option (with_rule one signer)
+    (required_option (codes "out")) _ _ whole with_signer c.option-3.ensures.rule c.option-3.ensures.local adds)
     c.arg-3.ensures
 
 pub returns-clause-app : goal.returns-clause-app

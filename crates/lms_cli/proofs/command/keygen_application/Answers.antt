@@ -19,12 +19,17 @@ is_built c =
     let one = with_rule bare levels in
     let two = with_rule one seed in
     let three = with_rule two id in
-    let with_levels = with_option bare levels _ _ _ (bare_app, bare_local) c.option.ensures.rule c.option.ensures.local c.in_ok-arg.ensures in
-    let with_seed = with_option one seed _ _ _ with_levels c.option-2.ensures.rule c.option-2.ensures.local c.in_ok-arg-2.ensures in
-    let with_id = with_option two id _ _ _ with_seed c.option-3.ensures.rule c.option-3.ensures.local c.in_ok-arg-3.ensures in
-    let with_state = with_option three state _ _ _ with_id c.option-4.ensures.rule c.option-4.ensures.local c.in_ok-arg-4.ensures in
+    let with_levels = with_option bare levels _ _ _
+    (bare_app, bare_local) c.option.ensures.rule c.option.ensures.local c.in_ok-arg.ensures in
+    let with_seed = with_option one seed _ _ _ with_levels c.option-2.ensures.rule c.option-2.ensures.local
+    c.in_ok-arg-2.ensures in
+    let with_id = with_option two id _ _ _ with_seed c.option-3.ensures.rule c.option-3.ensures.local
+    c.in_ok-arg-3.ensures in
+    let with_state = with_option three state _ _ _ with_id c.option-4.ensures.rule c.option-4.ensures.local
+    c.in_ok-arg-4.ensures in
     IfOk-weaker c.arg-5.result _ _
-    (λ whole adds. with_option (with_rule three state) (required_option (codes "public")) _ _ whole with_state c.option-5.ensures.rule c.option-5.ensures.local adds)
+    (λ whole adds. with_option (with_rule three state)
+    (required_option (codes "public")) _ _ whole with_state c.option-5.ensures.rule c.option-5.ensures.local adds)
     c.arg-5.ensures
 
 pub returns-clause-app : goal.returns-clause-app

@@ -10,5 +10,14 @@ unreachable-requires c =
     let other = c.in_default in
     let not_join_public = other.if-str_eq-8-ensures.0 in
     subst (λ (o : Option Subcommand). HasOptions o (found_of c.args.options.now))
-    (none_called subcommands c.args.name.now (other.not-keygen, (other.not-info, (other.not-public, (other.not-sign, (other.not-batch, (other.not-verify, (other.not-join, (not_join_public, tt)))))))))
+    (none_called subcommands c.args.name.now (
+      other.not-keygen,
+      (
+        other.not-info,
+        (
+          other.not-public,
+          (other.not-sign, (other.not-batch, (other.not-verify, (other.not-join, (not_join_public, tt))))),
+        ),
+      ),
+    ))
     c.requires

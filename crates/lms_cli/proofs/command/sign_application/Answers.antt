@@ -17,11 +17,15 @@ is_built c =
     let bare = new_app (codes "sign") in
     let one = with_rule bare state in
     let two = with_rule one random in
-    let with_state = with_option bare state _ _ _ (bare_app, bare_local) c.option.ensures.rule c.option.ensures.local c.in_ok-arg.ensures in
-    let with_random = with_option one random _ _ _ with_state c.option-2.ensures.rule c.option-2.ensures.local c.in_ok-arg-2.ensures in
-    let with_message = with_option two message _ _ _ with_random c.option-3.ensures.rule c.option-3.ensures.local c.in_ok-arg-3.ensures in
+    let with_state = with_option bare state _ _ _
+    (bare_app, bare_local) c.option.ensures.rule c.option.ensures.local c.in_ok-arg.ensures in
+    let with_random = with_option one random _ _ _ with_state c.option-2.ensures.rule c.option-2.ensures.local
+    c.in_ok-arg-2.ensures in
+    let with_message = with_option two message _ _ _ with_random c.option-3.ensures.rule c.option-3.ensures.local
+    c.in_ok-arg-3.ensures in
     IfOk-weaker c.arg-4.result _ _
-    (λ whole adds. with_option (with_rule two message) (required_option (codes "out")) _ _ whole with_message c.option-4.ensures.rule c.option-4.ensures.local adds)
+    (λ whole adds. with_option (with_rule two message)
+    (required_option (codes "out")) _ _ whole with_message c.option-4.ensures.rule c.option-4.ensures.local adds)
     c.arg-4.ensures
 
 pub returns-clause-app : goal.returns-clause-app

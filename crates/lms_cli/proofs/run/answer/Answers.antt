@@ -4,7 +4,8 @@ use Rattle.lms_cli.proofs.run.answer.Goals as goal
 
 pub returns-in-Ok-clause-unread : goal.returns-in-Ok-clause-unread
 returns-in-Ok-clause-unread g c =
-    ⊎_elim inl (λ reads. inr (c.in-Ok.command, (c.in-Ok.ensures.reads, c.in-Ok.ensures.faults), reads)) c.obey.ensures.unread
+    ⊎_elim inl (λ reads. inr (c.in-Ok.command, (c.in-Ok.ensures.reads, c.in-Ok.ensures.faults), reads))
+    c.obey.ensures.unread
 
 pub returns-in-Ok-clause-logged : goal.returns-in-Ok-clause-logged
 returns-in-Ok-clause-logged g c =

@@ -5,27 +5,32 @@ use Rattle.lms_cli.proofs.run.obey.Goals as goal
 
 pub returns-in_err-key-in-Keygen-clause-log_failed : goal.returns-in_err-key-in-Keygen-clause-log_failed
 returns-in_err-key-in-Keygen-clause-log_failed g c =
-    let refused = rw (c.deref.ensures, c.deref-in-Keygen.ensures, c.deref-in-Keygen-2.ensures) at c.in_err-key-in-Keygen.ensures.refused in
+    let refused = rw (c.deref.ensures, c.deref-in-Keygen.ensures, c.deref-in-Keygen-2.ensures) at
+    c.in_err-key-in-Keygen.ensures.refused in
     rw c.in-Keygen.is (passed_up _ _ _ c.from_residual.ensures.1 (inl (refused, refl, refl)))
 
 pub returns-in_err-sign_file-in-Sign-clause-log_failed : goal.returns-in_err-sign_file-in-Sign-clause-log_failed
 returns-in_err-sign_file-in-Sign-clause-log_failed g c =
-    let failed = failed_as c.deref-in-Sign-2.ensures c.deref-in-Sign-3.ensures c.deref-in-Sign.ensures c.deref-in-Sign-4.ensures c.in_err-sign_file-in-Sign.ensures.log_failed in
+    let failed = failed_as c.deref-in-Sign-2.ensures c.deref-in-Sign-3.ensures c.deref-in-Sign.ensures
+    c.deref-in-Sign-4.ensures c.in_err-sign_file-in-Sign.ensures.log_failed in
     rw c.in-Sign.is (passed_up _ _ _ c.from_residual-in_err-sign_file-in-Sign.ensures.1 failed)
 
 pub returns-in_ok-sign_file-in-Sign-clause-logged : goal.returns-in_ok-sign_file-in-Sign-clause-logged
 returns-in_ok-sign_file-in-Sign-clause-logged g c =
-    let logged = signed_as c.deref-in-Sign-2.ensures c.deref-in-Sign-3.ensures c.deref-in-Sign.ensures c.deref-in-Sign-4.ensures c.in_ok-sign_file-in-Sign.ensures.logged in
+    let logged = signed_as c.deref-in-Sign-2.ensures c.deref-in-Sign-3.ensures c.deref-in-Sign.ensures
+    c.deref-in-Sign-4.ensures c.in_ok-sign_file-in-Sign.ensures.logged in
     rw c.in-Sign.is (refl, logged)
 
 pub returns-in_err-sign_jobs-in-Batch-clause-log_failed : goal.returns-in_err-sign_jobs-in-Batch-clause-log_failed
 returns-in_err-sign_jobs-in-Batch-clause-log_failed g c =
-    let failed = rw (c.deref-in-Batch.ensures, c.deref-in-Batch-2.ensures) at c.in_err-sign_jobs-in-Batch.ensures.log_failed in
+    let failed = rw (c.deref-in-Batch.ensures, c.deref-in-Batch-2.ensures) at
+    c.in_err-sign_jobs-in-Batch.ensures.log_failed in
     rw c.in-Batch.is (passed_up _ _ _ c.from_residual-in_err-sign_jobs-in-Batch.ensures.1 failed)
 
 pub returns-in_ok-sign_jobs-in-Batch-clause-logged : goal.returns-in_ok-sign_jobs-in-Batch-clause-logged
 returns-in_ok-sign_jobs-in-Batch-clause-logged g c =
-    let logged = rw (c.deref-in-Batch.ensures, c.deref-in-Batch-2.ensures) at c.in_ok-sign_jobs-in-Batch.ensures.logged in
+    let logged = rw (c.deref-in-Batch.ensures, c.deref-in-Batch-2.ensures) at
+    c.in_ok-sign_jobs-in-Batch.ensures.logged in
     rw c.in-Batch.is (refl, logged)
 
 pub returns-in_ok-describe-in-Info-clause-logged : goal.returns-in_ok-describe-in-Info-clause-logged
@@ -35,7 +40,8 @@ returns-in_ok-describe-in-Info-clause-logged g c =
 
 pub returns-in_err-verdict-in-Verify-clause-log_failed : goal.returns-in_err-verdict-in-Verify-clause-log_failed
 returns-in_err-verdict-in-Verify-clause-log_failed g c =
-    let failed = rw (c.deref-in-Verify.ensures, c.deref-in-Verify-2.ensures, c.deref-in-Verify-3.ensures) at c.in_err-verdict-in-Verify.ensures.log_failed in
+    let failed = rw (c.deref-in-Verify.ensures, c.deref-in-Verify-2.ensures, c.deref-in-Verify-3.ensures) at
+    c.in_err-verdict-in-Verify.ensures.log_failed in
     rw c.in-Verify.is (passed_up _ _ _ c.from_residual-in_err-verdict-in-Verify.ensures.1 failed)
 
 pub returns-in_err-make_key-in-Keygen-clause-log_failed : goal.returns-in_err-make_key-in-Keygen-clause-log_failed
@@ -78,23 +84,29 @@ returns-in_ok-make_key-in-Keygen-clause-unread g c =
 
 pub returns-in_ok-join_signature-in-Join-clause-logged : goal.returns-in_ok-join_signature-in-Join-clause-logged
 returns-in_ok-join_signature-in-Join-clause-logged g c =
-    let same = same_names c.deref-in-Join.ensures c.deref-in-Join-2.ensures c.deref-in-Join-3.ensures c.deref-in-Join-4.ensures c.deref-in-Join-5.ensures in
+    let same = same_names c.deref-in-Join.ensures c.deref-in-Join-2.ensures c.deref-in-Join-3.ensures
+    c.deref-in-Join-4.ensures c.deref-in-Join-5.ensures in
     rw c.in-Join.is (refl, refl, joined_as same c.in_ok-join_signature-in-Join.ensures.logged)
 
-pub returns-in_err-join_signature-in-Join-clause-log_failed : goal.returns-in_err-join_signature-in-Join-clause-log_failed
+pub returns-in_err-join_signature-in-Join-clause-log_failed :
+    goal.returns-in_err-join_signature-in-Join-clause-log_failed
 returns-in_err-join_signature-in-Join-clause-log_failed g c =
-    let same = same_names c.deref-in-Join.ensures c.deref-in-Join-2.ensures c.deref-in-Join-3.ensures c.deref-in-Join-4.ensures c.deref-in-Join-5.ensures in
+    let same = same_names c.deref-in-Join.ensures c.deref-in-Join-2.ensures c.deref-in-Join-3.ensures
+    c.deref-in-Join-4.ensures c.deref-in-Join-5.ensures in
     let failed = not_joined_as same c.in_err-join_signature-in-Join.ensures.log_failed in
     rw c.in-Join.is (passed_up _ _ _ c.from_residual-in_err-join_signature-in-Join.ensures.1 (refl, failed))
 
-pub returns-in_ok-join_public_keys-in-JoinPublic-clause-logged : goal.returns-in_ok-join_public_keys-in-JoinPublic-clause-logged
+pub returns-in_ok-join_public_keys-in-JoinPublic-clause-logged :
+    goal.returns-in_ok-join_public_keys-in-JoinPublic-clause-logged
 returns-in_ok-join_public_keys-in-JoinPublic-clause-logged g c =
     let logged = rw (c.deref-in-JoinPublic.ensures, c.deref-in-JoinPublic-2.ensures, c.deref-in-JoinPublic-3.ensures) at
     c.in_ok-join_public_keys-in-JoinPublic.ensures.logged in
     rw c.in-JoinPublic.is (refl, refl, logged)
 
-pub returns-in_err-join_public_keys-in-JoinPublic-clause-log_failed : goal.returns-in_err-join_public_keys-in-JoinPublic-clause-log_failed
+pub returns-in_err-join_public_keys-in-JoinPublic-clause-log_failed :
+    goal.returns-in_err-join_public_keys-in-JoinPublic-clause-log_failed
 returns-in_err-join_public_keys-in-JoinPublic-clause-log_failed g c =
     let failed = rw (c.deref-in-JoinPublic.ensures, c.deref-in-JoinPublic-2.ensures, c.deref-in-JoinPublic-3.ensures) at
     c.in_err-join_public_keys-in-JoinPublic.ensures.log_failed in
-    rw c.in-JoinPublic.is (passed_up _ _ _ c.from_residual-in_err-join_public_keys-in-JoinPublic.ensures.1 (refl, failed))
+    rw c.in-JoinPublic.is
+    (passed_up _ _ _ c.from_residual-in_err-join_public_keys-in-JoinPublic.ensures.1 (refl, failed))

@@ -1,5 +1,5 @@
 use Rattle.std.proofs.Common.{List, ℕ, Option, ap, ◌<◌, ◌∙◌, inl, inr, map, subst}
-use Rattle.lms_lines.specs.AnswerLines.{AppendsFront}
+use Rattle.lms_blocks.specs.Writing.{AppendsFront}
 use Rattle.lms_commands.specs.Faults.{fault_line, status_number}
 use Rattle.lms_commands.specs.declared.status.Status.{Status}
 use Rattle.lms_cli.proofs.Ending.{runs, speaks}

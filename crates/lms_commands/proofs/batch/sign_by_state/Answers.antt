@@ -16,8 +16,10 @@ returns-clause-logged g c =
     let before = g.I.Read.remaining c.args.input.now in
     let after = g.I.Read.remaining c.sign_by_book-answer.new.input in
     IfOk-weaker c.sign_by_book-answer.result.0 (λ signed. IsSignedByBook book before after signed left)
-    (λ signed. (signs : LogsBatch before after signed.batch (g.W.World.events c.args.world.now) (g.W.World.events c.put_back.new.self)) × (signed.asked ≡ length signs.jobs))
-    (log_batch book left _ _ _ _ opened.logged (just_opened book opened.fresh) c.close.ensures.store c.put_back.ensures.logged before after)
+    (λ signed. (signs : LogsBatch before after signed.batch (g.W.World.events c.args.world.now)
+    (g.W.World.events c.put_back.new.self)) × (signed.asked ≡ length signs.jobs))
+    (log_batch book left _ _ _ _ opened.logged
+    (just_opened book opened.fresh) c.close.ensures.store c.put_back.ensures.logged before after)
     c.sign_by_book-answer.ensures.signed
 
 pub returns-clause-log_failed : goal.returns-clause-log_failed
@@ -31,7 +33,8 @@ returns-clause-log_failed g c =
     (λ fault. LogsNoBatch before after fault (g.W.World.events c.args.world.now) (g.W.World.events c.put_back.new.self))
     (λ fault is. inr (
       state_of book,
-      log_refused book left _ _ _ _ opened.logged (just_opened book opened.fresh) c.close.ensures.store c.put_back.ensures.logged before after fault is,
+      log_refused book left _ _ _ _ opened.logged
+          (just_opened book opened.fresh) c.close.ensures.store c.put_back.ensures.logged before after fault is,
     ))
     c.sign_by_book-answer.ensures.refused
 

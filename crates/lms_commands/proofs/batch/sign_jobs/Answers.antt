@@ -14,7 +14,9 @@ returns-clause-logged g c =
     (λ is. (
       last,
       is.0,
-      subst (λ (log : WorldCalls). LogsAnswers input rest c.args.output.now c.sign_locked-done.new.output is.0 is.0 log last) c.in_ok-lock.ensures.logged is.1,
+      subst (λ (log : WorldCalls).
+          LogsAnswers input rest c.args.output.now c.sign_locked-done.new.output is.0 is.0 log last)
+          c.in_ok-lock.ensures.logged is.1,
       c.unlock.ensures.logged,
       (c.in-Some.workers, c.in-Some.ensures.some),
     ))
@@ -39,7 +41,8 @@ returns-clause-log_failed g c =
 
 pub returns-clause-follows : goal.returns-clause-follows
 returns-clause-follows g c =
-    one_more (both_follow (one_call c.in_ok-lock.ensures.logged c.in_ok-lock.ensures.acts) c.sign_locked-done.ensures.follows) c.unlock.ensures.logged c.unlock.ensures.acts
+    one_more (both_follow (one_call c.in_ok-lock.ensures.logged c.in_ok-lock.ensures.acts)
+    c.sign_locked-done.ensures.follows) c.unlock.ensures.logged c.unlock.ensures.acts
 
 pub returns-in_err-lock-clause-follows : goal.returns-in_err-lock-clause-follows
 returns-in_err-lock-clause-follows g c = one_call c.in_err-lock.ensures.logged c.in_err-lock.ensures.acts

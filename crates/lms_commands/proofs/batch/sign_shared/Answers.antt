@@ -25,7 +25,8 @@ returns-clause-signed g c =
     (λ signed is. (
       is.0,
       subst (λ (s : SharedState). IsSignedAt s before after signed is.0) service is.2,
-      settled_one c.args.book c.into_book.result.book c.in-Ok-settle.left _ is.0 book (lent_one _ _ _ _ is.0 len c.in-Ok.ensures.desks is.1) c.in-Ok-settle.ensures.settled,
+      settled_one c.args.book c.into_book.result.book c.in-Ok-settle.left _ is.0 book
+          (lent_one _ _ _ _ is.0 len c.in-Ok.ensures.desks is.1) c.in-Ok-settle.ensures.settled,
     ))
     c.sign_at_desk-answer.ensures.signed
 
@@ -40,6 +41,7 @@ returns-clause-refused g c =
     (λ fault is. (
       is.0,
       subst (λ (s : SharedState). IsRefusedAt s before after fault is.0) service is.2,
-      settled_one c.args.book c.into_book.result.book c.in-Ok-settle.left _ is.0 book (lent_one _ _ _ _ is.0 len c.in-Ok.ensures.desks is.1) c.in-Ok-settle.ensures.settled,
+      settled_one c.args.book c.into_book.result.book c.in-Ok-settle.left _ is.0 book
+          (lent_one _ _ _ _ is.0 len c.in-Ok.ensures.desks is.1) c.in-Ok-settle.ensures.settled,
     ))
     c.sign_at_desk-answer.ensures.refused

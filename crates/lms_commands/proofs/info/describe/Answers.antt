@@ -24,7 +24,9 @@ returns-clause-log_failed g c =
     IfErr-weaker c.describe_locked-described.result _ _
     (λ fault is. inr (
       last,
-      subst (λ (log : WorldCalls). LogsUndescribed c.args.output.now c.describe_locked-described.new.output fault log last) c.in_ok-lock.ensures.logged is,
+      subst (λ (log : WorldCalls).
+          LogsUndescribed c.args.output.now c.describe_locked-described.new.output fault log last)
+          c.in_ok-lock.ensures.logged is,
       c.unlock.ensures.logged,
     ))
     c.describe_locked-described.ensures.log_failed
@@ -34,5 +36,6 @@ returns-in_err-lock-clause-follows g c = one_call c.in_err-lock.ensures.logged c
 
 pub returns-clause-follows : goal.returns-clause-follows
 returns-clause-follows g c =
-    one_more (both_follow (one_call c.in_ok-lock.ensures.logged c.in_ok-lock.ensures.acts) c.describe_locked-described.ensures.follows)
+    one_more (both_follow (one_call c.in_ok-lock.ensures.logged c.in_ok-lock.ensures.acts)
+    c.describe_locked-described.ensures.follows)
     c.unlock.ensures.logged c.unlock.ensures.acts

@@ -11,7 +11,8 @@ returns-in-Ok-clause-logged g c =
       c.args.trees.now,
       answer,
       refl,
-      c.write_nodes.ensures.logged ∙ ap (λ (t : List ℕ). NodesWritten t answer ∷ g.W.World.events c.args.world.now) text,
+      c.write_nodes.ensures.logged
+          ∙ ap (λ (t : List ℕ). NodesWritten t answer ∷ g.W.World.events c.args.world.now) text,
     )
 
 pub returns-in-Ok-clause-follows : goal.returns-in-Ok-clause-follows

@@ -11,7 +11,8 @@ returns-clause-logged g c =
     on_ok_weaker c.make_locked-made.result
     (λ is. (
       last,
-      subst (λ (log : WorldCalls). PublishesKey c.args.key c.args.public.now c.args.output.now log last) c.in_ok-lock.ensures.logged is.0,
+      subst (λ (log : WorldCalls). PublishesKey c.args.key c.args.public.now c.args.output.now log last)
+          c.in_ok-lock.ensures.logged is.0,
       is.1,
       c.unlock.ensures.logged,
     ))
@@ -23,14 +24,17 @@ returns-clause-log_failed g c =
     IfErr-weaker c.make_locked-made.result _ _
     (λ fault is. inr (
       last,
-      subst (λ (log : WorldCalls). LogsUnmade c.args.key c.args.public.now c.args.output.now c.make_locked-made.new.output fault log last) c.in_ok-lock.ensures.logged is,
+      subst (λ (log : WorldCalls).
+          LogsUnmade c.args.key c.args.public.now c.args.output.now c.make_locked-made.new.output fault log last)
+          c.in_ok-lock.ensures.logged is,
       c.unlock.ensures.logged,
     ))
     c.make_locked-made.ensures.log_failed
 
 pub returns-clause-follows : goal.returns-clause-follows
 returns-clause-follows g c =
-    one_more (both_follow (one_call c.in_ok-lock.ensures.logged c.in_ok-lock.ensures.acts) c.make_locked-made.ensures.follows) c.unlock.ensures.logged c.unlock.ensures.acts
+    one_more (both_follow (one_call c.in_ok-lock.ensures.logged c.in_ok-lock.ensures.acts)
+    c.make_locked-made.ensures.follows) c.unlock.ensures.logged c.unlock.ensures.acts
 
 pub returns-in_err-lock-clause-follows : goal.returns-in_err-lock-clause-follows
 returns-in_err-lock-clause-follows g c = one_call c.in_err-lock.ensures.logged c.in_err-lock.ensures.acts

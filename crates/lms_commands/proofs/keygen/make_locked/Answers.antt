@@ -14,9 +14,12 @@ use Rattle.lms_world.proofs.Following.{one_call, both_follow}
 use Rattle.lms_commands.proofs.keygen.make_locked.Goals as goal
 
 -- the public key was written or not, once the key's state was stored and trees of it were kept
-module _ (key : HssKey) (public : Bytes) (trees : Way) (old asked stored kept : WorldCalls) (genuine : AreGenuineTrees key (Some trees))
-    (asked_is : asked ≡ Asked false ∷ old) (stores : StoresKey key asked stored) (keeps : LogsKeeping (Some trees) stored kept) where
-  abbrev writes_so : (answer : Writing) → WritesKey key public answer old (Written public (hss_public_key (hss_key_of key)) answer ∷ kept)
+module _ (key : HssKey) (public : Bytes) (trees : Way) (old asked stored kept : WorldCalls)
+    (genuine : AreGenuineTrees key (Some trees))
+    (asked_is : asked ≡ Asked false ∷ old) (stores : StoresKey key asked stored)
+    (keeps : LogsKeeping (Some trees) stored kept) where
+  abbrev writes_so : (answer : Writing)
+      → WritesKey key public answer old (Written public (hss_public_key (hss_key_of key)) answer ∷ kept)
   writes_so answer = record {
     trees = Some trees;
     genuine = genuine;
@@ -34,14 +37,15 @@ returns-clause-logged g c =
     let kept = g.W.World.events c.keep_trees.new.world in
     let new = g.W.World.events c.publish.new.world in
     let public = hss_public_key (hss_key_of c.args.key) in
-    let genuine : AreGenuineTrees c.args.key (Some c.in_ok-trees.trees) = (c.in_ok-trees.ensures.way, c.in_ok-trees.ensures.key, c.in_ok-trees.ensures.genuine) in
-    let is = c.public-text.ensures.right c.in_ok-trees.ensures.genuine ∙ ap (λ (key : HssKey). hss_public_key (hss_key_of key)) c.in_ok-trees.ensures.key in
+    let genuine = c.in_ok-trees.ensures.trees in
+    let is = c.public-text.ensures.right genuine.2
+    ∙ ap (λ (key : HssKey). hss_public_key (hss_key_of key)) genuine.1 in
     on_ok_weaker c.publish.result
     (λ published. (
       record {
         until_written = Written c.args.public.now public (Ok tt) ∷ kept;
         writes = writes_so c.args.key c.args.public.now c.in_ok-trees.trees _ _ stored kept genuine
-            c.if-exists.ensures.logged c.in_ok-store_key.ensures.logged c.keep_trees.ensures.logged (Ok tt);
+            c.if-exists.ensures.logged c.in_ok-trees.ensures.logged c.keep_trees.ensures.logged (Ok tt);
         prints = published.0;
       },
       published.1,
@@ -59,12 +63,13 @@ returns-clause-log_failed g c =
     let stored = g.W.World.events c.store_key.new.world in
     let kept = g.W.World.events c.keep_trees.new.world in
     let new = g.W.World.events c.publish.new.world in
-    let genuine : AreGenuineTrees c.args.key (Some c.in_ok-trees.trees) = (c.in_ok-trees.ensures.way, c.in_ok-trees.ensures.key, c.in_ok-trees.ensures.genuine) in
-    let is = c.public-text.ensures.right c.in_ok-trees.ensures.genuine ∙ ap (λ (key : HssKey). hss_public_key (hss_key_of key)) c.in_ok-trees.ensures.key in
+    let genuine = c.in_ok-trees.ensures.trees in
+    let is = c.public-text.ensures.right genuine.2
+    ∙ ap (λ (key : HssKey). hss_public_key (hss_key_of key)) genuine.1 in
     IfErr-weaker c.publish.result _ _
     (unmade c.args.key c.args.public.now before printed old kept new
     (writes_so c.args.key c.args.public.now c.in_ok-trees.trees old _ stored kept genuine
-    c.if-exists.ensures.logged c.in_ok-store_key.ensures.logged c.keep_trees.ensures.logged))
+    c.if-exists.ensures.logged c.in_ok-trees.ensures.logged c.keep_trees.ensures.logged))
     (subst
     (λ (bytes : List ℕ). IfErr c.publish.result
     (λ fault. FailsToPublish c.args.public.now bytes (capacity_line c.args.key) before printed fault kept new))
@@ -72,13 +77,12 @@ returns-clause-log_failed g c =
 
 pub returns-clause-follows : goal.returns-clause-follows
 returns-clause-follows g c =
-    both_follow (both_follow (both_follow (one_call c.if-exists.ensures.logged c.if-exists.ensures.acts) c.store_key.ensures.follows) c.keep_trees.ensures.follows) c.publish.ensures.follows
+    both_follow (both_follow (both_follow (one_call c.if-exists.ensures.logged c.if-exists.ensures.acts)
+    c.store_key.ensures.follows) c.keep_trees.ensures.follows) c.publish.ensures.follows
 
 pub returns-then-exists-clause-follows : goal.returns-then-exists-clause-follows
 returns-then-exists-clause-follows g c = one_call c.if-exists.ensures.logged c.if-exists.ensures.acts
 
 pub returns-in_err-trees-clause-follows : goal.returns-in_err-trees-clause-follows
-returns-in_err-trees-clause-follows g c = one_call c.if-exists.ensures.logged c.if-exists.ensures.acts
-
-pub returns-in_err-store_key-clause-follows : goal.returns-in_err-store_key-clause-follows
-returns-in_err-store_key-clause-follows g c = both_follow (one_call c.if-exists.ensures.logged c.if-exists.ensures.acts) c.in_err-store_key.ensures.follows
+returns-in_err-trees-clause-follows g c =
+    both_follow (one_call c.if-exists.ensures.logged c.if-exists.ensures.acts) c.in_err-trees.ensures.follows

@@ -36,7 +36,8 @@ returns-clause-log_failed g c =
     (sym read.1)
     (subst
     (λ (bytes : List ℕ). IfErr c.publish.result
-    (λ fault. FailsToPublish c.args.public.now bytes (capacity_line c.in_ok-key.key) c.args.output.now c.publish.new.output fault last new))
+    (λ fault. FailsToPublish c.args.public.now bytes
+    (capacity_line c.in_ok-key.key) c.args.output.now c.publish.new.output fault last new))
     c.in_ok-text.ensures c.publish.ensures.failed))
 
 pub returns-in_err-key-clause-log_failed : goal.returns-in_err-key-clause-log_failed

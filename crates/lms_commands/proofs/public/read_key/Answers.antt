@@ -29,12 +29,14 @@ returns-in-Err-clause-unread g c =
 
 pub returns-in-Ok-clause-follows : goal.returns-in-Ok-clause-follows
 returns-in-Ok-clause-follows g c =
-    one_more (both_follow (one_call c.in_ok-lock.ensures.logged c.in_ok-lock.ensures.acts) c.read_state-read.ensures.follows)
+    one_more
+    (both_follow (one_call c.in_ok-lock.ensures.logged c.in_ok-lock.ensures.acts) c.read_state-read.ensures.follows)
     c.unlock.ensures.logged c.unlock.ensures.acts
 
 pub returns-in-Err-clause-follows : goal.returns-in-Err-clause-follows
 returns-in-Err-clause-follows g c =
-    one_more (both_follow (one_call c.in_ok-lock.ensures.logged c.in_ok-lock.ensures.acts) c.read_state-read.ensures.follows)
+    one_more
+    (both_follow (one_call c.in_ok-lock.ensures.logged c.in_ok-lock.ensures.acts) c.read_state-read.ensures.follows)
     c.unlock.ensures.logged c.unlock.ensures.acts
 
 pub returns-in_err-lock-clause-follows : goal.returns-in_err-lock-clause-follows

@@ -20,7 +20,9 @@ returns-clause-logged g c =
       text,
       last,
       c.in_ok-randomizer.ensures.read,
-      subst (λ (log : WorldCalls). (delivers : DeliversSignature randomizer text c.args.request.now.out.now before log last) × (after ≡ before ++ index_line delivers.writes)) calls is,
+      subst (λ (log : WorldCalls).
+          (delivers : DeliversSignature randomizer text c.args.request.now.out.now before log last)
+          × (after ≡ before ++ index_line delivers.writes)) calls is,
       c.unlock.ensures.logged,
     ))
     c.sign_locked-done.ensures.logged
@@ -38,14 +40,16 @@ returns-clause-log_failed g c =
       text,
       last,
       c.in_ok-randomizer.ensures.read,
-      subst (λ (log : WorldCalls). LogsUndelivered randomizer text c.args.request.now.out.now before c.sign_locked-done.new.output fault log last) calls is,
+      subst (λ (log : WorldCalls). LogsUndelivered randomizer text c.args.request.now.out.now before
+          c.sign_locked-done.new.output fault log last) calls is,
       c.unlock.ensures.logged,
     ))))
     c.sign_locked-done.ensures.log_failed
 
 pub returns-clause-follows : goal.returns-clause-follows
 returns-clause-follows g c =
-    one_more (both_follow (one_more (one_call c.in_ok-message.ensures.logged c.in_ok-message.ensures.acts) c.in_ok-lock.ensures.logged c.in_ok-lock.ensures.acts)
+    one_more (both_follow (one_more (one_call c.in_ok-message.ensures.logged c.in_ok-message.ensures.acts)
+    c.in_ok-lock.ensures.logged c.in_ok-lock.ensures.acts)
     c.sign_locked-done.ensures.follows)
     c.unlock.ensures.logged c.unlock.ensures.acts
 
@@ -53,4 +57,5 @@ pub returns-in_err-message-clause-follows : goal.returns-in_err-message-clause-f
 returns-in_err-message-clause-follows g c = one_call c.in_err-message.ensures.logged c.in_err-message.ensures.acts
 
 pub returns-in_err-lock-clause-follows : goal.returns-in_err-lock-clause-follows
-returns-in_err-lock-clause-follows g c = one_more (one_call c.in_ok-message.ensures.logged c.in_ok-message.ensures.acts) c.in_err-lock.ensures.logged c.in_err-lock.ensures.acts
+returns-in_err-lock-clause-follows g c = one_more (one_call c.in_ok-message.ensures.logged c.in_ok-message.ensures.acts)
+    c.in_err-lock.ensures.logged c.in_err-lock.ensures.acts

@@ -8,9 +8,12 @@ use Rattle.lms_commands.proofs.Failing.{handed_on}
 use Rattle.lms_world.proofs.Following.{one_call, both_follow}
 use Rattle.lms_commands.proofs.sign.sign_locked.Goals as goal
 
-module _ (random message : List ℕ) (out : Bytes) (nodes : Option (List ℕ)) (index : ℕ) (signature : List ℕ) (old asked signed : WorldCalls)
-    (asked_is : asked ≡ NodesRead nodes ∷ old) (signs : LogsSigned nodes random message index signature asked signed) where
-  abbrev writes_so : (answer : Writing) → WritesSignature random message out answer old (Written out signature answer ∷ signed)
+module _ (random message : List ℕ) (out : Bytes) (nodes : Option (List ℕ)) (index : ℕ) (signature : List ℕ)
+    (old asked signed : WorldCalls)
+    (asked_is : asked ≡ NodesRead nodes ∷ old)
+    (signs : LogsSigned nodes random message index signature asked signed) where
+  abbrev writes_so : (answer : Writing)
+      → WritesSignature random message out answer old (Written out signature answer ∷ signed)
   writes_so answer = record {
     nodes = nodes;
     index = index;
@@ -26,7 +29,8 @@ returns-clause-logged g c =
     let is = c.in_ok-signed.signed in
     let signed = g.W.World.events c.sign_by_state.new.world in
     let asked = g.W.World.events c.kept_text-kept.new.world in
-    let signs = subst (λ (nodes : Option (List ℕ)). LogsSigned nodes job.c job.message.items is.index is.signature.items asked signed) c.as_deref.ensures.value
+    let signs = subst (λ (nodes : Option (List ℕ)).
+    LogsSigned nodes job.c job.message.items is.index is.signature.items asked signed) c.as_deref.ensures.value
     c.in_ok-signed.ensures.logged in
     on_ok_weaker c.deliver.result
     (λ published. (
@@ -47,16 +51,19 @@ returns-clause-log_failed g c =
     let old = g.W.World.events c.args.world.now in
     let signed = g.W.World.events c.sign_by_state.new.world in
     let asked = g.W.World.events c.kept_text-kept.new.world in
-    let signs = subst (λ (nodes : Option (List ℕ)). LogsSigned nodes job.c job.message.items is.index is.signature.items asked signed) c.as_deref.ensures.value
+    let signs = subst (λ (nodes : Option (List ℕ)).
+    LogsSigned nodes job.c job.message.items is.index is.signature.items asked signed) c.as_deref.ensures.value
     c.in_ok-signed.ensures.logged in
-    let writes = writes_so job.c job.message.items c.args.out.now _ is.index is.signature.items _ asked signed c.kept_text-kept.ensures.logged signs in
+    let writes = writes_so job.c job.message.items c.args.out.now _ is.index is.signature.items _ asked signed
+    c.kept_text-kept.ensures.logged signs in
     IfErr-weaker c.deliver.result _ _
     (λ fault failed. inr (
       failed.0,
       ⊎_elim
           (λ (refused, calls, same). inl (
             write_cause failed.1.0,
-            subst (λ (log : WorldCalls). WritesSignature job.c job.message.items c.args.out.now (Err (write_cause failed.1.0)) old log)
+            subst (λ (log : WorldCalls).
+                WritesSignature job.c job.message.items c.args.out.now (Err (write_cause failed.1.0)) old log)
                 (sym calls) (writes (Err (write_cause failed.1.0))),
             same,
           ))
@@ -67,10 +74,12 @@ returns-clause-log_failed g c =
 
 pub returns-clause-follows : goal.returns-clause-follows
 returns-clause-follows g c =
-    both_follow (both_follow (one_call c.kept_text-kept.ensures.logged c.kept_text-kept.ensures.acts) c.sign_by_state.ensures.follows) c.deliver.ensures.follows
+    both_follow (both_follow (one_call c.kept_text-kept.ensures.logged c.kept_text-kept.ensures.acts)
+    c.sign_by_state.ensures.follows) c.deliver.ensures.follows
 
 pub returns-in_err-signed-clause-follows : goal.returns-in_err-signed-clause-follows
-returns-in_err-signed-clause-follows g c = both_follow (one_call c.kept_text-kept.ensures.logged c.kept_text-kept.ensures.acts) c.in_err-signed.ensures.follows
+returns-in_err-signed-clause-follows g c =
+    both_follow (one_call c.kept_text-kept.ensures.logged c.kept_text-kept.ensures.acts) c.in_err-signed.ensures.follows
 
 pub returns-in_err-signed-clause-log_failed : goal.returns-in_err-signed-clause-log_failed
 returns-in_err-signed-clause-log_failed g c =

@@ -7,4 +7,6 @@ use Rattle.lms_params.specs.contracts.ots_type.OtsTypePartialEq.TheImpl.{ghosts 
 use Rattle.lms_hss.proofs.key.same_key.Goals as goal
 
 pub returns : goal.returns
-returns c = subst (λ (r : Bool). Decides r (c.args.a.now ≡ c.args.b.now)) (sym c.eq.ensures) (key-Decides {E = ghosts.eq} {F = ots_ghosts.eq} (λ x y. search rules) (λ x y. search rules) c.args.a.now c.args.b.now)
+returns c = subst (λ (r : Bool). Decides r (c.args.a.now ≡ c.args.b.now)) (sym c.eq.ensures)
+    (key-Decides {E = ghosts.eq} {F = ots_ghosts.eq} (λ x y. search rules)
+    (λ x y. search rules) c.args.a.now c.args.b.now)

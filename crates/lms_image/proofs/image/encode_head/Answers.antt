@@ -7,7 +7,12 @@ use Rattle.lms_image.proofs.image.encode_head.Goals as goal
 
 pub append_u32-requires-in-loop-lms : goal.append_u32-requires-in-loop-lms
 append_u32-requires-in-loop-lms c =
-    omega (arith, c.loop-lms.invariant.long, ap length c.as_slice-levels.ensures.levels, c.as_slice-levels.ensures.admitted.eight_at_most)
+    omega (
+      arith,
+      c.loop-lms.invariant.long,
+      ap length c.as_slice-levels.ensures.levels,
+      c.as_slice-levels.ensures.admitted.eight_at_most,
+    )
 
 pub append_u32-requires-in-loop-lms-2 : goal.append_u32-requires-in-loop-lms-2
 append_u32-requires-in-loop-lms-2 c =
@@ -23,7 +28,8 @@ append_u32-requires-in-loop-lms-2 c =
 pub loop-lms-preserved : goal.loop-lms-preserved
 loop-lms-preserved c = record {
   bytes = head-more (magic ++ u32str 2 ++ u32str (length c.as_slice-levels.result.now)) c.loop-lms.text
-      c.append_u32-in-loop-lms.new.self c.append_u32-in-loop-lms-2.new.self c.as_slice-levels.result.now c.loop-lms.lms-index
+      c.append_u32-in-loop-lms.new.self c.append_u32-in-loop-lms-2.new.self c.as_slice-levels.result.now
+      c.loop-lms.lms-index
       c.code.result c.code-in-loop-lms.result _ c.loop-lms-test.true c.loop-lms.invariant.bytes
       c.append_u32-in-loop-lms.ensures c.append_u32-in-loop-lms-2.ensures c.code.ensures c.code-in-loop-lms.ensures;
   long = omega (

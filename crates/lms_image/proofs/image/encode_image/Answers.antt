@@ -15,9 +15,11 @@ returns c =
     let counted : c.append_u64.new.self ≡ front
     = c.append_u64.ensures
     ∙ ap (λ x. x ++ u64str image.counter)
-    (c.append-2.ensures ∙ ap (λ x. x ++ key.i) (c.append.ensures ∙ ap (λ x. x ++ key.seed) c.encode_head-text.ensures.text)) in
+    (c.append-2.ensures
+    ∙ ap (λ x. x ++ key.i) (c.append.ensures ∙ ap (λ x. x ++ key.seed) c.encode_head-text.ensures.text)) in
     let before : c.append_u64-3.new.self ≡ body
     = c.append_u64-3.ensures
     ∙ (ap (λ x. x ++ u64str image.burnt) (c.append_u64-2.ensures ∙ ap (λ x. x ++ u64str image.openings) counted)
     ∙ append_assoc front (u64str image.openings) (u64str image.burnt)) in
-    c.append-3.ensures ∙ ap₂ (λ x y. x ++ y) before (c.digest-digest.ensures ∙ ap sha256 (c.as_slice.ensures.bytes ∙ before))
+    c.append-3.ensures
+    ∙ ap₂ (λ x y. x ++ y) before (c.digest-digest.ensures ∙ ap sha256 (c.as_slice.ensures.bytes ∙ before))

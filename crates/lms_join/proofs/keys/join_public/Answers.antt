@@ -8,5 +8,6 @@ returns-clause-some c =
     let top = c.in_ok-keys.ensures.top in
     let signer = c.in_ok-keys.ensures.signer in
     c.joined.ensures
-    ∙ sym (joined-public-parts keys.top.levels keys.signer.levels c.args.top.now keys.top.lms_key.now c.args.signer.now keys.signer.lms_key.now
+    ∙ sym (joined-public-parts keys.top.levels keys.signer.levels c.args.top.now keys.top.lms_key.now c.args.signer.now
+    keys.signer.lms_key.now
     top.eight_at_most signer.eight_at_most top.parts signer.parts)

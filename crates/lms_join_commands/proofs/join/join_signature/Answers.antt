@@ -7,7 +7,8 @@ use Rattle.lms_join_commands.proofs.Joining.{joined_and_written, joined_not_writ
 use Rattle.lms_join_commands.proofs.join.join_signature.Goals as goal
 
 pub returns-in_err-parts-clause-log_failed : goal.returns-in_err-parts-clause-log_failed
-returns-in_err-parts-clause-log_failed g c = handed_on _ _ _ c.from_residual.ensures.1 (inl c.in_err-parts.ensures.unread)
+returns-in_err-parts-clause-log_failed g c =
+    handed_on _ _ _ c.from_residual.ensures.1 (inl c.in_err-parts.ensures.unread)
 
 pub returns-in_err-joined-clause-log_failed : goal.returns-in_err-joined-clause-log_failed
 returns-in_err-joined-clause-log_failed g c =
@@ -19,14 +20,16 @@ returns-in_err-joined-clause-log_failed g c =
 pub returns-clause-logged : goal.returns-clause-logged
 returns-clause-logged g c =
     let parts = parts_of c.in_ok-parts.parts in
-    let joins = subst (λ (bytes : List ℕ). JoinsParts parts bytes) (sym c.deref.ensures.value) c.in_ok-joined.ensures.joins in
+    let joins = subst (λ (bytes : List ℕ). JoinsParts parts bytes)
+    (sym c.deref.ensures.value) c.in_ok-joined.ensures.joins in
     joined_and_written c.write_file.result (names_of c.args.request.now) parts c.deref.result.now _ _ _
     c.in_ok-parts.ensures.logged joins c.write_file.ensures.logged
 
 pub returns-clause-log_failed : goal.returns-clause-log_failed
 returns-clause-log_failed g c =
     let parts = parts_of c.in_ok-parts.parts in
-    let joins = subst (λ (bytes : List ℕ). JoinsParts parts bytes) (sym c.deref.ensures.value) c.in_ok-joined.ensures.joins in
+    let joins = subst (λ (bytes : List ℕ). JoinsParts parts bytes)
+    (sym c.deref.ensures.value) c.in_ok-joined.ensures.joins in
     joined_not_written c.write_file.result (names_of c.args.request.now) parts c.deref.result.now _ _ _
     c.in_ok-parts.ensures.logged joins c.write_file.ensures.refused c.write_file.ensures.logged
 

@@ -6,27 +6,34 @@ use Rattle.lms_commands.proofs.Failing.{handed_on}
 use Rattle.lms_join_commands.proofs.Joining.{key_not_written, key_written}
 use Rattle.lms_join_commands.proofs.join_public.join_public_keys.Goals as goal
 
-pub returns-in_err-top-clause-log_failed : goal.returns-in_err-top-clause-log_failed
-returns-in_err-top-clause-log_failed g c = handed_on _ _ _ c.from_residual.ensures.1 (inl c.in_err-top.ensures.unread)
+pub returns-in_err-top_public-clause-log_failed : goal.returns-in_err-top_public-clause-log_failed
+returns-in_err-top_public-clause-log_failed g c =
+    handed_on _ _ _ c.from_residual.ensures.1 (inl c.in_err-top_public.ensures.unread)
 
 pub returns-in_err-key-clause-log_failed : goal.returns-in_err-key-clause-log_failed
 returns-in_err-key-clause-log_failed g c =
     let last = g.W.World.events c.read_two.new.world in
-    let apart = subst₂ (λ (a b : List ℕ). ¬ AreJoinable a b) c.deref.ensures.value c.deref-2.ensures.value c.in_err-key.ensures.unjoined in
+    let apart = subst₂ (λ (a b : List ℕ). ¬ AreJoinable a b) c.deref.ensures.value c.deref-2.ensures.value
+    c.in_err-key.ensures.unjoined in
     handed_on _ _ _ c.from_residual-in_err-key.ensures.1
-    (inr (_, _, last, c.in_ok-top.ensures.logged, inl (c.in_err-key.ensures.bad, apart, refl)))
+    (inr (_, _, last, c.in_ok-top_public.ensures.logged, inl (c.in_err-key.ensures.bad, apart, refl)))
 
 pub returns-clause-logged : goal.returns-clause-logged
 returns-clause-logged g c =
-    let joinable = subst₂ (λ (a b : List ℕ). AreJoinable a b) c.deref.ensures.value c.deref-2.ensures.value c.in_ok-key.ensures.joinable in
-    let is = c.in_ok-key.ensures.joined ∙ ap₂ (λ (a b : List ℕ). joined_public a b) c.deref.ensures.value c.deref-2.ensures.value in
-    key_written c.write_flushed.result _ _ _ _ _ _ _ _ _ c.in_ok-top.ensures.logged joinable is c.write_flushed.ensures.logged
+    let joinable = subst₂ (λ (a b : List ℕ). AreJoinable a b) c.deref.ensures.value c.deref-2.ensures.value
+    c.in_ok-key.ensures.joinable in
+    let is = c.in_ok-key.ensures.joined
+    ∙ ap₂ (λ (a b : List ℕ). joined_public a b) c.deref.ensures.value c.deref-2.ensures.value in
+    key_written c.write_flushed.result _ _ _ _ _ _ _ _ _ c.in_ok-top_public.ensures.logged joinable is
+    c.write_flushed.ensures.logged
 
 pub returns-clause-log_failed : goal.returns-clause-log_failed
 returns-clause-log_failed g c =
-    let joinable = subst₂ (λ (a b : List ℕ). AreJoinable a b) c.deref.ensures.value c.deref-2.ensures.value c.in_ok-key.ensures.joinable in
-    let is = c.in_ok-key.ensures.joined ∙ ap₂ (λ (a b : List ℕ). joined_public a b) c.deref.ensures.value c.deref-2.ensures.value in
-    key_not_written c.write_flushed.result _ _ _ _ _ _ _ _ _ c.in_ok-top.ensures.logged joinable is
+    let joinable = subst₂ (λ (a b : List ℕ). AreJoinable a b) c.deref.ensures.value c.deref-2.ensures.value
+    c.in_ok-key.ensures.joinable in
+    let is = c.in_ok-key.ensures.joined
+    ∙ ap₂ (λ (a b : List ℕ). joined_public a b) c.deref.ensures.value c.deref-2.ensures.value in
+    key_not_written c.write_flushed.result _ _ _ _ _ _ _ _ _ c.in_ok-top_public.ensures.logged joinable is
     c.write_flushed.ensures.refused c.write_flushed.ensures.logged
 
 pub returns-clause-follows : goal.returns-clause-follows

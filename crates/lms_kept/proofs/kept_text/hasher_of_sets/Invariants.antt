@@ -8,4 +8,5 @@ use Rattle.lms_kept.proofs.kept_text.hasher_of_sets.Given as goal
 
 abbrev pub invariant-loop-lms : goal.invariant-loop-lms
 invariant-loop-lms l = Holds256 l.hasher
-    (u32str (length l.levels) ++ flat_map (λ (l : Level). u32str l.lms.code ++ u32str l.ots.code) (levels_of (take l.lms-index l.levels)))
+    (u32str (length l.levels)
+    ++ flat_map (λ (l : Level). u32str l.lms.code ++ u32str l.ots.code) (levels_of (take l.lms-index l.levels)))

@@ -1,4 +1,5 @@
-use Rattle.std.proofs.Common.{ℕ, ◌≡◌, ◌+◌, ◌<◌, List, [], ◌∷◌, ◌++◌, length, get_or, length-append, sym, ◌∙◌, ap, arith, subst}
+use Rattle.std.proofs.Common.{ℕ, ◌≡◌, ◌+◌, ◌<◌, List, [], ◌∷◌, ◌++◌, length, get_or, length-append, sym, ◌∙◌, ap, arith}
+use Rattle.std.proofs.Common.{subst}
 use Rattle.std.specs.List.{flat_map}
 use Rattle.lms_tree.specs.TreeKey.{tree_of}
 use Rattle.lms_tree.specs.Kept.{ServesLeaf}
@@ -31,8 +32,10 @@ loop-k-preserved c =
     } in
     record {
       count = omega (arith, here.count, ap length more, length-append levels (level ∷ []));
-      each = subst (λ (levels : List KeptLevel). (j : ℕ) (other : KeptLevel) → j < k + 1 → IsOnWay key at j (get_or levels j other)) (sym more)
+      each = subst (λ (levels : List KeptLevel).
+          (j : ℕ) (other : KeptLevel) → j < k + 1 → IsOnWay key at j (get_or levels j other)) (sym more)
           (one-more (IsOnWay key at) k levels level here.count here.each on);
-      text = subst (λ (levels : List KeptLevel). c.args.text.now ≡ flat_map level_text levels ++ c.in-Some.after.now) (sym more)
+      text = subst
+          (λ (levels : List KeptLevel). c.args.text.now ≡ flat_map level_text levels ++ c.in-Some.after.now) (sym more)
           (one-more-text levels level c.args.text.now c.loop-k.rest.now c.in-Some.after.now here.text text_is);
     }

@@ -9,6 +9,8 @@ returns-clause-leaves c =
     let k = c.args.k in
     let levels = c.args.key.now.levels in
     let slice = c.as_slice.result.now in
-    let whole : take (length slice - k) (drop k slice) ≡ drop k slice = take_all (length slice - k) (drop k slice) (omega (arith, length-drop k slice)) in
+    let whole : take (length slice - k) (drop k slice) ≡ drop k slice =
+    take_all (length slice - k) (drop k slice) (omega (arith, length-drop k slice)) in
     c.leaves_of_levels.ensures.leaves
-    ∙ ap (sum_by leaves_of) (ap levels_of (whole ∙ ap (drop k) c.as_slice.ensures.levels) ∙ sym (drop-map level_of k levels))
+    ∙ ap (sum_by leaves_of)
+    (ap levels_of (whole ∙ ap (drop k) c.as_slice.ensures.levels) ∙ sym (drop-map level_of k levels))

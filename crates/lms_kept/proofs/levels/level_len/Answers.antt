@@ -5,11 +5,14 @@ use Rattle.lms_kept.proofs.TextLengths.{level-by-sets, level-limit}
 use Rattle.lms_kept.proofs.levels.level_len.Goals as goal
 
 whole : (c : goal.After-signed_len)
-    → c.signed_len.result + 32 * (c.counts-upper.result.0 + c.counts-upper.result.1) ≡ level_length (hss_key_of c.args.key.now) c.args.k
+    → c.signed_len.result + 32 * (c.counts-upper.result.0 + c.counts-upper.result.1)
+    ≡ level_length (hss_key_of c.args.key.now) c.args.k
 whole c =
-    level-by-sets c.args.key.now _ _ _ _ _ c.requires c.as_slice.ensures.levels c.signed_len.ensures c.counts-upper.ensures.upper (c.counts-upper.ensures.lower 0)
+    level-by-sets c.args.key.now _ _ _ _ _ c.requires c.as_slice.ensures.levels c.signed_len.ensures
+    c.counts-upper.ensures.upper (c.counts-upper.ensures.lower 0)
 
-at-most : (c : goal.After-signed_len) → c.signed_len.result + 32 * (c.counts-upper.result.0 + c.counts-upper.result.1) ≤ 2 ^ 22
+at-most : (c : goal.After-signed_len)
+    → c.signed_len.result + 32 * (c.counts-upper.result.0 + c.counts-upper.result.1) ≤ 2 ^ 22
 at-most c = omega (arith, whole c, level-limit c.args.key.now c.args.k c.requires)
 
 pub overflow_add-result : goal.overflow_add-result

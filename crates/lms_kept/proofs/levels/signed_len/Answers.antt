@@ -20,6 +20,8 @@ pub returns : goal.returns
 returns c =
     let whole = c.args.key.now in
     let k = c.args.k in
-    let sets = sets-of whole c.as_slice.result.now (k - 1) (H5, W1) c.as_slice.ensures.levels (omega (arith, c.requires, c.if-k-eq0.false)) in
-    ap (λ n. n + lms_public_key_length) (c.lms_sig_len.ensures ∙ ap (λ (l : Level). lms_signature_length l.lms l.ots) sets)
+    let sets = sets-of whole c.as_slice.result.now (k - 1) (H5, W1) c.as_slice.ensures.levels
+    (omega (arith, c.requires, c.if-k-eq0.false)) in
+    ap (λ n. n + lms_public_key_length)
+    (c.lms_sig_len.ensures ∙ ap (λ (l : Level). lms_signature_length l.lms l.ots) sets)
     ∙ sym (below-top (hss_key_of whole) k c.if-k-eq0.false)

@@ -8,7 +8,8 @@ overflow_shl-result c = shifts_fit_splat 32 c.args.x 8 8 (omega arith)
 
 pub returns : goal.returns
 returns c =
-    EachLane-equal (EachLane-zip2 _ (EachLane-zip2 _ (EachLane-self c.args.x c.fits-x.0) (EachLane-splat 8)) (EachLane-splat 0x80))
+    EachLane-equal
+    (EachLane-zip2 _ (EachLane-zip2 _ (EachLane-self c.args.x c.fits-x.0) (EachLane-splat 8)) (EachLane-splat 0x80))
     (λ k lt.
     let a : slice_index c.args.x k < 2 ^ 32 = (Fits-lane c.args.x k c.fits-x.0 c.fits-x.1 lt).fits in
     omega (arith, a))

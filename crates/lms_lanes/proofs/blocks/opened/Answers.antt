@@ -13,4 +13,6 @@ pub returns-clause-word_fits : goal.returns-clause-word_fits
 returns-clause-word_fits c = λ k lt. (Fits-lane c.args.x k c.fits-x.0 c.fits-x.1 lt).fits
 
 pub returns-clause-words : goal.returns-clause-words
-returns-clause-words c = EachLane-zip2 _ (EachLane-zip2 _ (EachLane-self c.args.head c.fits-head.0) (EachLane-self c.args.byte c.fits-byte.0)) (EachLane-zip2 _ (EachLane-self c.args.x c.fits-x.0) (EachLane-splat 24))
+returns-clause-words c = EachLane-zip2 _
+    (EachLane-zip2 _ (EachLane-self c.args.head c.fits-head.0) (EachLane-self c.args.byte c.fits-byte.0))
+    (EachLane-zip2 _ (EachLane-self c.args.x c.fits-x.0) (EachLane-splat 24))

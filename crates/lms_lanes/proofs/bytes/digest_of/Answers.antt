@@ -17,7 +17,8 @@ words-preserved c = record {
   long = search (rules, overwrites);
   made =
       let word = word_of_lane 8 c.args.hash.now c.args.lane c.words.i c.told-hash (omega arith) in
-      digest_more c.words.digest (lane_of c.args.hash.now c.args.lane) _ c.words.i _ c.words.invariant.made (omega (arith, c.words.invariant.long))
+      digest_more c.words.digest (lane_of c.args.hash.now c.args.lane) _ c.words.i _ c.words.invariant.made
+      (omega (arith, c.words.invariant.long))
       (c.copy_from_slice.ensures.after ∙ c.to_be_bytes.ensures ∙ ap (λ (x : ℕ). to_be_bytes w32 x) (sym word));
 }
 

@@ -15,12 +15,19 @@ returns c =
     record {
       vectors = record {
         long = refl;
-        wide = (w0.words.wide, (w1.words.wide, (w2.words.wide, (w3.words.wide, (w4.words.wide, (w5.words.wide, (w6.words.wide, (w7.words.wide, tt))))))));
+        wide = (
+          w0.words.wide,
+          (
+            w1.words.wide,
+            (w2.words.wide, (w3.words.wide, (w4.words.wide, (w5.words.wide, (w6.words.wide, (w7.words.wide, tt)))))),
+          ),
+        );
       };
       lanes = λ k lt.
           digest_of_words (get_or c.args.values.now k []) _
           (λ i.
           w0.words.lane k lt i ∷ w1.words.lane k lt i ∷ w2.words.lane k lt i ∷ w3.words.lane k lt i
           ∷ w4.words.lane k lt i ∷ w5.words.lane k lt i ∷ w6.words.lane k lt i ∷ w7.words.lane k lt i ∷ [])
-          (w0.long k lt) (w0.bytes k lt) (w1.bytes k lt) (w2.bytes k lt) (w3.bytes k lt) (w4.bytes k lt) (w5.bytes k lt) (w6.bytes k lt) (w7.bytes k lt);
+          (w0.long k lt) (w0.bytes k lt) (w1.bytes k lt) (w2.bytes k lt) (w3.bytes k lt) (w4.bytes k lt) (w5.bytes k lt)
+          (w6.bytes k lt) (w7.bytes k lt);
     }

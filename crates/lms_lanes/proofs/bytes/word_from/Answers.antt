@@ -14,4 +14,5 @@ bytes_back a b c d ha hb hc hd =
     λ i. ea i ∷ eb i ∷ ec i ∷ ed i ∷ []
 
 pub returns-clause-bytes : goal.returns-clause-bytes
-returns-clause-bytes c = bytes_back c.args.a c.args.b c.args.c c.args.d c.ranges.a.fits c.ranges.b.fits c.ranges.c.fits c.ranges.d.fits
+returns-clause-bytes c =
+    bytes_back c.args.a c.args.b c.args.c c.args.d c.ranges.a.fits c.ranges.b.fits c.ranges.c.fits c.ranges.d.fits

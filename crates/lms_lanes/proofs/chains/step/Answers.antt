@@ -1,4 +1,5 @@
-use Rattle.std.proofs.Common.{◌≡◌, ◌∙◌, ◌∷◌, ◌++◌, ◌+◌, ◌%◌, ℕ, List, length, slice_index, ap, arith, sym, length-append}
+use Rattle.std.proofs.Common.{◌≡◌, ◌∙◌, ◌∷◌, ◌++◌, ◌+◌, ◌%◌, ℕ, List, length, slice_index, ap, arith, sym}
+use Rattle.std.proofs.Common.{length-append}
 use Rattle.sha2.specs.Sha256.{compress, digest_bytes}
 use Rattle.lms_lanes.specs.Lanes.{lane_of}
 use Rattle.lms_lanes.specs.Chains.{short_padding}

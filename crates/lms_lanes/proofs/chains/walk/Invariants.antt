@@ -8,5 +8,6 @@ abbrev pub invariant-steps : goal.invariant-steps
 invariant-steps l = record {
   vectors : AreVectors 8 l.now;
   lanes : (k : ℕ) → k < 8 → (text : List ℕ) → HasHead (lane_of l.head k) text
-      → digest_bytes (lane_of l.now k) 8 ≡ walked text (slice_index l.first k) (min l.i (slice_index l.fn.steps k)) (digest_bytes (lane_of l.start k) 8);
+      → digest_bytes (lane_of l.now k) 8
+      ≡ walked text (slice_index l.first k) (min l.i (slice_index l.fn.steps k)) (digest_bytes (lane_of l.start k) 8);
 }

@@ -8,5 +8,6 @@ abbrev pub invariant-pairs : goal.invariant-pairs
 invariant-pairs l = record {
   hash : AreVectors 8 l.hash;
   rest : AreVectors 6 l.rest;
-  lanes : (k : ℕ) → k < 8 → IsAbsorbed (lane_of l.hash k) (lane_of l.rest k) (ends_text (get_or l.fronts k []) l.mark (2 * l.pair) l.first l.steps l.start) l.pair;
+  lanes : (k : ℕ) → k < 8 → IsAbsorbed (lane_of l.hash k) (lane_of l.rest k)
+      (ends_text (get_or l.fronts k []) l.mark (2 * l.pair) l.first l.steps l.start) l.pair;
 }

@@ -11,7 +11,8 @@ overflow_shr-result c = shifts_fit_splat 32 c.args.y 8 16 (omega arith)
 
 pub returns : goal.returns
 returns c =
-    EachLane-equal (EachLane-zip2 _ (EachLane-zip2 _ (EachLane-self c.args.x c.fits-x.0) (EachLane-splat 16)) (EachLane-zip2 _ (EachLane-self c.args.y c.fits-y.0) (EachLane-splat 16)))
+    EachLane-equal (EachLane-zip2 _ (EachLane-zip2 _ (EachLane-self c.args.x c.fits-x.0) (EachLane-splat 16))
+    (EachLane-zip2 _ (EachLane-self c.args.y c.fits-y.0) (EachLane-splat 16)))
     (λ k lt.
     let a : slice_index c.args.x k < 2 ^ 32 = (Fits-lane c.args.x k c.fits-x.0 c.fits-x.1 lt).fits in
     let b : slice_index c.args.y k < 2 ^ 32 = (Fits-lane c.args.y k c.fits-y.0 c.fits-y.1 lt).fits in

@@ -11,7 +11,8 @@ returns c =
     let v = c.args.v in
     let first = c.requires.first in
     let second = c.requires.second in
-    let sum : (i : ℕ) → i < 8 → EachLane (zip2 add32 (get_or h i []) (get_or v i [])) (λ k. add32 (slice_index (get_or h i []) k) (slice_index (get_or v i []) k)) =
+    let sum : (i : ℕ) → i < 8 → EachLane (zip2 add32 (get_or h i []) (get_or v i []))
+    (λ k. add32 (slice_index (get_or h i []) k) (slice_index (get_or v i []) k)) =
     λ i lt. EachLane-zip2 add32 (EachLane-get_or 8 h i first lt) (EachLane-get_or 8 v i second lt) in
     let s0 = sum 0 (omega arith) in
     let s1 = sum 1 (omega arith) in
@@ -22,8 +23,12 @@ returns c =
     let s6 = sum 6 (omega arith) in
     let s7 = sum 7 (omega arith) in
     record {
-      vectors = record { long = refl; wide = (s0.wide, (s1.wide, (s2.wide, (s3.wide, (s4.wide, (s5.wide, (s6.wide, (s7.wide, tt)))))))) };
+      vectors = record {
+        long = refl;
+        wide = (s0.wide, (s1.wide, (s2.wide, (s3.wide, (s4.wide, (s5.wide, (s6.wide, (s7.wide, tt))))))));
+      };
       lanes = λ k lt.
-          (λ i. s0.lane k lt i ∷ s1.lane k lt i ∷ s2.lane k lt i ∷ s3.lane k lt i ∷ s4.lane k lt i ∷ s5.lane k lt i ∷ s6.lane k lt i ∷ s7.lane k lt i ∷ [])
+          (λ i. s0.lane k lt i ∷ s1.lane k lt i ∷ s2.lane k lt i ∷ s3.lane k lt i ∷ s4.lane k lt i ∷ s5.lane k lt i
+          ∷ s6.lane k lt i ∷ s7.lane k lt i ∷ [])
           ∙ rw (lane_of_eight h k first.long, lane_of_eight v k second.long) refl;
     }

@@ -9,7 +9,8 @@ returns-clause-value c =
     let vectors = c.requires.vectors in
     let same : p % 16 ≡ p = omega arith in
     EachLane-equal
-    (EachLane-zip2 _ (EachLane-zip2 _ (EachLane-zip2 _ c.small_sigma1.ensures (EachLane-get_or 16 w ((p + 9) % 16) vectors (omega arith))) c.small_sigma0.ensures)
+    (EachLane-zip2 _ (EachLane-zip2 _ (EachLane-zip2 _ c.small_sigma1.ensures
+    (EachLane-get_or 16 w ((p + 9) % 16) vectors (omega arith))) c.small_sigma0.ensures)
     (EachLane-get_or 16 w p vectors (omega arith)))
     (λ k lt.
     rw (

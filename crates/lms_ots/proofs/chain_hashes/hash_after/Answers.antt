@@ -1,4 +1,5 @@
-use Rattle.std.proofs.Common.{ℕ, ◌≡◌, List, [], ◌∷◌, ◌++◌, length, replicate, sym, ◌∙◌, ap, arith, append_assoc, length-append}
+use Rattle.std.proofs.Common.{ℕ, ◌≡◌, List, [], ◌∷◌, ◌++◌, length, replicate, sym, ◌∙◌, ap, arith, append_assoc}
+use Rattle.std.proofs.Common.{length-append}
 use Rattle.std.proofs.lemmas.List.{append-nil}
 use Rattle.sha2.specs.Sha256.{sha256}
 use Rattle.lms_spec.proofs.Writing.{put_mid-parts}
@@ -15,7 +16,8 @@ returns c =
     let length_before : length (head ++ byte) ≡ 23 = omega (arith, length-append head byte, c.told-head) in
     let before : c.copy_from_slice.new.self ++ replicate 33 c.args.byte ≡ (head ++ byte) ++ (spare ++ [])
     = ap (λ x. x ++ replicate 33 c.args.byte) copied ∙ sym (append_assoc head byte (spare ++ [])) in
-    let text : put_mid 23 32 (c.copy_from_slice.new.self ++ replicate 33 c.args.byte) c.copy_from_slice-2.new.self ≡ head ++ c.args.byte ∷ value
+    let text : put_mid 23 32 (c.copy_from_slice.new.self ++ replicate 33 c.args.byte) c.copy_from_slice-2.new.self
+    ≡ head ++ c.args.byte ∷ value
     = ap (λ x. put_mid 23 32 x c.copy_from_slice-2.new.self) before
     ∙ (put_mid-parts (head ++ byte) spare [] c.copy_from_slice-2.new.self 23 32 length_before (omega arith)
     ∙ (ap (λ x. (head ++ byte) ++ (x ++ [])) c.copy_from_slice-2.ensures.after

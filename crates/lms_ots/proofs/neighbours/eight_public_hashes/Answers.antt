@@ -21,8 +21,10 @@ returns-clause-hashes c = λ k lt.
     let f : ℕ → List ℕ = λ i. chain id q i 0 last (chain_secret id seed q i) in
     let steps : c.last_digit.result + 1 ≡ last + 1 = omega (arith, c.last_digit.ensures.exact) in
     let ends : map _ (below t.p) ≡ map f (below t.p) =
-    map-below-same [] _ f t.p (λ i low. lane-from_seed id seed q i last i 255 _ seed refl refl steps refl (last_digit-byte c.args.t)) in
+    map-below-same [] _ f t.p
+    (λ i low. lane-from_seed id seed q i last i 255 _ seed refl refl steps refl (last_digit-byte c.args.t)) in
     c.hash_ends.ensures.hashes k lt
-    ∙ ap (λ (front : List ℕ). sha256 (ends_text front d_pblc c.p.result 255 (c.last_digit.result + 1) seed)) (c.lanes.invariant.fronts k (omega (arith, lt)))
+    ∙ ap (λ (front : List ℕ). sha256 (ends_text front d_pblc c.p.result 255 (c.last_digit.result + 1) seed))
+    (c.lanes.invariant.fronts k (omega (arith, lt)))
     ∙ ap (λ (n : ℕ). sha256 (ends_text (hash_prefix id q) d_pblc n 255 (c.last_digit.result + 1) seed)) c.p.ensures
     ∙ ap (λ (values : List (List ℕ)). sha256 ((hash_prefix id q ++ u16str d_pblc) ++ concat values)) ends

@@ -11,11 +11,13 @@ pub ends-preserved : goal.ends-preserved
 ends-preserved c =
     let id = c.args.id in
     let i : ℕ = 8 * c.groups.group + c.ends.k in
-    let f : ℕ → List ℕ = λ i. chain id.i id.q i 0 (last_digit (ots_set_of c.args.t)) (chain_secret id.i c.args.seed.now id.q i) in
+    let f : ℕ → List ℕ =
+    λ i. chain id.i id.q i 0 (last_digit (ots_set_of c.args.t)) (chain_secret id.i c.args.seed.now id.q i) in
     let end : List ℕ = get_or c.lane_values-ends.result c.ends.k [] in
     let next : end ≡ f i
     = c.lane_values-ends.ensures.values c.ends.k (omega arith)
-    ∙ ap (λ digit. chain id.i id.q i 0 digit (chain_secret id.i c.args.seed.now id.q i)) c.last_digit-last.ensures.exact in
+    ∙ ap (λ digit. chain id.i id.q i 0 digit (chain_secret id.i c.args.seed.now id.q i))
+    c.last_digit-last.ensures.exact in
     let count : i + 1 ≡ 8 * c.groups.group + (c.ends.k + 1) = omega arith in
     let more = one-more-end id.i id.q f i end next ∙ ap (first_ends id.i id.q f) count in
     subst (Holds256 c.update-in-ends.new.self) more (c.update-in-ends.ensures _ c.ends.invariant)
@@ -24,6 +26,8 @@ pub returns : goal.returns
 unfolding public_hash ends_hash
 returns c =
     let id = c.args.id in
-    let f : ℕ → List ℕ = λ i. chain id.i id.q i 0 (last_digit (ots_set_of c.args.t)) (chain_secret id.i c.args.seed.now id.q i) in
-    let count : min (ots_set_of c.args.t).p (8 * c.groups.group) ≡ (ots_set_of c.args.t).p = omega (arith, c.div_ceil-group-end.ensures, c.p.ensures) in
+    let f : ℕ → List ℕ =
+    λ i. chain id.i id.q i 0 (last_digit (ots_set_of c.args.t)) (chain_secret id.i c.args.seed.now id.q i) in
+    let count : min (ots_set_of c.args.t).p (8 * c.groups.group) ≡ (ots_set_of c.args.t).p =
+    omega (arith, c.div_ceil-group-end.ensures, c.p.ensures) in
     c.finalize.ensures _ c.groups.invariant ∙ ap (λ n. ends_hash id.i id.q (map f (below n))) count

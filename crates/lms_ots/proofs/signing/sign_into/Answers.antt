@@ -1,4 +1,5 @@
-use Rattle.std.proofs.Common.{ℕ, ◌≡◌, ◌+◌, ◌-◌, ◌*◌, ◌<◌, ◌≤◌, List, [], ◌∷◌, ◌++◌, map, take, replicate, get_or, slice_index, refl, sym, ◌∙◌, ap, ap₂, arith, append_assoc, subst}
+use Rattle.std.proofs.Common.{ℕ, ◌≡◌, ◌+◌, ◌-◌, ◌*◌, ◌<◌, ◌≤◌, List, [], ◌∷◌, ◌++◌, map, take, replicate, get_or}
+use Rattle.std.proofs.Common.{slice_index, refl, sym, ◌∙◌, ap, ap₂, arith, append_assoc, subst}
 use Rattle.std.specs.List.{concat}
 use Rattle.std.proofs.Math.Nat.{min-zero}
 use Rattle.std.proofs.lemmas.List.{take_all}
@@ -37,10 +38,16 @@ loop-i-preserved c =
     = ap (λ ds. slice_index ds i) digits ∙ digit-in-front t hash zeros i (omega arith) in
     let seed : List ℕ = c.args.seed.now in
     let most : i < 265 = omega (arith, chains_limited c.args.t) in
-    let small : a ≤ 255 = omega (arith, ap (λ ds. slice_index ds i) digits, digit-in-chain t hash zeros i (omega arith), last_digit-byte c.args.t) in
+    let small : a ≤ 255 = omega (
+      arith,
+      ap (λ ds. slice_index ds i) digits,
+      digit-in-chain t hash zeros i (omega arith),
+      last_digit-byte c.args.t,
+    ) in
     let signed : get_or c.walk_all.new.ends i [] ≡ chain id.i id.q i 0 a (chain_secret id.i seed id.q i)
     = c.walk_all.ensures i (omega arith)
-    ∙ lane-from_seed id.i seed id.q i a _ _ _ _ refl (get_or-replicate 265 i 255 0 most) (c.hashes_to.ensures i most) (ap (λ k. get_or (seed ∷ []) k []) (min-zero i)) small in
+    ∙ lane-from_seed id.i seed id.q i a _ _ _ _ refl (get_or-replicate 265 i 255 0 most) (c.hashes_to.ensures i most)
+    (ap (λ k. get_or (seed ∷ []) k []) (min-zero i)) small in
     let next : value ≡ f i
     = c.copy_from_slice.ensures.after
     ∙ (signed ∙ ap (λ digit. chain id.i id.q i 0 digit (chain_secret id.i seed id.q i)) digit) in
@@ -63,5 +70,6 @@ pub returns-clause-candidate : goal.returns-clause-candidate
 returns-clause-candidate c =
     let t = ots_set_of c.args.t in
     let id = c.args.id in
-    subst (λ s. LeadsTo t id.i id.q s c.args.msg.now (public_hash t id.i c.args.seed.now id.q)) (sym (returns-clause-signature c))
+    subst (λ s. LeadsTo t id.i id.q s c.args.msg.now (public_hash t id.i c.args.seed.now id.q))
+    (sym (returns-clause-signature c))
     (signature-leads_to t id.i c.args.seed.now id.q c.args.c.now c.args.msg.now c.told-c)

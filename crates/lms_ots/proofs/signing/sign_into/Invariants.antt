@@ -8,4 +8,5 @@ use Rattle.lms_ots.proofs.signing.sign_into.Given as goal
 abbrev pub invariant-loop-i : goal.invariant-loop-i
 invariant-loop-i l =
     take (36 + 32 * l.i) l.out
-    ≡ u32str (ots_set_of l.fn.t).code ++ l.c ++ concat (map (signed_value (ots_set_of l.fn.t) l.fn.id.i l.seed l.fn.id.q l.c l.msg) (below l.i))
+    ≡ u32str (ots_set_of l.fn.t).code ++ l.c
+    ++ concat (map (signed_value (ots_set_of l.fn.t) l.fn.id.i l.seed l.fn.id.q l.c l.msg) (below l.i))

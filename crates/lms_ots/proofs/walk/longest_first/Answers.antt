@@ -12,7 +12,8 @@ returns c =
     let n = c.p.result in
     let most : p ≤ 265 = chains_limited c.args.t in
     let same : n ≡ p = omega arith in
-    let long : length (take n order) ≡ p = length-take-le n order (omega (arith, most, c.chains.invariant.long)) ∙ same in
+    let long : length (take n order) ≡ p =
+    length-take-le n order (omega (arith, most, c.chains.invariant.long)) ∙ same in
     sorted-order (take n order) c.sort_unstable.new.self (drop n order) p long (omega (arith, most))
     (λ i lt. ap (λ x. x % 65536) (get_or-take n order i 0 (omega arith)) ∙ c.chains.invariant.ends i (omega arith))
     c.sort_unstable.ensures.permutation

@@ -15,9 +15,11 @@ lanes-preserved c =
     record {
       long = length-set ends at v ∙ c.lanes.invariant.long;
       stay = λ f right i held.
-          right-set ends f at v within (right k below ∙ ap f (sym c.from.ensures)) i (c.lanes.invariant.stay f right i held);
+          right-set ends f at v within (right k below ∙ ap f (sym c.from.ensures)) i
+          (c.lanes.invariant.stay f right i held);
       come = λ f right.
-          right-next ends f chains k at v within c.from.ensures (right k below ∙ ap f (sym c.from.ensures)) (c.lanes.invariant.come f right);
+          right-next ends f chains k at v within c.from.ensures (right k below ∙ ap f (sym c.from.ensures))
+          (c.lanes.invariant.come f right);
     }
 
 pub returns-clause-come : goal.returns-clause-come

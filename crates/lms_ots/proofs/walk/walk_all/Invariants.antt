@@ -10,4 +10,5 @@ abbrev pub invariant-groups : goal.invariant-groups
 invariant-groups l = (m : ℕ) → m < 8 * l.group → m < (ots_set_of l.fn.t).p
     → get_or l.ends (chain_in l.order m) []
     ≡ walked (hash_prefix l.id.i l.id.q ++ u16str (chain_in l.order m)) (slice_index l.fn.firsts (chain_in l.order m))
-    (slice_index l.fn.steps (chain_in l.order m)) (get_or l.fn.starts (min (chain_in l.order m) (length l.fn.starts - 1)) [])
+    (slice_index l.fn.steps (chain_in l.order m))
+    (get_or l.fn.starts (min (chain_in l.order m) (length l.fn.starts - 1)) [])

@@ -8,5 +8,6 @@ invariant-lanes l = record {
   starts_long : length l.lane_starts ≡ 8;
   firsts : (j : ℕ) → j < l.k → slice_index l.lane_firsts j ≡ slice_index l.firsts (slice_index l.chains j);
   steps : (j : ℕ) → j < l.k → slice_index l.lane_steps j ≡ slice_index l.steps (slice_index l.chains j);
-  starts : (j : ℕ) → j < l.k → get_or l.lane_starts j [] ≡ get_or l.starts (min (slice_index l.chains j) (length l.starts - 1)) [];
+  starts : (j : ℕ) → j < l.k
+      → get_or l.lane_starts j [] ≡ get_or l.starts (min (slice_index l.chains j) (length l.starts - 1)) [];
 }

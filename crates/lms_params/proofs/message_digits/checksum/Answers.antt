@@ -29,5 +29,6 @@ returns c =
     let hash = c.args.q.now in
     let f : ℕ → ℕ = λ i. 2 ^ t.w - 1 - digit hash i t.w in
     let count : c.loop-i.i ≡ 256 / t.w = omega (arith, hash_digits c.args.t) in
-    let whole : c.loop-i.sum ≡ sum (map f (below (256 / t.w))) = c.loop-i.invariant.0 ∙ ap (λ n. sum (map f (below n))) count in
+    let whole : c.loop-i.sum ≡ sum (map f (below (256 / t.w))) =
+    c.loop-i.invariant.0 ∙ ap (λ n. sum (map f (below n))) count in
     ap₂ (λ s k. s * 2 ^ k % 65536) whole c.ls.ensures ∙ mod-eq_of_lt (checksum-fits t hash (known_ots_set c.args.t))

@@ -9,7 +9,8 @@ pub loop-i-preserved : goal.loop-i-preserved
 loop-i-preserved c =
     let value : ℕ → ℕ = λ i. digit c.with_checksum-text.result i (ots_set_of c.args.t).w in
     let limit = chains_limited c.args.t in
-    ap₂ (λ xs v. slice_set xs c.loop-i.i v) c.loop-i.invariant c.digit.ensures ∙ set-filled value 265 c.loop-i.i (omega arith)
+    ap₂ (λ xs v. slice_set xs c.loop-i.i v) c.loop-i.invariant c.digit.ensures
+    ∙ set-filled value 265 c.loop-i.i (omega arith)
 
 pub returns : goal.returns
 unfolding digits_of

@@ -11,7 +11,15 @@ loop-desk-preserved g c =
     let popped = c.in-Some.ensures.items in
     let merged = c.merge.ensures.counted ∙ ap (plus all) (c.desk.invariant.1 ∙ c.desk.view_is) in
     record {
-      parts = omega (arith, c.merge.ensures.parts, c.desk.invariant.0, c.loop-desk.invariant.parts, ap length popped, length-append left (desk ∷ []));
-      counted = ap (λ (a : Sums). plus a (total left)) merged ∙ joined all desk left ∙ ap (λ (l : List Sums). plus all (total l)) (sym popped) ∙ c.loop-desk.invariant.counted;
+      parts = omega (
+        arith,
+        c.merge.ensures.parts,
+        c.desk.invariant.0,
+        c.loop-desk.invariant.parts,
+        ap length popped,
+        length-append left (desk ∷ []),
+      );
+      counted = ap (λ (a : Sums). plus a (total left)) merged ∙ joined all desk left
+          ∙ ap (λ (l : List Sums). plus all (total l)) (sym popped) ∙ c.loop-desk.invariant.counted;
       apart = c.merge.ensures.apart;
     }

@@ -23,4 +23,6 @@ unfolding digits
 returns-in-text-5-clause-some c = c.in-text-5.is
 
 pub returns-in_default-clause-none : goal.returns-in_default-clause-none
-returns-in_default-clause-none c = let d = c.in_default in no_height _ d.not-text d.not-text-2 d.not-text-3 d.not-text-4 d.not-text-5
+returns-in_default-clause-none c =
+    let d = c.in_default in
+    no_height _ d.not-text d.not-text-2 d.not-text-3 d.not-text-4 d.not-text-5

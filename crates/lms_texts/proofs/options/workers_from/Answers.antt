@@ -7,8 +7,10 @@ use Rattle.lms_texts.proofs.options.workers_from.Goals as goal
 
 pub returns-in_err-first-clause-none : goal.returns-in_err-first-clause-none
 returns-in_err-first-clause-none c =
-    let none = none_is_first c.args.text.now (c.in_err-first.ensures.value ∙ ap (λ (t : List ℕ). slice_get t 0) c.as_bytes.ensures.value) in
-    if_none _ c.from_residual.result (λ are. (let h : ⊥ = omega (arith, first_is_past_zero c.args.text.now are, none) in h))
+    let none = none_is_first c.args.text.now
+    (c.in_err-first.ensures.value ∙ ap (λ (t : List ℕ). slice_get t 0) c.as_bytes.ensures.value) in
+    if_none _ c.from_residual.result
+    (λ are. (let h : ⊥ = omega (arith, first_is_past_zero c.args.text.now are, none) in h))
 
 pub returns-then-first-le48-clause-none : goal.returns-then-first-le48-clause-none
 returns-then-first-le48-clause-none c =
@@ -20,8 +22,11 @@ pub returns-in-Ok-clause-some : goal.returns-in-Ok-clause-some
 returns-in-Ok-clause-some c =
     let first = get_or_from_slice_get c.args.text.now 0 c.in_ok-first.first.now 0
     (sym (c.in_ok-first.ensures.value ∙ ap (λ (t : List ℕ). slice_get t 0) c.as_bytes.ensures.value)) in
-    let past : 48 < get_or c.args.text.now 0 0 = omega (arith, first, c.if-first-le48.false) in
-    (c.if-workers-ge1.true, c.if-workers-le-MOST_WORKERS.true, is_text_of c.args.text.now c.parse.result c.in-Ok.workers c.parse.ensures.value.0 past c.in-Ok.is)
+    let past : 48 < get_or c.args.text.now 0 0 = omega (arith, first, c.if-first-le48.false) in (
+      c.if-workers-ge1.true,
+      c.if-workers-le-MOST_WORKERS.true,
+      is_text_of c.args.text.now c.parse.result c.in-Ok.workers c.parse.ensures.value.0 past c.in-Ok.is,
+    )
 
 pub returns-in_default-clause-none : goal.returns-in_default-clause-none
 returns-in_default-clause-none c = λ are.

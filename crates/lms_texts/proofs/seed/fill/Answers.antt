@@ -1,4 +1,4 @@
-use Rattle.std.proofs.Common.{◌≡◌, ◌≤◌, ◌+◌, ◌-◌, ◌++◌, List, ℕ, length, length-append, take, refl, sym, subst, arith}
+use Rattle.std.proofs.Common.{◌≡◌, ◌≤◌, ◌-◌, ◌++◌, length, length-append, take, refl, sym, subst, arith}
 use Rattle.std.proofs.lemmas.List.{length-take-le}
 use Rattle.std.specs.Io.KnownBytes.{Consumes}
 use Rattle.lms_blocks.proofs.Consumed.{consumes-both}
@@ -16,7 +16,8 @@ loop-filled-preserved g c =
     let within : a ≤ length block = was.0 in
     let long : length ys ≡ k = omega (arith, c.read_block.auto.block, was.0) in (
       omega (arith, filled-length a k block ys within refl long, c.in_ok-count.ensures.bound),
-      subst (Consumes (g.R.Read.remaining c.args.reader.now) (g.R.Read.remaining c.read_block.new.reader)) (sym (filled-more a k n block ys within refl))
+      subst (Consumes (g.R.Read.remaining c.args.reader.now) (g.R.Read.remaining c.read_block.new.reader))
+          (sym (filled-more a k n block ys within refl))
           (consumes-both _ _ _ (take a block) (take n ys) was.1 c.in_ok-count.ensures.bytes),
     )
 

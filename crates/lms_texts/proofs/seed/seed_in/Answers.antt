@@ -7,7 +7,8 @@ use Rattle.lms_texts.proofs.seed.seed_in.Goals as goal
 pub returns-then-not-is_line_end-clause-none : goal.returns-then-not-is_line_end-clause-none
 returns-then-not-is_line_end-clause-none c = λ seed is.
     let ending = c.split_at.ensures.back ∙ seed-ending c.args.text.now seed is in
-    absurd (false≢true (sym c.if-not-is_line_end.true ∙ c.is_line_end.ensures.1 (subst IsLineEnd (sym ending) is.line_end)))
+    absurd
+    (false≢true (sym c.if-not-is_line_end.true ∙ c.is_line_end.ensures.1 (subst IsLineEnd (sym ending) is.line_end)))
 
 pub returns-clause-some : goal.returns-clause-some
 returns-clause-some c =

@@ -1,4 +1,5 @@
-use Rattle.std.proofs.Common.{zero, suc, ◌≡◌, ◌∙◌, ◌∷◌, [], ◌+◌, ⊎_elim, ℕ, List, Option, Some, None, ap, inl, inr, refl, sym, arith}
+use Rattle.std.proofs.Common.{zero, suc, ◌≡◌, ◌∙◌, ◌∷◌, [], ◌+◌, ⊎_elim, ℕ, List, Option, Some, None, ap, inl, inr}
+use Rattle.std.proofs.Common.{refl, sym, arith}
 use Rattle.std.specs.Prelude.{◌⊎◌, Contains}
 use Rattle.lms_hss.specs.declared.key.HssKey.{HssKey as KeyOfCode}
 use Rattle.lms_book.specs.Stops.{StoreView, Texts, after_write}
@@ -33,7 +34,8 @@ how_many other = 0
 -- a run whose image is stored for certain
 module _ (key : KeyOfCode) (n : ℕ) (taken : Taking) (given : StoreView) (signatures : List Signature) where
   stored : (held : StateTexts) → Contains held (Some (image_after key n))
-      → Moves (run_at key n taken (after_write (image_after key (n + 1)) given) signatures) held (Some (image_after key (n + 1)) ∷ [])
+      → Moves (run_at key n taken (after_write (image_after key (n + 1)) given) signatures) held
+      (Some (image_after key (n + 1)) ∷ [])
   stored held found = record {
     found = found;
     one_of = λ text has. inr (image_after key (n + 1), refl, among_one (Some (image_after key (n + 1))) text has);
@@ -43,7 +45,8 @@ module _ (key : KeyOfCode) (n : ℕ) (taken : Taking) (given : StoreView) (signa
 
 -- a run whose image may not be stored
 tried : (key : KeyOfCode) (taken : Taking) (given : StoreView)
-    → Moves (run_at key 1 taken (one_of_two key given) []) (Some (image_after key 1) ∷ []) (Some (image_after key 2) ∷ Some (image_after key 1) ∷ [])
+    → Moves (run_at key 1 taken (one_of_two key given) []) (Some (image_after key 1) ∷ [])
+    (Some (image_after key 2) ∷ Some (image_after key 1) ∷ [])
 tried key taken given = record {
   found = (0, omega arith, refl);
   one_of = λ text has. ⊎_elim

@@ -15,7 +15,8 @@ fill_row-requires-clause-inner c =
       arith,
       sum,
       twice (rows.first + rows.width) level,
-      row-fits (tree_of c.args.key.now).lms.h rows (level + 1) c.requires.in_tree (omega (arith, c.loop-level.invariant.down, c.loop-level-test.true)),
+      row-fits (tree_of c.args.key.now).lms.h rows (level + 1) c.requires.in_tree
+          (omega (arith, c.loop-level.invariant.down, c.loop-level-test.true)),
     )
 
 pub fill_row-requires-clause-fits : goal.fill_row-requires-clause-fits
@@ -58,7 +59,8 @@ loop-level-preserved c =
       count = c.fill_row.ensures.count ∙ here.count;
       held = λ lower from to. ⊎_elim
           (λ e. subst (λ l. HoldsRow key (row_of rows l) nodes) e row)
-          (λ lt i low. c.fill_row.ensures.others (rows.width * 2 ^ lower - rows.width + i) (omega (arith, end, row-some rows.width level, row-ends rows.width level lower lt))
+          (λ lt i low. c.fill_row.ensures.others (rows.width * 2 ^ lower - rows.width + i)
+          (omega (arith, end, row-some rows.width level, row-ends rows.width level lower lt))
           ∙ here.held lower (omega (arith, lt)) to i low)
           (eq-or-lt_of_le {n = level} {m = lower} from);
     }

@@ -8,7 +8,12 @@ use Rattle.lms_tree.proofs.band.node_in.Goals as goal
 pub bounds-nodes-row : goal.bounds-nodes-row
 bounds-nodes-row c =
     let place = ap (λ (row : Row). row.place + (c.args.r - row.first)) c.row-row.ensures.row in
-    omega (arith, place, c.requires.count, place-fits c.args.rows c.args.level c.args.r c.requires.level c.requires.from c.requires.to)
+    omega (
+      arith,
+      place,
+      c.requires.count,
+      place-fits c.args.rows c.args.level c.args.r c.requires.level c.requires.from c.requires.to,
+    )
 
 pub returns : goal.returns
 returns c key held =

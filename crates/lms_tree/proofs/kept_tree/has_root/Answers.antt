@@ -14,5 +14,7 @@ returns c =
     let n = c.args.subtree in
     let top = ap (λ (rows : Rows). rows.first) (c.rows.ensures.rows ∙ c.requires.rows) in
     let given : _ ≡ get_or c.args.upper.now (2 ^ t - 1 + n) [] = search rules in
-    let root : c.node.result ≡ node (tree_of c.args.band.now.key) (subtree_root h n) = c.node.ensures ∙ ap (node (tree_of c.args.band.now.key)) top in
-    Decides-like c.eq.result (λ e. sym given ∙ (e ∙ root)) (λ e. given ∙ (e ∙ sym root)) (slice_eq-Decides Decides-eqb _ c.node.result c.eq.result c.eq.ensures)
+    let root : c.node.result ≡ node (tree_of c.args.band.now.key) (subtree_root h n) =
+    c.node.ensures ∙ ap (node (tree_of c.args.band.now.key)) top in
+    Decides-like c.eq.result (λ e. sym given ∙ (e ∙ root)) (λ e. given ∙ (e ∙ sym root))
+    (slice_eq-Decides Decides-eqb _ c.node.result c.eq.result c.eq.ensures)

@@ -8,4 +8,5 @@ pub returns : goal.returns
 unfolding public_key_of
 returns g c =
     c.public_key_bytes.ensures
-    ∙ ap₂ (λ key root. lms_public_key (lms_set_of key.lms) (ots_set_of key.ots) key.i root) c.key-key.ensures.key c.node.ensures
+    ∙ ap₂ (λ key root. lms_public_key (lms_set_of key.lms) (ots_set_of key.ots) key.i root)
+    c.key-key.ensures.key c.node.ensures

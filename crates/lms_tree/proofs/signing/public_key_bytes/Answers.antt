@@ -1,4 +1,5 @@
-use Rattle.std.proofs.Common.{ℕ, ◌≡◌, List, [], ◌++◌, length, take, drop, replicate, refl, sym, ◌∙◌, ap, ap₂, arith, append_assoc, length-append}
+use Rattle.std.proofs.Common.{ℕ, ◌≡◌, List, [], ◌++◌, length, take, drop, replicate, refl, sym, ◌∙◌, ap, ap₂, arith}
+use Rattle.std.proofs.Common.{append_assoc, length-append}
 use Rattle.std.proofs.lemmas.List.{append-nil}
 use Rattle.lms_spec.specs.Bytes.{u32str}
 use Rattle.lms_spec.specs.Tree.{lms_public_key}
@@ -24,7 +25,8 @@ returns c =
     = ap₂ (put_mid 4 52) first code in
     let third : put_mid 8 16 _ c.copy_from_slice.new.self ≡ (lms ++ ots ++ id) ++ (zeros 32 ++ [])
     = ap₂ (put_mid 8 16) second c.copy_from_slice.ensures.after
-    ∙ (put_mid-parts (lms ++ ots) (zeros 16) (zeros 32) id 8 16 refl refl ∙ sym (append_assoc (lms ++ ots) id (zeros 32))) in
+    ∙ (put_mid-parts (lms ++ ots) (zeros 16) (zeros 32) id 8 16 refl refl
+    ∙ sym (append_assoc (lms ++ ots) id (zeros 32))) in
     let long : length (lms ++ ots ++ id) ≡ 24 = omega (arith, length-append (lms ++ ots) id, c.told-id) in
     ap₂ (put_mid 24 32) third c.copy_from_slice-2.ensures.after
     ∙ (put_mid-parts (lms ++ ots ++ id) (zeros 32) [] root 24 32 long refl

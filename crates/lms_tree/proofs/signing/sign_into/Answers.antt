@@ -1,4 +1,5 @@
-use Rattle.std.proofs.Common.{ℕ, ◌≡◌, ◌+◌, ◌-◌, ◌^◌, ◌<◌, List, [], ◌++◌, length, drop, sym, ◌∙◌, ap, ap₂, arith, rules, subst, length-append}
+use Rattle.std.proofs.Common.{ℕ, ◌≡◌, ◌+◌, ◌-◌, ◌^◌, ◌<◌, List, [], ◌++◌, length, drop, sym, ◌∙◌, ap, ap₂, arith, rules}
+use Rattle.std.proofs.Common.{subst, length-append}
 use Rattle.std.proofs.lemmas.List.{append-nil, length-take-le}
 use Rattle.lms_spec.specs.Parameters.{ots_signature_length}
 use Rattle.lms_spec.specs.Bytes.{u32str}
@@ -25,10 +26,12 @@ returns-clause-signature g c =
     let after = length (head ++ rest) - start in
     let ots_long : c.sig_len-path_start.result ≡ _
     = c.sig_len-path_start.ensures ∙ ap (λ (key : TreeKey). ots_signature_length (ots_set_of key.ots)) same in
-    let long : length head ≡ start = omega (arith, length-take-le start c.args.out.now (omega (arith, ots_long, c.requires.long))) in
+    let long : length head ≡ start =
+    omega (arith, length-take-le start c.args.out.now (omega (arith, ots_long, c.requires.long))) in
     let of_key : head ≡ _
     = c.write_head.ensures
-    ∙ ap (λ (key : TreeKey). u32str c.args.q ++ ots_signature (ots_set_of key.ots) key.i key.seed c.args.q c.args.c.now c.args.msg.now ++ u32str (lms_set_of key.lms).code) same in
+    ∙ ap (λ (key : TreeKey). u32str c.args.q ++ ots_signature (ots_set_of key.ots) key.i key.seed c.args.q c.args.c.now
+    c.args.msg.now ++ u32str (lms_set_of key.lms).code) same in
     ap (λ text. put_mid start after (head ++ text) path) (sym (append-nil rest))
     ∙ (put_mid-parts head rest [] path start after long (omega (arith, length-append head rest, long))
     ∙ (ap (λ text. head ++ text) (append-nil path) ∙ ap₂ (λ x y. x ++ y) of_key c.write_path.ensures))
@@ -41,4 +44,5 @@ returns-clause-accepted g c =
     let id : length tree.id ≡ 16 = ap (λ (key : TreeKey). length key.i) (sym c.key-key.ensures.key) ∙ sixteen in
     let leaf : c.args.q < 2 ^ tree.lms.h = omega (arith, c.key-key.ensures.in_tree, c.requires.last) in
     subst (LmsAccepts (public_key_of tree) c.args.msg.now) (sym (returns-clause-signature g c))
-    (tree-accepts tree c.args.q c.args.c.now c.args.msg.now (known_lms_set key.lms) (known_ots_set key.ots) id leaf c.told-c)
+    (tree-accepts tree c.args.q c.args.c.now c.args.msg.now (known_lms_set key.lms)
+    (known_ots_set key.ots) id leaf c.told-c)

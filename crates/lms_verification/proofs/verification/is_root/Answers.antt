@@ -6,5 +6,7 @@ use Rattle.lms_verification.proofs.verification.is_root.Goals as goal
 
 pub returns : goal.returns
 returns c =
-    let end = c.climb.ensures ∙ ap (λ value. climb c.args.i.now c.args.leaf value c.args.path.now) c.leaf_hash.ensures in
-    Decides-like c.eq.result (λ e. sym end ∙ e) (λ e. end ∙ e) (slice_eq-Decides Decides-eqb c.climb.result c.args.root.now c.eq.result c.eq.ensures)
+    let end = c.climb.ensures
+    ∙ ap (λ value. climb c.args.i.now c.args.leaf value c.args.path.now) c.leaf_hash.ensures in
+    Decides-like c.eq.result (λ e. sym end ∙ e) (λ e. end ∙ e)
+    (slice_eq-Decides Decides-eqb c.climb.result c.args.root.now c.eq.result c.eq.ensures)

@@ -10,7 +10,11 @@ pub returns : goal.returns
 returns c =
     let slots = c.self.inside.slots.items in
     let all : All IsSome slots = rw (← c.as_slice.ensures.value) (search rules) in
-    let none : length (into_iter_items c.loop-slot.slot-iterator) ≡ 0 = let steps = c.in-None.ensures.steps in omega (arith, c.loop-slot.invariant) in
-    let done : filter_map (λ s. s) slots ≡ c.loop-slot.signatures.items = ap (filter_map (λ s. s)) (sym c.into_iter-slot-iterator.ensures.into_iter_gives.0) ∙ filter_map-end _ _ (into_iter_items c.loop-slot.slot-iterator) c.loop-slot.invariant.0 none in
-    let whole = HoldsOnly-whole (batch_of c.self.inside.key c.self.inside.start (texts_of c.self.inside.jobs.now)) slots c.self.invariant.holds all in
+    let none : length (into_iter_items c.loop-slot.slot-iterator) ≡ 0 =
+    let steps = c.in-None.ensures.steps in omega (arith, c.loop-slot.invariant) in
+    let done : filter_map (λ s. s) slots ≡ c.loop-slot.signatures.items =
+    ap (filter_map (λ s. s)) (sym c.into_iter-slot-iterator.ensures.into_iter_gives.0)
+    ∙ filter_map-end _ _ (into_iter_items c.loop-slot.slot-iterator) c.loop-slot.invariant.0 none in
+    let whole = HoldsOnly-whole (batch_of c.self.inside.key c.self.inside.start (texts_of c.self.inside.jobs.now)) slots
+    c.self.invariant.holds all in
     rw (← c.self.view_is) (refl, ap (map (λ v. v.items)) (sym done) ∙ whole.0, whole.1, c.self.invariant.accepted)

@@ -15,7 +15,8 @@ empty c =
 pub invariant_of-result : goal.invariant_of-result
 invariant_of-result c = record {
   holds = rw (empty c) (HoldsOnly-none _ _ (length-batch_of c.args.key c.args.start (texts_of c.args.jobs.now)));
-  accepted = rw (empty c) (AreAccepted-none (hss_public_key (hss_key_of c.args.key)) (texts_of c.args.jobs.now) (length (texts_of c.args.jobs.now)));
+  accepted = rw (empty c) (AreAccepted-none (hss_public_key (hss_key_of c.args.key)) (texts_of c.args.jobs.now)
+      (length (texts_of c.args.jobs.now)));
   one_each = omega (arith, length-map c.args.jobs.now text_of);
   none_listed = search rules;
   fits = search rules;

@@ -9,7 +9,8 @@ loop-list-preserved c =
     let inv = c.loop-list.invariant in
     let pushed = c.push_reserved.ensures in
     record {
-      capacity = (All-pop (λ (list : _). (vec_len list ≡ 0) × (length c.args.self.jobs.now ≤ vec_capacity list)) _ _ _ c.pop.ensures.items inv.capacity).0;
+      capacity = (All-pop (λ (list : _). (vec_len list ≡ 0) × (length c.args.self.jobs.now ≤ vec_capacity list)) _ _ _
+          c.pop.ensures.items inv.capacity).0;
       fits = omega (arith, inv.fits, c.in-Some.ensures.len, pushed.len, pushed.capacity);
       own = (All-pop (λ (seat : SeatState). seat.pool ≡ c.args.lease.now) _ _ _ c.pop-in-Some.ensures.items inv.own).0;
       each = omega (arith, inv.each, c.in-Some.ensures.len, c.in-Some-pop.ensures.len);

@@ -9,5 +9,6 @@ use Rattle.lms_book.proofs.book.Book.reservations.Goals as goal
 pub returns-clause-in_order : goal.returns-clause-in_order
 returns-clause-in_order g c =
     let r = c.self.inside.reservations in
-    let counted = subst (λ (at : ℕ). HasImage r.key at r.openings (burnt_after r.burnt r.history)) c.counter-counter.ensures.counter c.counter-counter.ensures.counted in
+    let counted = subst (λ (at : ℕ). HasImage r.key at r.openings (burnt_after r.burnt r.history))
+    c.counter-counter.ensures.counter c.counter-counter.ensures.counted in
     subst (λ (book : BookState). IsInOrder book) c.self.view_is (in_order _ counted c.self.invariant.safe)

@@ -13,7 +13,8 @@ swap_as-requires g c =
         search rules,
         (
           c.requires.table ∙ sym (ap (λ (p : PoolState). p.table) c.self.view_is),
-          fills first.id (cell_view first) (record { taken = 0; len = pool.len; seats = pool.seats }) c.requires.empty refl c.self.invariant.lease.at_most c.self.invariant.at_most,
+          fills first.id (cell_view first) (record { taken = 0; len = pool.len; seats = pool.seats }) c.requires.empty
+              refl c.self.invariant.lease.at_most c.self.invariant.at_most,
         ),
       ),
     )

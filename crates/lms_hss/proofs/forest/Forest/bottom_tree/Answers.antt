@@ -11,7 +11,12 @@ tree-requires-clause-to c =
     let len = ap (λ v. v.start + v.len) c.self.view_is in
     let bottom = c.requires.bottom ∙ ap (λ (key : HssKey). length key.levels - 1) (sym key) in
     let number = c.tree_number.ensures ∙ ap (tree_number (hss_key_of c.self.inside.key) c.args.g) bottom in
-    omega (arith, number, bottom-to c.self.inside.key c.self.inside.start c.self.inside.len c.args.g c.self.inside.bottom c.self.invariant.0 (omega (arith, len, c.requires.covered.1)))
+    omega (
+      arith,
+      number,
+      bottom-to c.self.inside.key c.self.inside.start c.self.inside.len c.args.g c.self.inside.bottom c.self.invariant.0
+          (omega (arith, len, c.requires.covered.1)),
+    )
 
 pub returns : goal.returns
 returns c =

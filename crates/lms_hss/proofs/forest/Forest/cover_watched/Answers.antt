@@ -6,7 +6,8 @@ use Rattle.lms_hss.proofs.forest.Forest.cover_watched.Goals as goal
 
 pub public_key-public-requires : goal.public_key-public-requires
 public_key-public-requires g c =
-    top-is (hss_key_of c.args.key) c.args.start (c.args.start + (c.args.len - 1)) c.in_ok-trees.trees c.tree.result.now c.in_ok-trees.ensures
+    top-is (hss_key_of c.args.key) c.args.start
+    (c.args.start + (c.args.len - 1)) c.in_ok-trees.trees c.tree.result.now c.in_ok-trees.ensures
     (omega arith) (omega (arith, c.requires.some, c.requires.within)) c.tree.ensures
 
 pub invariant_of-result : goal.invariant_of-result
@@ -17,7 +18,8 @@ invariant_of-result g c =
       record {
         id_length = search rules;
         some_index = c.requires.some;
-        level = subst (λ k. HoldsLevel (hss_key_of c.args.key) k c.args.start last c.loop-k.trees) bottom c.loop-k.invariant;
+        level = subst (λ k. HoldsLevel (hss_key_of c.args.key) k c.args.start last c.loop-k.trees) bottom
+            c.loop-k.invariant;
       },
       c.public_key-public.ensures,
     )

@@ -13,13 +13,15 @@ use Rattle.lms_hss.proofs.forest.Forest.sign.Goals as goal
 pub signed-requires-clause-from : goal.signed-requires-clause-from
 signed-requires-clause-from c =
     let key = ap (λ v. v.key) c.self.view_is in
-    let leaf = c.leaf_of.ensures ∙ ap (λ key. leaf_at (hss_key_of key) c.args.g (length c.as_slice.result.now - 1)) key in
+    let leaf = c.leaf_of.ensures
+    ∙ ap (λ key. leaf_at (hss_key_of key) c.args.g (length c.as_slice.result.now - 1)) key in
     omega (arith, leaf, c.bottom_tree-tree.ensures.from)
 
 pub signed-requires-clause-to : goal.signed-requires-clause-to
 signed-requires-clause-to c =
     let key = ap (λ v. v.key) c.self.view_is in
-    let leaf = c.leaf_of.ensures ∙ ap (λ key. leaf_at (hss_key_of key) c.args.g (length c.as_slice.result.now - 1)) key in
+    let leaf = c.leaf_of.ensures
+    ∙ ap (λ key. leaf_at (hss_key_of key) c.args.g (length c.as_slice.result.now - 1)) key in
     omega (arith, leaf, c.bottom_tree-tree.ensures.to)
 
 pub returns-clause-signature : goal.returns-clause-signature
@@ -29,9 +31,11 @@ returns-clause-signature c =
     let k = length c.as_slice.result.now - 1 in
     let leaf = c.leaf_of.ensures ∙ ap (λ key. leaf_at (hss_key_of key) c.args.g k) key in
     let levels = c.as_slice.ensures.levels ∙ ap (λ (key : HssKey). key.levels) key in
-    let bottom : k ≡ length (hss_key_of whole).levels - 1 = omega (arith, length-map whole.levels level_of, ap length levels) in
+    let bottom : k ≡ length (hss_key_of whole).levels - 1 =
+    omega (arith, length-map whole.levels level_of, ap length levels) in
     IfOk-weaker c.signed.result _ _
-    (λ text is. is ∙ signature-is (hss_key_of whole) c.args.g k c.leaf_of.result c.bottom_tree-tree.result.now c.args.c.now c.args.msg.now
+    (λ text is. is ∙ signature-is (hss_key_of whole) c.args.g k c.leaf_of.result c.bottom_tree-tree.result.now
+    c.args.c.now c.args.msg.now
     c.bottom_tree-tree.ensures bottom leaf) c.signed.ensures
 
 pub returns-clause-accepted : goal.returns-clause-accepted

@@ -16,8 +16,11 @@ loop-j-preserved c =
     let j = c.loop-j.j in
     let below : j + 1 < length whole.levels = omega (arith, c.loop-j-test.true, c.requires) in
     c.child_key-tree.ensures
-    ∙ (ap (child (tree_of c.loop-j.tree) c.leaf_of.result) (sets-of whole c.as_slice.result.now (j + 1) (H5, W1) c.as_slice.ensures.levels below)
-    ∙ (ap₂ (λ t q. child t q (level key (j + 1))) c.loop-j.invariant c.leaf_of.ensures ∙ sym (tree-below key c.args.g j)))
+    ∙ (ap (child (tree_of c.loop-j.tree) c.leaf_of.result)
+    (sets-of whole c.as_slice.result.now (j + 1) (H5, W1) c.as_slice.ensures.levels below)
+    ∙ (ap₂ (λ t q. child t q (level key (j + 1))) c.loop-j.invariant c.leaf_of.ensures
+    ∙ sym (tree-below key c.args.g j)))
 
 pub returns : goal.returns
-returns c = c.loop-j.invariant ∙ ap (tree_at (hss_key_of c.args.self.now) c.args.g) (omega (arith, c.loop-j-test.false, c.loop-j.auto.j-end))
+returns c = c.loop-j.invariant
+    ∙ ap (tree_at (hss_key_of c.args.self.now) c.args.g) (omega (arith, c.loop-j-test.false, c.loop-j.auto.j-end))

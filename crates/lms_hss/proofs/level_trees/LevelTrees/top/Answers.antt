@@ -7,7 +7,8 @@ use Rattle.lms_hss.proofs.Forests.{top-number}
 use Rattle.lms_hss.proofs.level_trees.LevelTrees.top.Goals as goal
 
 -- one tree alone
-holds-one : (key : HssKey) (start last : ℕ) (tree : SignedTree) (trees : List SignedTree) → trees ≡ tree ∷ [] → last < capacity_of key
+holds-one : (key : HssKey) (start last : ℕ) (tree : SignedTree) (trees : List SignedTree) → trees ≡ tree ∷ []
+    → last < capacity_of key
     → ((g : ℕ) → start ≤ g → g ≤ last → IsSignedTree key g 0 tree) → HoldsTrees key 0 start last 0 trees
 holds-one key start last tree trees one within is g other from to low high =
     let here : get_or trees (tree_number key g 0 - 0) other ≡ tree
@@ -24,6 +25,7 @@ returns g c =
       first = sym (top-number key c.args.start (omega (arith, within, c.requires.order)));
       count = omega (arith, ap length one, top-number key c.args.last within);
       held = holds-one key c.args.start c.args.last c.in_ok-top.field-0 c.push_reserved.new.self.items one within
-          (λ i from to. c.in_ok-top.ensures i (c.leaves-leaves.ensures.from i from (top-number key i (omega (arith, to, within))))
+          (λ i from to.
+          c.in_ok-top.ensures i (c.leaves-leaves.ensures.from i from (top-number key i (omega (arith, to, within))))
           (c.leaves-leaves.ensures.to i to (top-number key i (omega (arith, to, within)))));
     }

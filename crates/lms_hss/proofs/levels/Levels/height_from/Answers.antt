@@ -11,7 +11,8 @@ use Rattle.lms_hss.proofs.levels.Levels.height_from.Goals as goal
 from-slice : (k : ℕ) (sets levels : List (LmsType × OtsType)) → sets ≡ levels
     → height_of (levels_of (take (length sets - k) (drop k sets))) ≡ height_of (drop k (levels_of levels))
 from-slice k sets levels same =
-    let whole : take (length sets - k) (drop k sets) ≡ drop k sets = take_all (length sets - k) (drop k sets) (omega (arith, length-drop k sets)) in
+    let whole : take (length sets - k) (drop k sets) ≡ drop k sets =
+    take_all (length sets - k) (drop k sets) (omega (arith, length-drop k sets)) in
     ap (λ xs. height_of (levels_of xs)) (whole ∙ ap (drop k) same) ∙ ap height_of (sym (drop-map level_of k levels))
 
 -- the levels from k on are at most as tall as all
@@ -23,8 +24,14 @@ part-height k levels =
     omega (arith, whole, all)
 
 pub returns-clause-height : goal.returns-clause-height
-returns-clause-height c = c.height.ensures ∙ from-slice c.args.k c.as_slice.result.now c.args.self.now c.as_slice.ensures.levels
+returns-clause-height c =
+    c.height.ensures ∙ from-slice c.args.k c.as_slice.result.now c.args.self.now c.as_slice.ensures.levels
 
 pub returns-clause-limit : goal.returns-clause-limit
 returns-clause-limit c =
-    omega (arith, returns-clause-height c, part-height c.args.k (levels_of c.args.self.now), c.as_slice.ensures.admitted.not_too_tall)
+    omega (
+      arith,
+      returns-clause-height c,
+      part-height c.args.k (levels_of c.args.self.now),
+      c.as_slice.ensures.admitted.not_too_tall,
+    )

@@ -16,9 +16,16 @@ returns-clause-parts c =
     let count = c.args.count in
     let front = c.in_ok-levels.levels.now in
     let chunks : length front / 8 ≡ count = omega (arith, levels.3) in
-    let reads : ReadsLater c.args.version c.in_ok-counter.rest.now c.in_ok-openings.openings c.in_ok-openings.burnt c.in_ok-digest.digest.now
-    = record { are = later.are; parts = later.parts ∙ ap (λ x. later_text c.args.version c.in_ok-openings.openings c.in_ok-openings.burnt ++ x) (sym digest.same); long = later.long ∙ ap (λ x. later_length c.args.version + length x) (sym digest.same) } in
-    cut-parts count c.args.rest.now front c.in_ok-levels.rest.now c.in_ok-seed.seed.now c.in_ok-seed.rest.now c.in_ok-i.i.now
+    let reads : ReadsLater c.args.version c.in_ok-counter.rest.now c.in_ok-openings.openings c.in_ok-openings.burnt
+    c.in_ok-digest.digest.now
+    = record {
+      are = later.are;
+      parts = later.parts
+          ∙ ap (λ x. later_text c.args.version c.in_ok-openings.openings c.in_ok-openings.burnt ++ x) (sym digest.same);
+      long = later.long ∙ ap (λ x. later_length c.args.version + length x) (sym digest.same);
+    } in
+    cut-parts count c.args.rest.now front c.in_ok-levels.rest.now c.in_ok-seed.seed.now
+    c.in_ok-seed.rest.now c.in_ok-i.i.now
     c.in_ok-i.rest.now c.in_ok-counter.rest.now c.in_ok-digest.digest.now c.as_chunks.result.0.now c.args.version
     c.in_ok-counter.counter c.in_ok-openings.openings c.in_ok-openings.burnt
     (λ i. let byte = c.type_inv.rest i in omega arith)

@@ -12,21 +12,27 @@ returns-in_default-clause-never c message =
 pub returns-clause-text : goal.returns-clause-text
 returns-clause-text c =
     let inside = c.self.inside in
+    let keys = inside.keys in
     let it = c.args.self.now in
     c.in_ok-text.ensures
-    ∙ signature-of-fields inside.top_levels inside.signer_levels inside.top_key.now inside.signatures.now inside.signer_key.now it
+    ∙ signature-of-fields keys.top.levels keys.signer.levels keys.top.lms_key.now inside.signatures.now
+    keys.signer.lms_key.now it
     (count_of it.signer_public - 1) c.args.signature.now c.in-Some.signatures.now
     c.self.invariant c.self.view_is c.in-Some.ensures.some
 
 pub returns-clause-accepted : goal.returns-clause-accepted
 returns-clause-accepted c message =
     let inside = c.self.inside in
+    let keys = inside.keys in
     let it = c.args.self.now in
     let text = c.in-Some.signatures.now in
-    let levels = signer-count inside.top_levels inside.signer_levels inside.top_key.now inside.signatures.now inside.signer_key.now it
+    let levels = signer-count keys.top.levels keys.signer.levels keys.top.lms_key.now inside.signatures.now
+    keys.signer.lms_key.now it
     c.self.invariant c.self.view_is in
-    subst (λ text. HssAccepts (joined_public it.top_public it.signer_public) message text ↔ HssAccepts it.signer_public message c.args.signature.now)
+    subst (λ text. HssAccepts (joined_public it.top_public it.signer_public) message text
+    ↔ HssAccepts it.signer_public message c.args.signature.now)
     (sym (returns-clause-text c))
-    (exact-of-fields inside.top_levels inside.signer_levels inside.top_key.now inside.signatures.now inside.signer_key.now it
+    (exact-of-fields keys.top.levels keys.signer.levels keys.top.lms_key.now inside.signatures.now
+    keys.signer.lms_key.now it
     c.args.signature.now text message c.self.invariant c.self.view_is
     (c.in-Some.ensures.some ∙ ap (λ n. u32str (n - 1) ++ text) levels))

@@ -8,8 +8,9 @@ use Rattle.lms_join.proofs.endorsement.Endorsement.signatures_in.Goals as goal
 pub returns-then-signed_keys-self-clause-none : goal.returns-then-signed_keys-self-clause-none
 returns-then-signed_keys-self-clause-none c =
     let inside = c.self.inside in
-    let levels : count_of c.args.self.now.signer_public ≡ inside.signer_levels
-    = signer-count inside.top_levels inside.signer_levels inside.top_key.now inside.signatures.now inside.signer_key.now
+    let keys = inside.keys in
+    let levels : count_of c.args.self.now.signer_public ≡ keys.signer.levels
+    = signer-count keys.top.levels keys.signer.levels keys.top.lms_key.now inside.signatures.now keys.signer.lms_key.now
     c.args.self.now c.self.invariant c.self.view_is in
     let here = c.in_ok-signed_keys in
     let same : count_of c.args.signature.now ≡ here.signed_keys
@@ -19,9 +20,10 @@ returns-then-signed_keys-self-clause-none c =
 pub returns-clause-some : goal.returns-clause-some
 returns-clause-some c =
     let inside = c.self.inside in
+    let keys = inside.keys in
     let here = c.in_ok-signed_keys in
-    let levels : count_of c.args.self.now.signer_public ≡ inside.signer_levels
-    = signer-count inside.top_levels inside.signer_levels inside.top_key.now inside.signatures.now inside.signer_key.now
+    let levels : count_of c.args.self.now.signer_public ≡ keys.signer.levels
+    = signer-count keys.top.levels keys.signer.levels keys.top.lms_key.now inside.signatures.now keys.signer.lms_key.now
     c.args.self.now c.self.invariant c.self.view_is in
     let number : here.signed_keys ≡ count_of c.args.self.now.signer_public - 1 = omega arith in
     here.ensures.parts ∙ ap (λ n. u32str n ++ here.signatures.now) number
@@ -29,9 +31,10 @@ returns-clause-some c =
 pub returns-clause-count : goal.returns-clause-count
 returns-clause-count c =
     let inside = c.self.inside in
+    let keys = inside.keys in
     let here = c.in_ok-signed_keys in
-    let levels : count_of c.args.self.now.signer_public ≡ inside.signer_levels
-    = signer-count inside.top_levels inside.signer_levels inside.top_key.now inside.signatures.now inside.signer_key.now
+    let levels : count_of c.args.self.now.signer_public ≡ keys.signer.levels
+    = signer-count keys.top.levels keys.signer.levels keys.top.lms_key.now inside.signatures.now keys.signer.lms_key.now
     c.args.self.now c.self.invariant c.self.view_is in
     has-count here.signed_keys c.args.self.now.signer_public c.args.signature.now here.signatures.now
     here.ensures.fits here.ensures.parts (omega arith)

@@ -10,7 +10,8 @@ returns-in_err-_length-clause-none c =
     rw c.from_residual-in_err-_length.ensures
     (λ levels lms_key is.
     c.in_err-_length.ensures.none is.signature_length
-    (subst (HasSignaturesOf is.signature_length) (rest-same levels front.levels lms_key front.rest.now (sym is.parts ∙ front.ensures.parts)) is.known))
+    (subst (HasSignaturesOf is.signature_length)
+    (rest-same levels front.levels lms_key front.rest.now (sym is.parts ∙ front.ensures.parts)) is.known))
 
 pub returns-in_err-lms_key-clause-none : goal.returns-in_err-lms_key-clause-none
 returns-in_err-lms_key-clause-none c =

@@ -6,4 +6,5 @@ returns-in_err-top-clause-none c =
 
 pub returns-in_err-signer-clause-none : goal.returns-in_err-signer-clause-none
 returns-in_err-signer-clause-none c =
-    rw c.from_residual-in_err-signer.ensures (λ are. c.in_err-signer.ensures.none are.signer_levels are.signer_key are.signer)
+    rw c.from_residual-in_err-signer.ensures
+    (λ are. c.in_err-signer.ensures.none are.signer_levels are.signer_key are.signer)

@@ -17,13 +17,23 @@ loop-k-preserved c =
     let next : k + 1 ≡ suc k = omega arith in
     let long : c.level_len-length.result ≡ level_length key (0 + k)
     = c.level_len-length.ensures.length ∙ ap₂ level_length (ap (λ (v : Way). hss_key_of v.key) c.self.view_is) here in
-    let more : sum-from key 0 (k + 1) ≡ sum-from key 0 k + level_length key (0 + k) = ap (sum-from key 0) next ∙ sum-more key 0 k in
-    (omega (arith, long, more, c.loop-k.invariant.0), omega (arith, c.loop-k.invariant.1, c.level_len-length.ensures.limit))
+    let more : sum-from key 0 (k + 1) ≡ sum-from key 0 k + level_length key (0 + k) =
+    ap (sum-from key 0) next ∙ sum-more key 0 k in (
+      omega (arith, long, more, c.loop-k.invariant.0),
+      omega (arith, c.loop-k.invariant.1, c.level_len-length.ensures.limit),
+    )
 
 pub returns : goal.returns
 returns c =
     let way = c.args.self.now in
     let count : c.loop-k.k ≡ length way.levels
-    = omega (arith, c.loop-k-test.false, c.loop-k.auto.k-end, c.len-k-end.ensures, ap (λ (v : Way). length v.levels) c.self.view_is) in
+    = omega (
+      arith,
+      c.loop-k-test.false,
+      c.loop-k.auto.k-end,
+      c.len-k-end.ensures,
+      ap (λ (v : Way). length v.levels) c.self.view_is,
+    ) in
     c.loop-k.invariant.0
-    ∙ (ap (λ n. 48 + sum-from (hss_key_of way.key) 0 n) count ∙ sym (text-length way (subst IsWay c.self.view_is c.self.invariant)))
+    ∙ (ap (λ n. 48 + sum-from (hss_key_of way.key) 0 n) count
+    ∙ sym (text-length way (subst IsWay c.self.view_is c.self.invariant)))

@@ -1,4 +1,5 @@
-use Rattle.std.proofs.Common.{◌-◌, length, min, ℕ, ◌≡◌, ◌<◌, ◌≤◌, List, [], map, get_or, slice_index, refl, ◌∙◌, ap, arith, subst}
+use Rattle.std.proofs.Common.{◌-◌, length, min, ℕ, ◌≡◌, ◌<◌, ◌≤◌, List, [], map, get_or, slice_index, refl, ◌∙◌, ap}
+use Rattle.std.proofs.Common.{arith, subst}
 use Rattle.sha2.specs.Hashers.{Holds256}
 use Rattle.lms_spec.specs.Bytes.{below}
 use Rattle.lms_spec.specs.Ots.{end_from, ends_hash, last_digit}
@@ -19,9 +20,11 @@ loop-i-preserved c =
     let most : last_digit t ≤ 255 = last_digit-byte c.args.t in
     let next : end ≡ f i
     = c.walk_all.ensures i lt
-    ∙ lane-from_digit id.i id.q i (slice_index c.args.digits.now i) (last_digit t) _ _ _ _ refl (c.steps_from.ensures i lt)
+    ∙ lane-from_digit id.i id.q i (slice_index c.args.digits.now i) (last_digit t) _ _ _ _ refl
+    (c.steps_from.ensures i lt)
     (ap (λ j. get_or c.args.values.now j []) own) (c.requires.limit i lt) most in
-    subst (Holds256 c.update-in-loop-i.new.self) (one-more-end id.i id.q f i end next) (c.update-in-loop-i.ensures _ c.loop-i.invariant)
+    subst (Holds256 c.update-in-loop-i.new.self) (one-more-end id.i id.q f i end next)
+    (c.update-in-loop-i.ensures _ c.loop-i.invariant)
 
 pub returns : goal.returns
 unfolding ends_hash

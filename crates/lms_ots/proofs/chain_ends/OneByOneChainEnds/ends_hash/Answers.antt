@@ -12,8 +12,10 @@ loop-i-preserved c =
     let i = c.loop-i.i in
     let f = end_from (ots_set_of c.args.t) id.i id.q c.args.digits.now c.args.values.now in
     let next : c.chain.result ≡ f i
-    = c.chain.ensures ∙ ap₂ (λ from to. chain id.i id.q i from (to - from) (get_or c.args.values.now i [])) c.from.ensures c.last_digit-last.ensures.exact in
-    subst (Holds256 c.update-in-loop-i.new.self) (one-more-end id.i id.q f i c.chain.result next) (c.update-in-loop-i.ensures _ c.loop-i.invariant)
+    = c.chain.ensures ∙ ap₂ (λ from to. chain id.i id.q i from (to - from) (get_or c.args.values.now i []))
+    c.from.ensures c.last_digit-last.ensures.exact in
+    subst (Holds256 c.update-in-loop-i.new.self) (one-more-end id.i id.q f i c.chain.result next)
+    (c.update-in-loop-i.ensures _ c.loop-i.invariant)
 
 pub returns : goal.returns
 unfolding ends_hash

@@ -6,4 +6,5 @@ use Rattle.lms_ots.proofs.chain_ends.OneByOneChainEnds.ends_hash.Given as goal
 
 abbrev pub invariant-loop-i : goal.invariant-loop-i
 invariant-loop-i l =
-    Holds256 l.hasher (first_ends l.id.i l.id.q (end_from (ots_set_of l.fn.t) l.id.i l.id.q l.fn.digits l.fn.values) l.i)
+    Holds256 l.hasher
+    (first_ends l.id.i l.id.q (end_from (ots_set_of l.fn.t) l.id.i l.id.q l.fn.digits l.fn.values) l.i)

@@ -15,5 +15,6 @@ returns-clause-some c =
     let rest = c.in_ok-code.rest.now in
     let code : c.in_ok-code.code ≡ t.code = omega arith in
     let cut = c.in_ok-randomizer.ensures.cases in
-    ots-parts t c.args.sig.now rest c.in_ok-randomizer.randomizer.now c.in_ok-randomizer.rest.now c.as_chunks.result.0.now
+    ots-parts t c.args.sig.now rest c.in_ok-randomizer.randomizer.now c.in_ok-randomizer.rest.now
+    c.as_chunks.result.0.now
     (omega arith) (c.in_ok-code.ensures.parts ∙ ap (λ n. u32str n ++ rest) code) cut.0 cut.1 c.as_chunks.ensures.front

@@ -12,7 +12,10 @@ returns g c t id q signature before message taken hashed =
     let of_self = c.args.self.signature in
     rw (taken.set_is, taken.id_is, taken.leaf_is)
     at (c.candidate_by_hash.ensures signature message
-    (subst (λ (t : _). IsOtsSignature t of_self.randomizer.now of_self.values.now signature) (sym taken.set_is) taken.signature_parts)
+    (subst (λ (t : _). IsOtsSignature t of_self.randomizer.now of_self.values.now signature)
+    (sym taken.set_is) taken.signature_parts)
     (hashed
-    ∙ (ap (λ x. sha256 (hash_prefix id q ++ u16str d_mesg ++ x ++ message)) (randomizer-of t of_self.randomizer.now of_self.values.now signature taken.signature_parts)
-    ∙ ap₂ (λ id q. sha256 (hash_prefix id q ++ u16str d_mesg ++ of_self.randomizer.now ++ message)) (sym taken.id_is) (sym taken.leaf_is))))
+    ∙ (ap (λ x. sha256 (hash_prefix id q ++ u16str d_mesg ++ x ++ message))
+    (randomizer-of t of_self.randomizer.now of_self.values.now signature taken.signature_parts)
+    ∙ ap₂ (λ id q. sha256 (hash_prefix id q ++ u16str d_mesg ++ of_self.randomizer.now ++ message)) (sym taken.id_is)
+    (sym taken.leaf_is))))

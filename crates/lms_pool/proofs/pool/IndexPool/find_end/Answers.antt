@@ -13,22 +13,26 @@ load-requires c =
     let me = c.me.inside in
     let log = (the_hand me.seat.me.0).log in
     let same = ap (λ (s : SeatState). s.pool) c.me.view_is ∙ c.requires.pool ∙ sym c.self.view_is in
-    let before = subst (λ (s : SeatState). seen s ≡ s.pool.len) (sym c.me.view_is) (c.requires.before ∙ ap (λ (p : PoolState). p.len) (sym c.requires.pool)) in
+    let before = subst (λ (s : SeatState). seen s ≡ s.pool.len) (sym c.me.view_is)
+    (c.requires.before ∙ ap (λ (p : PoolState). p.len) (sym c.requires.pool)) in
     asks me _ c.self.inside.word.shared.key (λ n. n) claimed same c.self.invariant c.me.invariant
     (loads _ _ _ _ _ _ (subst (λ (p : PoolState). taken p.len log ≡ p.len) same before))
 
 pub invariant_of-me : goal.invariant_of-me
 invariant_of-me c =
     let me = c.me.inside in
-    let before = subst (λ (s : SeatState). seen s ≡ s.pool.len) (sym c.me.view_is) (c.requires.before ∙ ap (λ (p : PoolState). p.len) (sym c.requires.pool)) in
+    let before = subst (λ (s : SeatState). seen s ≡ s.pool.len) (sym c.me.view_is)
+    (c.requires.before ∙ ap (λ (p : PoolState). p.len) (sym c.requires.pool)) in
     let step = c.load.ensures in
     let end = after_load me c.me.invariant c.load.result _ step.2 before in
-    (after_call me c.me.invariant Claim Ended _ _ step.2 end.0).stays me.stopped me.has_seen_end _ step.0 (omega arith) end.1
+    (after_call me c.me.invariant Claim Ended _ _ step.2 end.0).stays me.stopped me.has_seen_end _ step.0
+    (omega arith) end.1
 
 pub returns : goal.returns
 returns c =
     let me = c.me.inside in
-    let before = subst (λ (s : SeatState). seen s ≡ s.pool.len) (sym c.me.view_is) (c.requires.before ∙ ap (λ (p : PoolState). p.len) (sym c.requires.pool)) in
+    let before = subst (λ (s : SeatState). seen s ≡ s.pool.len) (sym c.me.view_is)
+    (c.requires.before ∙ ap (λ (p : PoolState). p.len) (sym c.requires.pool)) in
     let step = c.load.ensures in
     let end = after_load me c.me.invariant c.load.result _ step.2 before in
     (after_call me c.me.invariant Claim Ended _ _ step.2 end.0).makes c.args.me.now c.me.view_is

@@ -8,5 +8,6 @@ pub returns : goal.returns
 returns g c =
     let book = c.counted.inside.book in
     let key = c.counted.invariant.4 ∙ ap (λ (s : SharedState). s.book.key) c.self.view_is in
-    let after = subst (λ (s : SharedState). (entries : List Entry) × IsAfter s.book entries book) c.self.view_is c.counted.invariant.5 in
+    let after = subst (λ (s : SharedState). (entries : List Entry) × IsAfter s.book entries book) c.self.view_is
+    c.counted.invariant.5 in
     (book, key, c.reservations.ensures.in_order, after, (_, c.f.ensures, c.reservations.ensures.all))

@@ -10,8 +10,10 @@ use Rattle.lms_tree.proofs.Rows.{lowest-ends, row-fits}
 use Rattle.lms_tree.proofs.band.Band.build.Goals as goal
 
 -- a row in its place
-in-place : (key : TreeKey) (row is : Row) (before values after : List (List ℕ)) → row ≡ is → length before ≡ row.place → length values ≡ row.count
-    → ((i : ℕ) → i < length values → get_or values i [] ≡ node (tree_of key) (row.first + i)) → HoldsRow key is (before ++ (values ++ after))
+in-place : (key : TreeKey) (row is : Row) (before values after : List (List ℕ)) → row ≡ is → length before ≡ row.place
+    → length values ≡ row.count
+    → ((i : ℕ) → i < length values → get_or values i [] ≡ node (tree_of key) (row.first + i))
+    → HoldsRow key is (before ++ (values ++ after))
 in-place key row is before values after same start count held =
     subst (λ (row : Row). HoldsRow key row (before ++ (values ++ after))) same
     (λ i low. ap (λ n. get_or (before ++ (values ++ after)) (n + i) []) (sym start)
@@ -33,7 +35,8 @@ fill_upper_rows-requires-clause-lowest g c =
     let row = c.row-lowest.result in
     let all = ap (λ (row : Row). row.place + row.count) c.row-lowest.ensures.row in
     let ends = lowest-ends rows in
-    let same : length c.fill_lowest_row.new.row ≡ length c.args.memory.items - row.place = grind (arith, common_steps) in
+    let same : length c.fill_lowest_row.new.row ≡ length c.args.memory.items - row.place =
+    grind (arith, common_steps) in
     in-place c.args.key row (row_of rows rows.depth) _ c.fill_lowest_row.new.row _ c.row-lowest.ensures.row
     (length-take-le row.place c.as_mut_slice-all.result.now (omega (arith, all, ends, c.requires.count)))
     (omega (arith, same, all, ends, c.requires.count)) c.fill_lowest_row.ensures

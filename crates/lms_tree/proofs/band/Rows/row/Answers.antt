@@ -10,7 +10,11 @@ overflow_shl-result c = omega (arith, depth-fits c.args.self c.requires.in_tree)
 
 pub overflow_sub-result : goal.overflow_sub-result
 overflow_sub-result c =
-    omega (arith, row-fits 25 c.args.self c.args.level c.requires.in_tree c.requires.level, row-some c.args.self.width c.args.level)
+    omega (
+      arith,
+      row-fits 25 c.args.self c.args.level c.requires.in_tree c.requires.level,
+      row-some c.args.self.width c.args.level,
+    )
 
 pub returns-clause-row : goal.returns-clause-row
 returns-clause-row c =
@@ -26,4 +30,9 @@ returns-clause-in_tree c = omega (arith, row-fits 25 c.args.self c.args.level c.
 
 pub returns-clause-place : goal.returns-clause-place
 returns-clause-place c =
-    omega (arith, row-fits 25 c.args.self c.args.level c.requires.in_tree c.requires.level, row-some c.args.self.width c.args.level, c.requires.in_tree.some)
+    omega (
+      arith,
+      row-fits 25 c.args.self c.args.level c.requires.in_tree c.requires.level,
+      row-some c.args.self.width c.args.level,
+      c.requires.in_tree.some,
+    )

@@ -32,5 +32,6 @@ returns-clause-shorter c low =
     let height = ap (λ (v : ServedLeaves). (tree_of v.key).lms.h) c.self.view_is in
     let upper = c.len.ensures ∙ ap nodes_in is.upper_rows in
     let lower = c.len-2.ensures ∙ ap nodes_in is.lower_rows_are in
-    let kept = (kept-limit self.upper.key.lms self.first self.last is.order is.in_tree is.at_most).1 (omega (arith, height, low)) in
+    let kept = (kept-limit self.upper.key.lms self.first self.last is.order is.in_tree is.at_most).1
+    (omega (arith, height, low)) in
     omega (arith, upper, lower, kept)

@@ -8,7 +8,8 @@ use Rattle.lms_tree.proofs.kept_tree.KeptTree.moved_to.Goals as goal
 
 -- among nodes of the tree is the root of each bottom subtree
 root-among-nodes : (kept : KeptNodes) (n : ℕ) → n < 2 ^ upper_height (tree_of kept.key).lms.h → AreNodes kept
-    → get_or kept.upper (2 ^ upper_height (tree_of kept.key).lms.h - 1 + n) [] ≡ node (tree_of kept.key) (subtree_root (tree_of kept.key).lms.h n)
+    → get_or kept.upper (2 ^ upper_height (tree_of kept.key).lms.h - 1 + n) []
+    ≡ node (tree_of kept.key) (subtree_root (tree_of kept.key).lms.h n)
 root-among-nodes kept n low genuine =
     let t = upper_height (tree_of kept.key).lms.h in
     let place : 1 * 2 ^ t - 1 + n ≡ 2 ^ t - 1 + n = omega arith in
@@ -19,14 +20,23 @@ root-among-nodes kept n low genuine =
 pub returns-then-not-has_root-clause-refused : goal.returns-then-not-has_root-clause-refused
 returns-then-not-has_root-clause-refused g c genuine =
     let n = c.args.subtree in
-    let given : KeptNodes = record { key = c.self.inside.key; subtree = c.self.inside.subtree; upper = c.self.inside.upper.items; lower = c.self.inside.lower.items } in
+    let given : KeptNodes = record {
+      key = c.self.inside.key;
+      subtree = c.self.inside.subtree;
+      upper = c.self.inside.upper.items;
+      lower = c.self.inside.lower.items;
+    } in
     let right : AreNodes given = subst AreNodes (sym c.self.view_is) genuine in
-    let low : n < 2 ^ upper_height (tree_of given.key).lms.h = subst (λ (v : KeptNodes). n < 2 ^ upper_height (tree_of v.key).lms.h) (sym c.self.view_is) c.requires in
+    let low : n < 2 ^ upper_height (tree_of given.key).lms.h =
+    subst (λ (v : KeptNodes). n < 2 ^ upper_height (tree_of v.key).lms.h) (sym c.self.view_is) c.requires in
     let IsThere : TreeKey → Type 0
-    = λ key. get_or c.deref.result.now (2 ^ upper_height (tree_of key).lms.h - 1 + n) [] ≡ node (tree_of key) (subtree_root (tree_of key).lms.h n) in
+    = λ key. get_or c.deref.result.now (2 ^ upper_height (tree_of key).lms.h - 1 + n) []
+    ≡ node (tree_of key) (subtree_root (tree_of key).lms.h n) in
     let same : c.build-band.result.key ≡ given.key = ap (λ (v : RowsOf). v.key) c.build-band.ensures in
     let there : IsThere c.build-band.result.key
-    = subst IsThere (sym same) (ap (λ (xs : List (List ℕ)). get_or xs (2 ^ upper_height (tree_of given.key).lms.h - 1 + n) []) c.deref.ensures.value ∙ root-among-nodes given n low right) in
+    = subst IsThere (sym same)
+    (ap (λ (xs : List (List ℕ)). get_or xs (2 ^ upper_height (tree_of given.key).lms.h - 1 + n) [])
+    c.deref.ensures.value ∙ root-among-nodes given n low right) in
     let yes = c.has_root.ensures.1 there in
     let no = c.if-not-has_root.true in
     absurd cc

@@ -8,4 +8,5 @@ use Rattle.lms_tree.proofs.kept_tree.KeptTree.write_path.Given as goal
 
 abbrev pub invariant-loop-level : goal.invariant-loop-level
 invariant-loop-level l = AreNodes l.self
-    → take (32 * l.level) l.out ≡ concat (map (λ level. node (tree_of l.self.key) (sibling ((2 ^ (tree_of l.self.key).lms.h + l.q) / 2 ^ level))) (below l.level))
+    → take (32 * l.level) l.out ≡ concat (map (λ level.
+    node (tree_of l.self.key) (sibling ((2 ^ (tree_of l.self.key).lms.h + l.q) / 2 ^ level))) (below l.level))

@@ -14,5 +14,6 @@ returns c =
     let number : c.leaf_count.result + q ≡ r = omega (arith, c.leaf_count.ensures.count) in
     let back : q ≡ r - 2 ^ tree.lms.h = omega arith in
     c.leaf_hash.ensures
-    ∙ (ap₂ (λ r k. leaf_hash key.i r k) number (c.public_hash-ots_public.ensures ∙ ap (public_hash tree.ots key.i key.seed) back)
+    ∙ (ap₂ (λ r k.
+    leaf_hash key.i r k) number (c.public_hash-ots_public.ensures ∙ ap (public_hash tree.ots key.i key.seed) back)
     ∙ sym (node-leaf tree r (omega arith)))

@@ -12,5 +12,6 @@ returns-clause-values c = λ k lt.
     let r : ℕ = 2 ^ tree.lms.h + c.args.q + k in
     let back : c.args.q + k ≡ r - 2 ^ tree.lms.h = omega arith in
     c.lanes.invariant.done k (omega (arith, lt))
-    ∙ ap (leaf_hash key.i r) (c.eight_public_hashes-ots_publics.ensures.hashes k lt ∙ ap (public_hash tree.ots key.i key.seed) back)
+    ∙ ap (leaf_hash key.i r)
+    (c.eight_public_hashes-ots_publics.ensures.hashes k lt ∙ ap (public_hash tree.ots key.i key.seed) back)
     ∙ sym (node-leaf tree r (omega arith))

@@ -14,6 +14,7 @@ ilog2-requires c =
 pub node-requires-clause-level : goal.node-requires-clause-level
 node-requires-clause-level c =
     let h = (lms_set_of c.args.self.now.lms).h in
-    let depth = ap (λ (rows : Rows). rows.depth) c.self.invariant ∙ ap (λ (key : TreeKey). (lms_set_of key.lms).h) c.self.view_is in
+    let depth = ap (λ (rows : Rows). rows.depth) c.self.invariant
+    ∙ ap (λ (key : TreeKey). (lms_set_of key.lms).h) c.self.view_is in
     let in_tree = needed-in-tree h 0 (2 ^ h - 1) c.args.r (omega (arith, pow_pos h)) c.requires in
     omega (arith, depth, row-at-most c.ilog2.result h c.args.r c.ilog2.ensures.power_le in_tree.1)

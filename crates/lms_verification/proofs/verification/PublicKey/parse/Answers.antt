@@ -14,7 +14,8 @@ returns-in_err-lms-clause-none c =
     let ots = c.in_ok-ots_code in
     rw c.from_residual-in_err-lms.ensures
     (λ m t id root parts.
-    none-some m (c.in_err-lms.ensures ∙ (sets-of-key m t id root c.args.public.now lms.rest.now ots.rest.now lms.lms_code ots.ots_code
+    none-some m (c.in_err-lms.ensures
+    ∙ (sets-of-key m t id root c.args.public.now lms.rest.now ots.rest.now lms.lms_code ots.ots_code
     lms.ensures.fits ots.ensures.fits lms.ensures.parts ots.ensures.parts parts).0))
 
 pub returns-in_err-ots-clause-none : goal.returns-in_err-ots-clause-none
@@ -23,7 +24,8 @@ returns-in_err-ots-clause-none c =
     let ots = c.in_ok-ots_code in
     rw c.from_residual-in_err-ots.ensures
     (λ m t id root parts.
-    none-some t (c.in_err-ots.ensures ∙ (sets-of-key m t id root c.args.public.now lms.rest.now ots.rest.now lms.lms_code ots.ots_code
+    none-some t (c.in_err-ots.ensures
+    ∙ (sets-of-key m t id root c.args.public.now lms.rest.now ots.rest.now lms.lms_code ots.ots_code
     lms.ensures.fits ots.ensures.fits lms.ensures.parts ots.ensures.parts parts).1))
 
 pub invariant_of-result : goal.invariant_of-result
@@ -49,6 +51,9 @@ returns-clause-some c =
     let root = c.in_ok-root.root.now in
     let cut = c.in_ok-i.ensures.cases in
     let end = c.in_ok-root.ensures.cases in
-    let whole : last ≡ id ++ root = sym (take-append-drop 16 last) ∙ ap₂ (λ x y. x ++ y) (sym cut.0) (sym (end.same ∙ cut.1)) in
-    sym (key-parts m t id root c.args.public.now lms.rest.now last lms.lms_code ots.ots_code lms.ensures.parts ots.ensures.parts
-    (code-lms_set lms.lms_code m (sym c.in_ok-lms.ensures)) (code-ots_set ots.ots_code t (sym c.in_ok-ots.ensures)) whole)
+    let whole : last ≡ id ++ root =
+    sym (take-append-drop 16 last) ∙ ap₂ (λ x y. x ++ y) (sym cut.0) (sym (end.same ∙ cut.1)) in
+    sym (key-parts m t id root c.args.public.now lms.rest.now last lms.lms_code ots.ots_code lms.ensures.parts
+    ots.ensures.parts
+    (code-lms_set lms.lms_code m (sym c.in_ok-lms.ensures))
+    (code-ots_set ots.ots_code t (sym c.in_ok-ots.ensures)) whole)

@@ -15,7 +15,9 @@ returns-clause-some c =
     let rest = c.in_ok-q.rest.now in
     let last = c.in_ok-code.rest.now in
     let code : c.in_ok-code.code ≡ m.code = omega arith in
-    lms-parts m (ots_set_of c.args.ots) c.in_ok-q.q c.args.sig.now rest c.split_at.result.0.now c.split_at.result.1.now last c.as_chunks.result.0.now
+    lms-parts m (ots_set_of c.args.ots) c.in_ok-q.q c.args.sig.now rest c.split_at.result.0.now c.split_at.result.1.now
+    last c.as_chunks.result.0.now
     (omega arith) (omega arith) c.in_ok-q.ensures.parts
-    (c.split_at.ensures.front ∙ ap (λ n. take n rest) c.sig_len.ensures) (c.split_at.ensures.back ∙ ap (λ n. drop n rest) c.sig_len.ensures)
+    (c.split_at.ensures.front ∙ ap (λ n. take n rest) c.sig_len.ensures)
+    (c.split_at.ensures.back ∙ ap (λ n. drop n rest) c.sig_len.ensures)
     (c.in_ok-code.ensures.parts ∙ ap (λ n. u32str n ++ last) code) c.as_chunks.ensures.front

@@ -6,7 +6,8 @@ use Rattle.lms_world.proofs.memory.MemoryWorld.fail.Goals as goal
 
 put_first : {T E : Type 0} (result : Result T E) (name : List ℕ) (answer : Result (List ℕ) _) (old new : Answers)
     → new ≡ (if is_ok result then (name, answer) ∷ old else old) → OnOk result (answer_in new name ≡ answer)
-put_first (Ok x) name answer old new is = ap (λ (files : Answers). answer_in files name) is ∙ answer_first name answer old
+put_first (Ok x) name answer old new is =
+    ap (λ (files : Answers). answer_in files name) is ∙ answer_first name answer old
 put_first (Err e) name answer old new is = tt
 
 pub returns-clause-fails : goal.returns-clause-fails
