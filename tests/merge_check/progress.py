@@ -10,6 +10,7 @@ import os
 import re
 import statistics
 import subprocess
+import time
 
 from tests.harness import holds, test
 from tests.program import BATCH, INFO, NODES, PROGRAM, VERIFY, job_lines, keygen, on_terminal, preload, put, read, run, sign
@@ -136,6 +137,19 @@ def shows_a_line_where_errors_go():
     found = on_terminal(keygen("5/1"), ["stdout"], env=machine(PRINTED))
     lines = "".join(f"{at} of 32 leaves\n" for at in range(8, 33, 8))
     holds(found == (0, "capacity 32\n", lines), f"the output on a terminal: {found}")
+
+
+@test
+def shows_a_taller_tree_by_the_clock_of_the_machine():
+    """A line comes at most twice a second, each with more leaves than the one before, and the last one is
+    wiped before the result."""
+    began = time.monotonic()
+    status, shown, _ = on_terminal(keygen("15/4"), env=preload("machine", PROCESSORS=1))
+    most = 2 * (time.monotonic() - began)
+    line, wiped = r"(\d+) of 32768 leaves", re.escape(WIPED)
+    holds(status == 0 and re.fullmatch(f"(?:{wiped}{line})+{wiped}capacity 32768\n", shown), f"{status} {shown!r}")
+    told = [int(it) for it in re.findall(line, shown)]
+    holds(told == sorted(set(told)) and told[-1] <= 2**15 and len(told) <= most, f"{told} in {most / 2} seconds")
 
 
 @test
