@@ -25,6 +25,11 @@ from tests.merge_check.misuse_cases import CASES, CRATES, TYPES
 
 ERROR = re.compile(r"(?m)^(.+?):\d+:\d+: error\[([\w-]+)\]: (.*)$")
 NO_CODE = re.compile(r"(?s)//[^\n]*|/\*.*?\*/|\"(?:\\.|[^\"\\])*\"|'(?:\\.|[^'\\])'")
+CLAUSE = re.compile(r"\b(?:requires|ensures)\b[^{};]*(?=\{)")
+FUNCTION = re.compile(r"\bfn (\w+)")
+# An array's type, whose semicolon ends nothing.
+ARRAY = re.compile(r"(\[[^][{};]*);([^][{};]*\])")
+AGAIN = re.compile(r"\b(for|while|loop)\b|(\|)[^|]*\|(?: ->.*)?$")
 
 
 def unindented(text):
@@ -252,12 +257,39 @@ def places_of(calls):
     """The places of the product that make one of these calls: each with its crate, its function, the loops
     and closures around it and the code from brace or semicolon to brace or semicolon."""
     crates = sorted(it.name for it in (TOP / "crates").iterdir() if not misuse_signing.OTHERS.search(it.name))
-    bodies = ((crate, misuse_signing.without_clauses(code, block)) for crate, code in sources(crates))
+    bodies = ((crate, without_clauses(code)) for crate, code in sources(crates))
     return collections.Counter(
-        f"{crate}: {misuse_signing.around(code, it.start())}: {head_at(code, it.start())[0]}"
-        for crate, code in bodies
-        for it in calls.finditer(code)
+        f"{crate}: {around(code, it.start())}: {head_at(code, it.start())[0]}" for crate, code in bodies for it in calls.finditer(code)
     )
+
+
+def without_clauses(code):
+    """The code without its contracts, whose braces are none of a body."""
+    parts, start = [], 0
+    for clause in CLAUSE.finditer(code):
+        if clause.start() >= start:
+            parts.append(code[start : clause.start()])
+            start = clause.end() + len(block(code, clause.end())) + 2
+    return "".join([*parts, code[start:]])
+
+
+def around(code, at):
+    """The function that a place is in, and which loops and closures it is in there."""
+    heads, start, before = [], 0, code[:at]
+    while (changed := ARRAY.sub(r"\1,\2", before)) != before:
+        before = changed
+    for it in re.finditer("[;{}]", before):
+        if it[0] == "{":
+            heads.append(plain(before[start : it.start()]))
+        elif it[0] == "}":
+            heads.pop()
+        start = it.end()
+    names = [name[1] if (name := FUNCTION.search(head)) else None for head in heads]
+    inner = max((k for k, name in enumerate(names) if name), default=None)
+    if inner is None:
+        return "outside"
+    again = [next(filter(None, found.groups())) for head in heads[inner + 1 :] if (found := AGAIN.search(head))]
+    return " ".join([names[inner], *again])
 
 
 @test

@@ -8,10 +8,6 @@ import re
 CALLS = r"(?<!fn )\b(?:sign_(?:in|into|key_into|by_text|at|anew|by_nodes|with)|append_signature|write_head)\b|(?:\.|::)\s*(?:sign\b(?!\s*::)|signed\b(?=\s*\())"
 SIGNS = re.compile(rf"{CALLS}|\bReceipt\b\s*\{{")
 RESERVES = re.compile(r"\bBook\b(?:::<[^>]*>)?\s*::\s*open\b|\.\s*reserve\s*\(")
-CLAUSE = re.compile(r"\b(?:requires|ensures)\b[^{};]*(?=\{)")
-FUNCTION = re.compile(r"\bfn (\w+)")
-ARRAY = re.compile(r"(\[[^][{};]*);([^][{};]*\])")
-AGAIN = re.compile(r"\b(for|while|loop)\b|(\|)[^|]*\|(?: ->.*)?$")
 # These crates are no part of the product.
 OTHERS = re.compile(r"_tests$|^bench_|fixtures$|^lms_slow$|^lms_example$")
 PLACES = """
@@ -57,33 +53,3 @@ RESERVATIONS = """
     lms_shared_book: reserve: match self.book.reserve(n)
     lms_shared_book: reserve: self.counted.lock(rt).reserve(desk, n)
     """
-
-
-def without_clauses(code, block):
-    """The code without its contracts, whose braces are none of a body. `block` gives what is in braces."""
-    parts, start = [], 0
-    for clause in CLAUSE.finditer(code):
-        if clause.start() >= start:
-            parts.append(code[start : clause.start()])
-            start = clause.end() + len(block(code, clause.end())) + 2
-    return "".join([*parts, code[start:]])
-
-
-def around(code, at):
-    """The function that a place is in, and which loops and closures it is in there."""
-    heads, start, before = [], 0, code[:at]
-    # (an array's type has a semicolon that ends nothing)
-    while (changed := ARRAY.sub(r"\1,\2", before)) != before:
-        before = changed
-    for it in re.finditer("[;{}]", before):
-        if it[0] == "{":
-            heads.append(" ".join(before[start : it.start()].split()))
-        elif it[0] == "}":
-            heads.pop()
-        start = it.end()
-    names = [name[1] if (name := FUNCTION.search(head)) else None for head in heads]
-    inner = max((at for at, name in enumerate(names) if name), default=None)
-    if inner is None:
-        return "outside"
-    again = [next(filter(None, found.groups())) for head in heads[inner + 1 :] if (found := AGAIN.search(head))]
-    return " ".join([names[inner], *again])
