@@ -28,6 +28,7 @@ NOBODY = 65534
 NODES, DRAFT = "key.state.nodes", "key.state.nodes.new"
 INFO = ["info", "--state", "key.state"]
 BATCH = ["batch", "--state", "key.state", "--workers", "2"]
+SERVE = ["serve", *BATCH[1:]]
 VERIFY = ["verify", "--public", "key.pub", "--message", "text", "--signature", "text.sig"]
 
 
@@ -174,13 +175,18 @@ def on_terminal(arguments, streams=("stdout", "stderr"), **how):
     return running.returncode, shown.decode(), rest.decode()
 
 
+def without_counts(errors, began):
+    """The errors of a program that began then and has ended, without the lines that say how far it is. One
+    comes every ten seconds: as many are left out, and no more."""
+    most = int((time.monotonic() - began) / 10)
+    return re.sub(r"(?m)^\d+ of \d+ leaves\n", "", errors, count=most) if most else errors
+
+
 def ends(arguments, status, output="", errors="", **how):
-    """The program ends with this status, and prints this output and these errors. Of the lines that
-    say how far it is one comes every ten seconds: as many are left out of these, and no more."""
+    """The program ends with this status, and prints this output and these errors, and maybe how far it is."""
     began = time.monotonic()
     ran = run(arguments, **how)
-    most = int((time.monotonic() - began) / 10)
-    found = re.sub(r"(?m)^\d+ of \d+ leaves\n", "", ran.stderr, count=most) if most else ran.stderr
+    found = without_counts(ran.stderr, began)
     said = f"{' '.join(map(str, arguments))}: {ran.returncode} {ran.stdout!r} {ran.stderr!r}"
     holds((ran.returncode, ran.stdout, found) == (status, output, errors), f"{said}, not {status} {output!r} {errors!r}")
 

@@ -8,6 +8,7 @@ from tests.merge_check.emulator import ARM, passes, skip_where_missing
 MODULES = [
     "vectors", "states", "closed_streams", "kept_nodes", "locks", "job_lines", "help_texts", "verdicts", "modes", "seeds", "public_keys",
     "outputs", "progress", "refused_requests", "file_steps", "crashes", "power_cuts", "tall_nodes", "longest_batch",
+    "serve", "served_states",
 ]
 
 

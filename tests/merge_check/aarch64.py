@@ -35,6 +35,7 @@ QUICK = {
     "kept_nodes": ["what_was_kept", "in_place_of_a_draft"],
     "locks": ["until_all_is_printed"],
     "job_lines": ["over_the_end", "as_many_threads"],
+    "serve": ["each_line_at_once"],
     "file_steps": ["info,_each_operation"],
     "refused_requests": ["verify"],
 }

@@ -6,8 +6,8 @@ import subprocess
 
 from tests.harness import TOP, Skipped, add_test, holds, test
 from tests.program import (
-    BATCH, EMULATED, INFO, PROGRAM, ends, fails, has, index_in, job_lines, join, join_public, keygen, preload, public, put, read, run, sign,
-    verify,
+    BATCH, EMULATED, INFO, PROGRAM, SERVE, ends, fails, has, index_in, job_lines, join, join_public, keygen, preload, public, put, read, run,
+    sign, verify,
 )
 from tests.reference import SEED, image, joined, public_of, signature_of
 
@@ -58,7 +58,7 @@ def files_are(counter, openings, *signatures):
 
 def answers(ran, *indices):
     """It printed the answer lines of these indices. Their signatures become files."""
-    holds((ran.returncode, ran.stderr) == (0, ""), f"batch: {ran.returncode} {ran.stderr!r}")
+    holds((ran.returncode, ran.stderr) == (0, ""), f"{ran.args[4]}: {ran.returncode} {ran.stderr!r}")
     lines = [line.split(" ") for line in ran.stdout.splitlines()]
     holds([number for number, _ in lines] == list(map(str, indices)), f"not the answer lines of {indices}")
     for number, digits in lines:
@@ -113,16 +113,22 @@ def works_without(closed):
     expect(closed, run_closed(closed, keygen()), 3, errors="error: state exists\n")
     expect(closed, run_closed(closed, verify("text", "none")), 6, errors="error: cannot read input\n")
     files_are(2, 2, "0.sig", "1.sig")
-    batch = run_closed(closed, BATCH, input=job_lines(b"abc", b"abc").decode())
+    for at, words in enumerate([BATCH, SERVE]):
+        answers_two(closed, words, at)
+
+
+def answers_two(closed, words, at):
+    """`batch` and then `serve`, with two job lines, where so many of the two were before."""
+    ran, names = run_closed(closed, words, input=job_lines(b"abc", b"abc").decode()), ["0.sig", "1.sig"]
     if "0" in closed:
-        expect(closed, batch, 0)
-        files_are(2, 2, "0.sig", "1.sig")
+        expect(closed, ran, 0)
+        files_are(2, 2, *names)
     elif "1" in closed:
-        expect(closed, batch, 6, errors="error: cannot write output\n")
-        files_are(4, 3, "0.sig", "1.sig")
+        expect(closed, ran, 6, errors="error: cannot write output\n")
+        files_are(4 + 2 * at, 3 + at, *names)
     else:
-        answers(batch, 2, 3)
-        files_are(4, 3, "0.sig", "1.sig", "2.sig", "3.sig")
+        answers(ran, 2 + 2 * at, 3 + 2 * at)
+        files_are(4 + 2 * at, 3 + at, *(f"{index}.sig" for index in range(4 + 2 * at)))
 
 
 for numbers in SETS:
@@ -142,7 +148,7 @@ def lacks_dev_null(closed):
     put("key.state", image(LEVELS, 5))
     files = {name: (read(name), os.stat(name).st_mtime_ns) for name in os.listdir()}
     new = keygen(state="other", public="other.pub")
-    for arguments in (new, public(), sign(), INFO, BATCH, verify("text", "text", "text"), join(), join_public(), ["--help"], ["none"]):
+    for arguments in (new, public(), sign(), INFO, BATCH, SERVE, verify("text", "text", "text"), join(), join_public(), ["--help"], ["none"]):
         ran = run([*words, PROGRAM, *arguments], program="unshare")
         found = (ran.returncode, ran.stdout, ran.stderr)
         wanted = (6, "", "" if "2" in closed else "error: cannot read input\n")

@@ -2,9 +2,10 @@
 failing, alone or with all after it.
 
 This is done to a `keygen`, to a `public`, to a `sign` by trees that it computes and keeps, to one by
-kept trees, and to a `batch` of three jobs. Then a `sign` and a `batch` follow. No index may be given twice, the
-next one is what the old state counts or what the new one does, the new signature must be valid, and
-no draft of a file may be left."""
+kept trees, to a `batch` of three jobs, and to a `serve` of them, of which its reads bring two and then one.
+Then a `sign` and a `batch` follow. No index may be given twice, the next one is what the old state counts or
+what a new one does, the new signature must be valid, and no draft of a file may be left. Once the second group
+of a `serve` is counted, the answers of the first are whole."""
 
 import concurrent.futures
 import os
@@ -13,7 +14,8 @@ import shutil
 import signal
 
 from tests.harness import add_test, holds
-from tests.program import ends, index_in, job_lines, keygen, preload, public, run, sign, verify
+from tests.merge_check.service import messages_of_groups
+from tests.program import BATCH, SERVE, ends, index_in, job_lines, keygen, preload, public, run, sign, verify
 
 LEVELS = ((5, 2),)
 # How many operations each command has; if the program changes, these change with it. Each opens
@@ -21,23 +23,27 @@ LEVELS = ((5, 2),)
 # a draft (7). It may keep nodes by way of another one (5), write a file (3) and print a line (1).
 # `keygen` looks whether there is a state (1). It and `public`, which reads the state (3) and stores
 # none, flush their file and its folder (4). `sign` reads the message (4), the kept nodes (4, or 1
-# where there are none) and the state (3). `batch` reads the state (3) and the lines (2), and prints
-# each answer by 8 writes.
-OPERATIONS = {"keygen": 26, "public": 15, "sign by trees": 28, "sign by kept trees": 26, "batch": 40}
-# What each command is run with, which of the made files it finds, and the next index before it and
-# after it.
-KEYGEN = keygen("5/2")
+# where there are none) and the state (3). `batch` reads the state (3) and the lines (3, the last of which
+# brings none), and prints each answer by 8 writes. `serve` reads the state before the first of these reads and
+# after each (12), and stores it twice.
+OPERATIONS = {"keygen": 26, "public": 15, "sign by trees": 28, "sign by kept trees": 26, "batch": 41, "serve": 57}
+# What each command is run with, which of the made files it finds, and the next index before it, after it, and
+# between two groups.
+KEYGEN, MADE_FILES = keygen("5/2"), ["key.pub", "key.state", "key.state.nodes"]
 COMMANDS = {
-    "keygen": (KEYGEN, [], 0, 0),
-    "public": (public(name="again.pub"), ["key.pub", "key.state", "key.state.nodes"], 1, 1),
-    "sign by trees": (sign(out="first.sig"), ["key.pub", "key.state"], 1, 2),
-    "sign by kept trees": (sign(out="first.sig"), ["key.pub", "key.state", "key.state.nodes"], 1, 2),
-    "batch": (["batch", "--state", "key.state", "--workers", "2"], ["key.pub", "key.state", "key.state.nodes"], 1, 4),
+    "keygen": (KEYGEN, [], [0]),
+    "public": (public(name="again.pub"), MADE_FILES, [1]),
+    "sign by trees": (sign(out="first.sig"), ["key.pub", "key.state"], [1, 2]),
+    "sign by kept trees": (sign(out="first.sig"), MADE_FILES, [1, 2]),
+    "batch": (BATCH, MADE_FILES, [1, 4]),
+    "serve": (SERVE, MADE_FILES, [1, 3, 4]),
 }
 # How the command ends where it meets the operation.
 STATUSES = {"killed": [-signal.SIGKILL], "failed": [3, 5, 6], "failed alone": [0, 3, 5, 6]}
 FILES = ["key.pub", "key.state", "key.state.lock", "key.state.nodes"]
-LINES = job_lines(b"\0", b"\1", b"\2")
+# What its reads bring together.
+GROUPS = [2, 1]
+LINES = job_lines(*messages_of_groups(*GROUPS))
 MADE = pathlib.Path("made")
 
 
@@ -55,7 +61,7 @@ class Crash:
 
     def __init__(self, what, how, number):
         self.what, self.how, self.number = what, how, number
-        self.arguments, found, self.counter, self.used = COMMANDS[what]
+        self.arguments, found, self.next = COMMANDS[what]
         self.folder = pathlib.Path(how, str(number)).resolve()
         self.folder.mkdir(parents=True)
         for name in found:
@@ -102,8 +108,8 @@ class Crash:
             return self.is_as_made("key.pub")
         if self.what == "public":
             return self.bytes_of("again.pub") == (MADE / "key.pub").read_bytes()
-        if self.what == "batch":
-            return len(indices_in(self.printed)) == 3
+        if self.what in ("batch", "serve"):
+            return len(indices_in(self.printed)) == sum(GROUPS)
         return self.run(verify(signature="first.sig")).returncode == 0
 
     def nodes_are_in_turn(self):
@@ -129,7 +135,7 @@ class Crash:
 
     def given(self):
         """The indices that the command gave: of a file that is cut, what there is."""
-        if self.what == "batch":
+        if self.what in ("batch", "serve"):
             return indices_in(self.printed)
         index = index_in(self.bytes_of("first.sig"), LEVELS)
         return [] if index is None else [index]
@@ -141,14 +147,16 @@ class Crash:
         self.holds(self.run(verify(signature="second.sig")).returncode == 0, "an invalid signature")
         index = index_in(self.bytes_of("second.sig"), LEVELS)
         self.holds(ran.stdout == b"index %d\n" % index, "another index is printed")
-        self.holds(index in (self.counter, self.used), f"the next index is {index}")
-        self.holds(self.status or index == self.used, f"the next index is {index} after a good end")
+        self.holds(index in self.next, f"the next index is {index}")
+        self.holds(self.status or index == self.next[-1], f"the next index is {index} after a good end")
+        is_second = self.what == "serve" and index == self.next[-1]
+        self.holds(not is_second or self.printed.count(b"\n") >= GROUPS[0], "answers are lost, and more indices are used")
         files = sorted(it.name for it in self.folder.glob("key.*"))
         self.holds(files == FILES, f"the files are {files}")
-        ran = self.run(COMMANDS["batch"][0])
+        ran = self.run(BATCH)
         self.holds(ran.returncode == 0, f"the next batch fails: {ran.stderr}")
         third = indices_in(ran.stdout)
-        self.holds(len(third) == 3, "the next batch is not whole")
+        self.holds(len(third) == sum(GROUPS), "the next batch is not whole")
         all_given = [*self.given(), index, *third]
         self.holds(len(set(all_given)) == len(all_given), f"an index is given twice: {all_given}")
         return index
@@ -176,7 +184,7 @@ def make():
 def crashes(what, how):
     """Has a command end so at each of its operations, some at once."""
     make()
-    counter, used = COMMANDS[what][2:]
+    wanted = COMMANDS[what][2]
     preload("stop")
     at_once, ended = len(os.sched_getaffinity(0)), []
     with concurrent.futures.ThreadPoolExecutor(at_once) as pool:
@@ -186,10 +194,11 @@ def crashes(what, how):
     operations = next(at for at, (_, is_met) in enumerate(ended) if not is_met)
     holds(operations == OPERATIONS[what], f"there are {operations} operations, and should be {OPERATIONS[what]}")
     indices = [index for index, _ in ended[: operations + 1]]
-    holds(indices[-1] == used, f"the next index is {indices[-1]}, and should be {used}")
+    holds(indices[-1] == wanted[-1], f"the next index is {indices[-1]}, and should be {wanted[-1]}")
     # An operation that fails alone may be before the state is stored, or one after which the
     # command goes on.
-    holds(how == "failed alone" or indices == sorted(indices), f"the next indices are {indices}, from {counter} on")
+    holds(how == "failed alone" or indices == sorted(indices), f"the next indices are {indices}, from {wanted[0]} on")
+    holds(how == "failed alone" or set(indices) == set(wanted), f"the next indices are {sorted(set(indices))}, and should be {wanted}")
 
 
 for command in COMMANDS:

@@ -3,7 +3,8 @@ operation alone fails.
 
 `stop.c`, which is loaded before the program, writes down each operation before it is done, and has
 one fail. All operations of `keygen`, of `public` over an older file, of `sign` by trees that it
-computes and by kept ones, of `info`, `join` and `join-public` are compared one by one."""
+computes and by kept ones, of `serve` of one line, of `info`, `join` and `join-public` are compared one by
+one."""
 
 import errno
 import itertools
@@ -11,7 +12,8 @@ import os
 
 from tests.harness import add_test, holds, test
 from tests.program import (
-    DRAFT, INFO, NODES, TO_JOIN, Lock, ends, has, join, join_public, keeps, keygen, preload, public, put, read, run, sign, signs,
+    DRAFT, INFO, NODES, SERVE, TO_JOIN, Lock, ends, has, job_lines, join, join_public, keeps, keygen, preload, public, put, read, run, sign,
+    signs,
 )
 from tests.reference import image, joined, kept, parts_to_join, public_of, signature_of
 
@@ -84,6 +86,10 @@ PUBLIC_KEY = Part(["look up key.pub", *given("key.pub")], NOT_WRITTEN, range(7),
 PUBLIC_KEY_AGAIN = Part(["look up key.pub", "open key.pub", "read key.pub", *given("key.pub")], NOT_WRITTEN, range(9), special=5)
 PRINTED = Part(["write standard output"], NOT_WRITTEN)
 DESCRIBED = Part(["write standard output"] * 6, NOT_WRITTEN)
+LINES_READ = Part(["read standard input"], NOT_READ)
+DIGITS = signature_of(LEVELS, INDEX, b"abc").hex()
+ANSWER = [f"{INDEX}", " ", *(DIGITS[at : at + 2048] for at in range(0, len(DIGITS), 2048)), "\n"]
+ANSWERED = Part(["write standard output"] * len(ANSWER), NOT_WRITTEN)
 # What is joined.
 PARTS = dict(zip(TO_JOIN, parts_to_join(LEVELS, LEVELS)))
 JOINED_KEY, JOINED = joined(*PARTS.values())
@@ -98,13 +104,14 @@ def steps_in(parts):
 
 
 class Command:
-    """A command with its parts, what it prints, the counter of the state before it, if any, and after
-    it, whether it finds nodes, the name of an older file over which it writes, and the other files
-    that it finds."""
+    """A command with its parts, what it prints, line by line or by these writes, the counter of the state
+    before it, if any, and after it, whether it finds nodes, the name of an older file over which it writes,
+    the other files that it finds, and its input, if any."""
 
-    def __init__(self, arguments, parts, output, counters, has_nodes=False, older=None, files=None):
-        self.arguments, self.parts, self.output, self.counters = arguments, parts, output, counters
-        self.has_nodes, self.older, self.files = has_nodes, older, files or {}
+    def __init__(self, arguments, parts, output, counters, has_nodes=False, older=None, files=None, lines=None):
+        self.arguments, self.parts, self.counters = arguments, parts, counters
+        self.writes, self.output = output if isinstance(output, list) else output.splitlines(True), "".join(output)
+        self.has_nodes, self.older, self.files, self.input = has_nodes, older, files or {}, {"input": lines} if lines else {}
 
     def states(self):
         """The state before it, or none, and after it."""
@@ -127,7 +134,7 @@ class Command:
 
     def run(self, **settings):
         """The operations of a run, by paths from here, and how it ended."""
-        ran = run(self.arguments, env=preload("stop", STEPS="steps", **settings))
+        ran = run(self.arguments, env=preload("stop", STEPS="steps", **settings), **self.input)
         here = os.path.realpath(".")
         steps = read("steps").decode().replace(f"{here}/", "").replace(here, ".").splitlines()
         os.remove("steps")
@@ -136,11 +143,12 @@ class Command:
     def ends(self, steps, fault=None, **settings):
         """A run does these operations, and ends with this fault, or well where it is none."""
         found, ran = self.run(**settings)
-        status, output, errors = (fault[0], "", f"error: {fault[1]}\n") if fault else (0, self.output, "")
+        status, errors = (fault[0], f"error: {fault[1]}\n") if fault else (0, "")
+        writes = self.writes[: found.count("write standard output")]
         if found[-2:] == ["write standard output", "write standard error"]:
-            # (Half of the line whose write failed is printed.)
-            *before, last = self.output.splitlines(True)[: found.count("write standard output")]
-            output = "".join(before) + last[: len(last) // 2]
+            # (Half of what was to be written is printed.)
+            writes[-1] = writes[-1][: len(writes[-1]) // 2]
+        output = "".join(writes)
         said = f"{self.arguments[0]}, {settings}: {ran.returncode} {ran.stdout!r} {ran.stderr!r}, by the operations {found}, not {steps}"
         holds((ran.returncode, ran.stdout, ran.stderr, found) == (status, output, errors, steps), said)
 
@@ -195,7 +203,13 @@ PUBLIC = Command(public(), AGAIN, "capacity 32\n", (INDEX, INDEX), has_nodes=Tru
 SIGN_BY_TREES = Command(sign(), BY_TREES, f"index {INDEX}\n", (INDEX, INDEX + 1))
 SIGN_BY_NODES = Command(sign(), BY_NODES, f"index {INDEX}\n", (INDEX, INDEX + 1), has_nodes=True)
 DESCRIBE = Command(INFO, [STREAMS, LOCKED, STATE_READ, DESCRIBED], NUMBERS, (INDEX, INDEX), has_nodes=True)
-LOCKING = {"keygen": KEYGEN, "public": PUBLIC, "sign by trees": SIGN_BY_TREES, "sign by kept trees": SIGN_BY_NODES, "info": DESCRIBE}
+# The use of an index is stored before its answer is printed, and that is printed before more is read.
+ANSWERING = [LINES_READ, STATE_READ, STORED, ANSWERED]
+SERVED = [STREAMS, LOCKED, STATE_READ, *ANSWERING, LINES_READ, STATE_READ]
+SERVICE = Command(SERVE, SERVED, ANSWER, (INDEX, INDEX + 1), has_nodes=True, lines=job_lines(b"abc").decode())
+LOCKING = {
+    "keygen": KEYGEN, "public": PUBLIC, "sign by trees": SIGN_BY_TREES, "sign by kept trees": SIGN_BY_NODES, "info": DESCRIBE, "serve": SERVICE,
+}
 JOIN = Command(join(), [STREAMS, *READ_TO_JOIN, JOINED_FILE], "", (INDEX, INDEX), files=PARTS)
 JOIN_KEYS = Command(join_public(), [STREAMS, *READ_TO_JOIN[::2], JOINED_KEY_FILE], "", (INDEX, INDEX), files=PARTS)
 COMMANDS = {**LOCKING, "join": JOIN, "join-public": JOIN_KEYS}
@@ -242,6 +256,7 @@ def meets_each_error(command, beginning):
 add_test("a flush failing with each other error", meets_each_error, SIGN_BY_TREES, "flush ")
 add_test("a lock failing with each other error", meets_each_error, DESCRIBE, "lock ")
 add_test("a public key failing with each other error", meets_each_error, KEYGEN, "write key.pub")
+add_test("a read of lines failing with each other error", meets_each_error, SERVICE, "read standard input")
 
 
 @test
@@ -285,6 +300,8 @@ def reads_and_writes_byte_by_byte():
         elif command is PUBLIC:
             has(STATE, image(LEVELS, INDEX))
             has("key.pub", public_of(LEVELS))
+        elif command is SERVICE:
+            has(STATE, image(LEVELS, INDEX + 1, 1))
         elif command is JOIN:
             has("joined.sig", JOINED)
         elif command is JOIN_KEYS:

@@ -21,6 +21,7 @@ Commands:
   public       Writes a key's public key
   sign         Signs a message
   batch        Signs the job lines of standard input
+  serve        Signs job lines of standard input as they come
   verify       Prints whether a signature is valid
   join         Joins a signature with a top key's endorsement of its key
   join-public  Writes the public key of joined signatures
@@ -125,6 +126,28 @@ An answer line is the index, one space, and the signature in hexadecimal. The in
 is made. Never sign with an older copy of a state.
 """
 
+SERVE_HELP = """\
+Signs job lines of standard input as they come
+
+Usage: lms_tool serve --state <FILE> --workers <N>
+
+Options:
+      --state <FILE>  The key's state
+      --workers <N>   How many workers sign at once, 1 to 64
+  -h, --help          Print help
+
+Example, where a program opens `jobs`, then `answers`, and writes job lines and reads their answers:
+  mkfifo jobs answers
+  lms_tool serve --state key.state --workers 4 < jobs > answers
+
+Stays until its input ends, and answers job lines as they come. Job lines and answer lines are those of `batch`, in any number.
+Lines that were read whole are a group: their indices count as used, by one write of the state, before the first of them is
+signed, and their answers are printed before more is read. Read answers while you write lines, or both sides may stand still.
+The state is locked all the time, and where another is put in its place nothing more is signed. Trees are kept in memory.
+
+A line that is no job line ends it, after the answers of all lines before it. Never sign with an older copy of a state.
+"""
+
 VERIFY_HELP = """\
 Prints whether a signature is valid
 
@@ -200,6 +223,7 @@ TEXTS = [
     (PUBLIC_HELP, ["public --help"]),
     (SIGN_HELP, ["sign --help"]),
     (BATCH_HELP, ["batch --help"]),
+    (SERVE_HELP, ["serve --help", "help serve"]),
     (VERIFY_HELP, ["verify --help", "verify -h", "help verify"]),
     (JOIN_HELP, ["join --help"]),
     (JOIN_PUBLIC_HELP, ["join-public --help", "help join-public"]),
@@ -214,7 +238,7 @@ VERIFY_USAGE = f"Usage: lms_tool verify --public <FILE> --message <FILE> --signa
 MISTAKES = [
     (
         "",
-        "'lms_tool' requires a subcommand but one was not provided\n  [subcommands: keygen, info, public, sign, batch, verify, join, join-public, help]",
+        "'lms_tool' requires a subcommand but one was not provided\n  [subcommands: keygen, info, public, sign, batch, serve, verify, join, join-public, help]",
         USAGE,
     ),
     ("stray", "unrecognized subcommand 'stray'", USAGE),
@@ -261,4 +285,5 @@ def takes_options_in_any_order_and_with_equals_signs():
     shows("info --state=key.state", "levels 5/8\ncounter 1\ncapacity 32\nleft 31\nopenings 1\nburnt 0\n")
     shows("public --public=key.pub --state key.state", "capacity 32\n")
     shows("batch --workers=1 --state key.state", "")
+    shows("serve --workers=1 --state key.state", "")
     shows("verify --signature text.sig --message=text --public key.pub", "valid\n")

@@ -8,7 +8,8 @@ import subprocess
 from tests.harness import Skipped, Wrong, holds, test
 from tests.merge_check.wrong_nodes import damaged, misfitting, wrong_way
 from tests.program import (
-    BATCH, DRAFT, NODES, PROGRAM, VERIFY, as_who_may_not, described, ends, fails, has, job_lines, keeps, keygen, put, read, sign, signs,
+    BATCH, DRAFT, NODES, PROGRAM, SERVE, VERIFY, as_who_may_not, described, ends, fails, has, job_lines, keeps, keygen, put, read, sign,
+    signs,
 )
 from tests.reference import CHAINS, SUBTREE, checked, image, kept, kept_parts, number, public_of, signature_of, way_of
 
@@ -270,32 +271,34 @@ def may_not_read_nodes():
 
 
 def answers(first, count):
-    """A batch of so many jobs is answered by the signatures of the indices from the first one
-    on."""
-    lines = "".join(f"{index} {signature_of(LEVELS, index, b'abc').hex()}\n" for index in range(first, first + count))
-    ends(BATCH, 0, lines, input=job_lines(*[b"abc"] * count).decode(), timeout=60)
+    """So many jobs for a `batch` and for a `serve` are answered by the signatures of the indices from the
+    first one on."""
+    for words in (BATCH, SERVE):
+        lines = "".join(f"{index} {signature_of(LEVELS, index, b'abc').hex()}\n" for index in range(first, first + count))
+        ends(words, 0, lines, input=job_lines(*[b"abc"] * count).decode(), timeout=60)
+        first += count
 
 
 @test
 def leaves_nodes_to_sign():
-    """`info`, `verify` and `batch` neither read nor write nodes that are kept."""
+    """`info`, `verify`, `batch` and `serve` neither read nor write nodes that are kept."""
     put("key.pub", public_of(LEVELS))
     begins_at(LEVELS, 29)
     signs(LEVELS, 29)
     marks_nodes()
     described("5/1,5/1", 30, 1024, 1, 0)
     ends(VERIFY, 0, "valid\n")
-    wrong = checked(LEVELS, kept_parts(35, wrong_way(LEVELS, 35, 0, 20)))
-    answers(30, 5)
+    wrong = checked(LEVELS, kept_parts(36, wrong_way(LEVELS, 36, 0, 20)))
+    answers(30, 3)
     has(NODES, kept(LEVELS, 29))
     holds(are_marked(), "the nodes were written again")
     put(NODES, wrong)
-    answers(35, 5)
+    answers(36, 3)
     has(NODES, wrong)
     os.remove(NODES)
     os.mkfifo(NODES)
-    answers(40, 5)
-    described("5/1,5/1", 45, 1024, 4, 0)
+    answers(42, 3)
+    described("5/1,5/1", 48, 1024, 7, 0)
 
 
 @test

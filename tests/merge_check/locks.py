@@ -9,7 +9,7 @@ import subprocess
 import time
 
 from tests.harness import Skipped, holds, test
-from tests.program import BATCH, INFO, PROGRAM, Lock, ends, has, is_lock_free, job_lines, keygen, public, put, sign
+from tests.program import BATCH, INFO, PROGRAM, SERVE, Lock, ends, has, is_lock_free, job_lines, keygen, public, put, sign
 from tests.reference import image, public_of, signature_of
 
 # (in `fcntl` from Python 3.10 on)
@@ -71,6 +71,7 @@ def holds_the_lock_until_all_is_printed():
         (sign(), (1, 1), signature, 1),
         (INFO, (1, 1), signature, 6),
         (BATCH, (2, 2), signature, 1),
+        (SERVE, (3, 3), signature, 1),
     ]:
         reader, writer = pipe_of_one_write()
         with open("jobs", "rb") as jobs:

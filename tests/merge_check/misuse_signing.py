@@ -16,8 +16,6 @@ PLACES = """
     lms_batch: sign_next: match self.lease.sign_with(pass, &self.jobs[place as usize])
     lms_batch: sign_with: Ok(Receipt
     lms_batch: sign_with: match self.forest.sign(index, &job.c, job.message.as_slice())
-    lms_commands: outside: KeptSignature, sign_by_text
-    lms_commands: sign_next: match sign_by_text(rt, alloc, lease, &job.c, message, kept, resources.progress)
     lms_hss: child: self.sign_key_into(q, &randomizer(&key, q), &public_bytes(&tree), &mut head)
     lms_hss: outside: BandTree, Begun, LMS_KEY_LEN, NodeSource, Progress, public_bytes, sign_into
     lms_hss: sign: tree.signed(self.alloc, self.key.leaf_of(g, bottom), c, msg)
@@ -39,6 +37,8 @@ PLACES = """
     lms_kept: signed: self.level(bottom) .append_signature(self.key.leaf_of(g, bottom), c, msg, &mut text)
     lms_ots: outside: MESSAGE_HEAD_LEN, sign_into
     lms_ots: sign_into: write_head(t, c, out)
+    lms_signature_commands: outside: KeptSignature, sign_by_text
+    lms_signature_commands: sign_next: match sign_by_text(rt, alloc, lease, &job.c, message, kept, resources.progress)
     lms_tree: outside: LMS_KEY_LEN, public_bytes, sign_into
     lms_tree: outside: LMS_KEY_LEN, public_key_bytes, sibling, write_head
     lms_tree: sign_into: write_head(&key, q, c, msg, &mut out[..path_start])
@@ -46,10 +46,10 @@ PLACES = """
     lms_tree: write_head: lms_ots::sign_into(key.ots, &key.seed, id, c, msg, &mut out[4..ots_end])
     """
 RESERVATIONS = """
-    lms_batch: sign_batch_watched: let lease = match self.book.reserve(rt, desk, count)
+    lms_batch: sign_batch_by: let lease = match self.book.reserve(rt, desk, count)
     lms_commands: open_state: match Book::open(alloc, store)
-    lms_commands: sign_next: let lease = book.reserve(1).map_err(|fault| NextFault::Book(fault))?
     lms_kept: moved_to: levels.reserve(key.levels.as_slice().len() - levels.len())?
     lms_shared_book: reserve: match self.book.reserve(n)
     lms_shared_book: reserve: self.counted.lock(rt).reserve(desk, n)
+    lms_signature_commands: sign_next: let lease = book.reserve(1).map_err(|fault| NextFault::Book(fault))?
     """

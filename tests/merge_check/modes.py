@@ -6,7 +6,7 @@ import os
 import signal
 
 from tests.harness import add_test, holds, test
-from tests.program import BATCH, DRAFT, INFO, NODES, VERIFY, ends, job_lines, keygen, mode_of, preload, put, read, run, sign
+from tests.program import BATCH, DRAFT, INFO, NODES, SERVE, VERIFY, ends, job_lines, keygen, mode_of, preload, put, read, run, sign
 
 STATE, LOCK, STATE_DRAFT = "key.state", "key.state.lock", "key.state.new"
 OWN = 0o600
@@ -31,7 +31,8 @@ def made_by_commands(mask):
     ends(sign(), 0, "index 0\n", **how)
     are(STATE, LOCK, NODES, mode=OWN)
     are("text.sig", mode=plain)
-    holds(run(BATCH, input=JOB, **how).returncode == 0, "no batch")
+    for words in (BATCH, SERVE):
+        holds(run(words, input=JOB, **how).returncode == 0, f"no {words[0]}")
     holds(run(INFO, **how).returncode == 0, "no info")
     ends(VERIFY, 0, "valid\n", **how)
     are(STATE, LOCK, NODES, mode=OWN)

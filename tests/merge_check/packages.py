@@ -18,7 +18,7 @@ from tests.harness import TOP, holds, said_by
 VERSION = (TOP / "VERSION").read_text(encoding="utf-8").strip()
 NAME, DEBIAN = f"lms_tool-{VERSION}-x86_64", f"lms-tool_{VERSION}_amd64.deb"
 ARM_NAME, ARM_DEBIAN = f"lms_tool-{VERSION}-aarch64", f"lms-tool_{VERSION}_arm64.deb"
-COMMANDS = ["keygen", "sign", "batch", "verify", "info", "public", "join", "join-public"]
+COMMANDS = ["keygen", "sign", "batch", "serve", "verify", "info", "public", "join", "join-public"]
 COMMON, FAST = "crates/lms_tool/out/lms_tool", "crates/lms_tool/out/avx2/lms_tool"
 LIBRARY, PAGE = "crates/lms_c/out/liblms_c.a", "examples/web/out/lms_verify.html"
 OUTPUTS = [COMMON, FAST, LIBRARY, PAGE]
@@ -30,8 +30,9 @@ LAUNCHER = "bin/lms_tool"
 PROGRAMS = {f"lib/lms_tool/{level}/lms_tool": built for level, built in zip(LEVELS, (COMMON, FAST))}
 ARM_PROGRAMS = {LAUNCHER: ARM}
 DOCS = "share/doc/lms-tool"
-DOCUMENTS = ["PROVED", "PROFILE", "C"]
+DOCUMENTS = ["PROVED", "PROFILE", "SERVICE", "C"]
 EXAMPLES = ["release.pub", "firmware.bin", "firmware.sig", "c/verify.c", "c/sha256.h"]
+EXAMPLES += [f"serve/{name}" for name in ("client.py", "lms-queue.service")]
 PAGES = {command: f"share/man/man1/lms_tool{'-' * bool(command)}{command}.1.gz" for command in ("", *COMMANDS)}
 # The time of all files in packages, 2001-09-09, 01:46:40, and their maintainer.
 SECONDS, MAINTAINER = 1000000000, "No One <no-one@debian.org>"
@@ -43,7 +44,7 @@ def copy_sources(folder, outputs):
     """A folder with all that `release` reads, with these files as outputs, and nothing else."""
     for part in ("src", "specs", "proofs"):
         os.makedirs(f"{folder}/crates/lms_c/{part}", exist_ok=True)
-    for name in ("docs", "include", "examples/c", "portable", "runtime"):
+    for name in ("docs", "include", "examples/c", "examples/serve", "portable", "runtime"):
         shutil.copytree(TOP / name, f"{folder}/{name}", ignore=shutil.ignore_patterns("__pycache__"))
     plain = [it.relative_to(TOP) for it in (TOP / "examples").glob("*.*")]
     sources = ["release", "VERSION", "README.md", "crates.txt", "examples/web/index.html", *plain]

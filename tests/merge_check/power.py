@@ -61,8 +61,9 @@ class Power:
 
     def fault(self, disk, left):
         """What is wrong with the state that is left, if anything."""
-        state, old, new = left.get(STATE, (0, None))[1], self.found[STATE][1], disk.file(STATE).contents
-        return fault_of(state, old, new, disk.has_left)
+        # (Whether each index that was given is counted is seen by the key.)
+        least = 1 if disk.has_left and len(disk.states) > 1 else 0
+        return fault_of(left.get(STATE, (0, None))[1], disk.states, least)
 
     def leave(self, files):
         """Puts these in the place of all that is there."""

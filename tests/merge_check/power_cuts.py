@@ -1,4 +1,4 @@
-"""Power is lost after each operation of `keygen`, `sign`, `batch`, `public` and `join-public` on
+"""Power is lost after each operation of `keygen`, `sign`, `batch`, `serve`, `public` and `join-public` on
 files, by a model of a weak file system, and the program goes on.
 
 `record.c`, which is loaded before the program, records what it does to files, folders and streams.
@@ -18,12 +18,14 @@ may leave then (`weak_disk.py`):
   reads.
 
 The state's file must be old and whole, or absent before a `keygen` stored it, or new and whole; and
-new once a byte of a public key, of a signature or of standard output was written. Once `keygen` or
-`public` has printed its line, or `join-public` has ended, its public key must be whole; it may be
-absent or cut before. From some of the states the program goes on, as if what is left were flushed:
-`info` prints what the state says, or `keygen` makes it where it is absent, and `sign` gives its next
-index, which was not given before, with the right signature. In this `keygen` and this `sign` power
-is lost again, after each operation, and the state's file is compared.
+new once a byte of a public key, of a signature or of standard output was written. A `serve` stores
+one for each group: it must be that of a group, or a newer one, once a byte of the group's answers
+was written. Once `keygen` or `public` has printed its line, or `join-public` has ended, its public
+key must be whole; it may be absent or cut before. From some of the states the program goes on, as
+if what is left were flushed: `info` prints what the state says, or `keygen` makes it where it is
+absent, and `sign` gives its next index, which was not given before, with the right signature. In
+this `keygen` and this `sign` power is lost again, after each operation, and the state's file is
+compared.
 
 Where there are more than 4000 states of a moment, some 4000 are drawn, by a fixed seed. The program
 goes on from 25 states of each run, from the first moment to the last, and with `--all` from all
@@ -45,10 +47,12 @@ import functools
 import itertools
 import os
 import tempfile
+import time
 
 from tests.harness import ARGUMENTS, Wrong, add_test, holds
+from tests.merge_check.service import messages_of_groups
 from tests.merge_check.weak_disk import Disk, differs_by, fault_of, found_in, lay, operations, printed
-from tests.program import TO_JOIN, ends, has, job_lines, join_public, keygen, preload, public, read, run, sign
+from tests.program import TO_JOIN, ends, has, job_lines, join_public, keygen, preload, public, put, read, run, sign, without_counts
 from tests.reference import image, joined, kept, parts_to_join, public_of, signature_of
 from tests.seeds import tells
 
@@ -69,23 +73,28 @@ def asked():
 
 class Run:
     """A recorded run of the program: the files that it found and what it did; the state before it,
-    if there was one, and after it; the index that is next before it and after it; and the name and
-    the bytes of the public key that it writes, if it does."""
+    if there was one, and each one that it stores; the index that is next by each of these; and the name and
+    the bytes of the public key that it writes, if it does. Of a run that stores several the answers to what
+    is stored first are the first of what it prints, up to one of the `ends`, and so on."""
 
-    def __init__(self, key, name, before, after, indices, public_key=None):
-        self.key, self.name, self.before, self.after, self.indices = key, name, before, after, indices
+    def __init__(self, key, name, states, indices, public_key=None, ends_of_answers=()):
+        self.key, self.name, self.states, self.indices, self.ends = key, name, states, indices, ends_of_answers
         self.public_key = public_key
 
     def record(self, folder, arguments, jobs=b""):
         """Runs the program, and records all that it does to files in the folder. What it
         printed."""
-        self.folder, self.found, log = folder, found_in(folder), f"{folder}.record"
-        ran = run(arguments, cwd=folder, input=jobs, text=False, env=preload("record", RECORD=log))
+        self.folder, self.found, log, lines = folder, found_in(folder), f"{folder}.record", f"{folder}.jobs"
+        put(lines, jobs)
+        began = time.monotonic()
+        with open(lines, "rb") as given:
+            ran = run(arguments, cwd=folder, stdin=given, text=False, env=preload("record", RECORD=log))
         self.done = list(operations(read(log)))
         os.remove(log)
+        os.remove(lines)
         unknown = [data for word, _, _, data in self.done if word == "unknown"]
         said = f"{self.name} ended with {ran.returncode}: {ran.stderr}; calls that are not known: {unknown}"
-        holds((ran.returncode, ran.stderr, unknown) == (0, b"", []), said)
+        holds((ran.returncode, without_counts(ran.stderr.decode(), began), unknown) == (0, "", []), said)
         holds(printed(self.done) == ran.stdout, f"{self.name}: not all that was printed is recorded")
         self.keeps_secret()
         disk = self.disk()
@@ -94,8 +103,12 @@ class Run:
         there = {name: contents for name, (_, contents) in found_in(folder).items()}
         recorded = {name: disk.file(name).contents for name in disk.names if disk.file(name)}
         holds(recorded == there, f"{self.name}: not all that was done to files is recorded")
-        holds(there.get(self.key.state) == self.after, f"{self.name}: it left another state")
+        holds(there.get(self.key.state) == self.states[-1], f"{self.name}: it left another state")
         return ran.stdout
+
+    def least(self, disk):
+        """How many of its states are too old, by what it gave away."""
+        return 1 + sum(disk.printed > it for it in self.ends) if disk.has_left else 0
 
     def keeps_secret(self):
         """Of all files and streams the seed is written to the state's draft alone."""
@@ -118,10 +131,10 @@ class Run:
             at = f"{self.name} #{number}"
             moment = disk.do(*operation, at) if operation else at
             for left, lost in disk.losses() if moment else ():
-                fault = fault_of(left.get(self.key.state, (0, None))[1], self.before, self.after, disk.has_left)
-                if self.public_key and (disk.has_printed or number == len(self.done)):
+                fault = fault_of(left.get(self.key.state, (0, None))[1], self.states, self.least(disk))
+                if self.public_key and (disk.printed or number == len(self.done)):
                     fault = fault or self.public_fault(left)
-                yield left, self.indices[disk.has_left], fault, lambda: f"{self.key.name}, after {moment}; lost: {disk.said(lost)}"
+                yield left, self.indices[self.least(disk)], fault, lambda: f"{self.key.name}, after {moment}; lost: {disk.said(lost)}"
 
     def public_fault(self, left):
         """What is wrong with the public key, if anything, once this run has printed or ended."""
@@ -139,8 +152,8 @@ class Run:
 
 class Key:
     """A key in a folder, and the runs on it, one after another, where a number is a `batch` of so
-    many jobs. Where a state has another name, by which the program finds it, that is a link to
-    it."""
+    many jobs, and a list is a `serve` of groups of so many. Where a state has another name, by which
+    the program finds it, that is a link to it."""
 
     def __init__(self, name, levels, steps, state="key.state", option=None, files=None):
         self.name, self.levels, self.steps, self.state, self.option = name, levels, steps, state, option or state
@@ -171,7 +184,7 @@ class Key:
 
     def makes(self, folder):
         """Runs `keygen`."""
-        made = Run(self, "keygen", None, self.image(0, 0), (0, 0), ("key.pub", public_of(self.levels)))
+        made = Run(self, "keygen", [None, self.image(0, 0)], [0, 0], ("key.pub", public_of(self.levels)))
         said = made.record(folder, keygen(self.levels_text(), state=self.option))
         holds(said == b"capacity %d\n" % self.capacity(), "keygen printed something else")
         has(f"{folder}/key.pub", public_of(self.levels))
@@ -180,19 +193,24 @@ class Key:
     def signs(self, folder, before):
         """Runs `sign` on a state."""
         counter, openings = self.numbers[before]
-        made = Run(self, f"sign {counter}", before, self.image(counter + 1, openings + 1), (counter, counter + 1))
+        made = Run(self, f"sign {counter}", [before, self.image(counter + 1, openings + 1)], [counter, counter + 1])
         holds(made.record(folder, sign(state=self.option)) == b"index %d\n" % counter, f"sign {counter} printed something else")
         has(f"{folder}/text.sig", signature_of(self.levels, counter, MESSAGE))
         return made
 
-    def answers(self, folder, before, jobs):
-        """Runs `batch` on a state, with so many jobs."""
+    def answers(self, folder, before, command, counts):
+        """Runs `batch` or `serve` on a state, with groups of so many jobs."""
         counter, openings = self.numbers[before]
-        after = self.image(counter + jobs, openings + 1)
-        made = Run(self, f"batch {counter} to {counter + jobs - 1}", before, after, (counter, counter + jobs))
-        said = "".join(f"{it} {signature_of(self.levels, it, MESSAGE).hex()}\n" for it in range(counter, counter + jobs))
-        printed_now = made.record(folder, ["batch", "--state", self.option, "--workers", "2"], job_lines(*[MESSAGE] * jobs))
-        holds(printed_now == said.encode(), f"batch {counter} printed something else")
+        messages, states, indices, said, ends_of_answers = messages_of_groups(*counts), [before], [counter], b"", []
+        for at, count in enumerate(counts, 1):
+            for index in range(indices[-1], indices[-1] + count):
+                said += b"%d %s\n" % (index, signature_of(self.levels, index, messages[index - counter]).hex().encode())
+            ends_of_answers.append(len(said))
+            indices.append(indices[-1] + count)
+            states.append(self.image(indices[-1], openings + at))
+        made = Run(self, f"{command} {counter} to {indices[-1] - 1}", states, indices, ends_of_answers=ends_of_answers[:-1])
+        printed_now = made.record(folder, [command, "--state", self.option, "--workers", "2"], job_lines(*messages))
+        holds(printed_now == said, f"{made.name} printed something else")
         return made
 
     def publishes(self, folder, before, step):
@@ -201,7 +219,7 @@ class Key:
             "public": (public(self.option, "again.pub"), "again.pub", public_of(self.levels), b"capacity %d\n" % self.capacity()),
             "join-public": (join_public(), "joined.pub", joined(*PARTS)[0], b""),
         }[step]
-        made = Run(self, step, before, before, self.numbers[before][:1] * 2, (name, contents))
+        made = Run(self, step, [before] * 2, self.numbers[before][:1] * 2, (name, contents))
         holds(made.record(folder, words) == line, f"{step} printed something else")
         has(f"{folder}/{name}", contents)
         return made
@@ -217,9 +235,11 @@ class Key:
                 made.append(self.makes(folder))
             elif step in ("public", "join-public"):
                 made.append(self.publishes(folder, before, step))
+            elif step == "sign":
+                made.append(self.signs(folder, before))
             else:
-                made.append(self.signs(folder, before) if step == "sign" else self.answers(folder, before, step))
-            before = made[-1].after
+                made.append(self.answers(folder, before, *(("serve", step) if isinstance(step, list) else ("batch", [step]))))
+            before = made[-1].states[-1]
         return made
 
     def goes_on(self, left, least):
@@ -231,7 +251,7 @@ class Key:
             if before is None:
                 self.describes(folder, 3, "", "error: cannot read state\n")
                 made.append(self.makes(folder))
-                before = made[0].after
+                before = made[0].states[-1]
             counter, openings = self.numbers.get(before, (0, 0))
             capacity = self.capacity()
             numbers = f"counter {counter}\ncapacity {capacity}\nleft {capacity - counter}\nopenings {openings}\nburnt 0\n"
@@ -247,12 +267,12 @@ class Key:
         ends(["info", "--state", self.option], status, output, errors, cwd=folder)
 
 
-PLAIN = Key("5/8", ONE, ["keygen", "sign", "sign", 3, "public", "join-public"], files=dict(zip(TO_JOIN[::2], PARTS[::2])))
+PLAIN = Key("5/8", ONE, ["keygen", "sign", "sign", 3, [2, 1], "public", "join-public"], files=dict(zip(TO_JOIN[::2], PARTS[::2])))
 # (Indices 31 and 32 go through two trees.)
-APART = Key("5/4,5/4 in another folder", TWO, ["keygen", "sign", "sign", 29, "sign", "sign", 2], "keys/key.state")
+APART = Key("5/4,5/4 in another folder", TWO, ["keygen", "sign", "sign", 29, "sign", "sign", 2, [1, 1, 1]], "keys/key.state")
 # Version 1 wrote this state, and a crash left drafts beside it.
 OLD = image(TWO, 31, version=1)
-CRASHED = Key("5/4,5/4 by a link", TWO, ["sign", "sign", 2], "keys/state", "key.state", {
+CRASHED = Key("5/4,5/4 by a link", TWO, ["sign", "sign", 2, [2, 1]], "keys/state", "key.state", {
     "keys/state": OLD, "keys/state.new": OLD[:50], "keys/state.nodes": kept(TWO, 0), "keys/state.nodes.new": kept(TWO, 0)[:100], "text.sig": bytes(30000),
 })
 CRASHED.numbers[OLD] = 31, 0
@@ -344,7 +364,7 @@ def finds(ignored, word):
         for made in key.runs():
             first = first_found(made, ignored, word)
             # (A key without a state is made again, since no index of it was given.)
-            if made.before != made.after and key.state in first[0]:
+            if made.states[0] != made.states[-1] and key.state in first[0]:
                 is_refused(key, *first)
 
 

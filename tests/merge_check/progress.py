@@ -1,4 +1,4 @@
-"""What `keygen`, `sign` and `batch` tell of the leaves that they compute: on a terminal, elsewhere,
+"""What `keygen`, `sign`, `batch` and `serve` tell of the leaves that they compute: on a terminal, elsewhere,
 and when.
 
 `machine.c`, which is loaded before the program, gives it a clock that goes on at each look alone. The
@@ -8,13 +8,15 @@ to standard error is one text where both are one terminal."""
 
 import os
 import re
+import select
 import statistics
 import subprocess
 import time
 
 from tests.harness import holds, test
-from tests.program import BATCH, INFO, NODES, PROGRAM, VERIFY, job_lines, keygen, on_terminal, preload, put, read, run, sign
+from tests.merge_check.service import WINDOW, Service
 from tests.merge_check.wrong_nodes import wrong_way
+from tests.program import BATCH, INFO, NODES, PROGRAM, SERVE, VERIFY, job_lines, keygen, on_terminal, preload, put, read, run, sign
 from tests.reference import checked, image, kept_parts, public_of, signature_of
 
 ONE, TWO, THREE = (((5, 1),) * count for count in (1, 2, 3))
@@ -72,6 +74,54 @@ def shows_each_count_once_and_wipes_it():
         shows(BATCH, 0, f"{counts(128)}{WIPED}{answers}", stdin=jobs)
     numbers = "levels 5/1,5/1,5/1\ncounter 33\ncapacity 32768\nleft 32735\nopenings 1\nburnt 0\n"
     shows(INFO, 0, numbers, begins=0)
+
+
+@test
+def a_service_wipes_its_line_before_an_answer():
+    put("jobs", job_lines(b"abc"))
+    begins_at(THREE, 30)
+    with open("jobs", "rb") as jobs:
+        answer = f"30 {signature_of(THREE, 30, b'abc').hex()}\n"
+        shows(SERVE, 0, f"{counts(32 + 32 + WINDOW)}{WIPED}{answer}", stdin=jobs)
+
+
+@test
+def a_service_wipes_its_line_where_its_input_has_none():
+    begins_at(THREE, 30)
+    shows(SERVE, 0, f"{counts(32 + 32 + WINDOW)}{WIPED}")
+
+
+def tells(service, lines, leaves):
+    """A `serve` tells so many leaves, each eight of them by a line, before it reads these lines or a part of
+    one, or before it answers them."""
+    service.write(lines)
+    service.has_read()
+    for _ in range(lines.count(b"\n")):
+        service.line()
+    is_told = select.select([service.running.stderr], [], [], 0)[0]
+    told = os.read(service.running.stderr.fileno(), 65536).decode() if is_told else ""
+    wanted = "".join(f"{at} of {leaves} leaves\n" for at in range(AT_ONCE, leaves + 1, AT_ONCE))
+    holds(told == wanted, f"of {leaves} leaves it told {told[-200:]!r}")
+
+
+@test
+def a_service_computes_trees_before_it_reads():
+    """All those that go with 1024 indices. No more are computed until the next ones are begun, and then none
+    again that is there; nor at its end, nor where no index is left."""
+    line = job_lines(b"abc")
+    begins_at(THREE, WINDOW - 3)
+    with Service(1, env=machine(PRINTED)) as it:
+        tells(it, line[:30], 32 + 32 + WINDOW)
+        tells(it, line[30:], 0)
+        tells(it, 2 * line, 0)
+        tells(it, line[:30], 0)
+        tells(it, line[30:], 32 + WINDOW)
+        tells(it, line, 0)
+        it.finishes()
+    begins_at(ONE, 32)
+    with Service(1, env=machine(PRINTED)) as it:
+        tells(it, line[:30], 0)
+        it.running.kill()
 
 
 @test

@@ -1,7 +1,8 @@
-"""Lives of keys over files, at random. A life is one run of `sign` or `batch`: it ends well, is
+"""Lives of keys over files, at random. A life is one run of `sign`, `batch` or `serve`: it ends well, is
 killed at one of its operations on files and streams or at some moment, has operations that fail,
 done or not, a request for memory refused, or a full device for its output, and some run beside
-another one on the same state. Before some the kept nodes are removed, cut or changed, or older ones
+another one on the same state. A read of some `serve`s brings a line or a few, so that they answer several
+groups. Before some the kept nodes are removed, cut or changed, or older ones
 or another key's are put in their place.
 
 Every index that a life gave, by what it printed or by what is in a signature's file, is compared
@@ -11,7 +12,7 @@ and each of a life before which the nodes were changed or power was lost.
 Some that are alone lose power, however they end: before their operations, as `record.c` records
 them, or after one that changes something. The state's file and those beside it become what the
 model of `weak_disk.py` may leave then, and what came after never happened. The state must be the
-old one or the new one, whole, and the new one once a byte of a signature or of an answer was
+old one or a new one, whole, and a new one once a byte of a signature or of an answer was
 written. What a life finds counts as flushed. With `--ignore` the model takes flushes of files, or
 of folders, to do nothing, and the check must fail.
 
@@ -35,12 +36,14 @@ import time
 
 from tests.harness import ARGUMENTS, Wrong, holds, test
 from tests.merge_check.power import Power
-from tests.program import PROGRAM, index_in, job_lines, keygen, preload, put, run, sign, verify
+from tests.program import PROGRAM, index_in, job_lines, keygen, preload, put, run, sign, verify, without_counts
 from tests.reference import CHAINS
 from tests.seeds import keeps_secret
 
 LEVELS = ["5/1"] * 5 + ["5/2"] * 3 + ["5/4", "5/8"] + ["5/1,5/1"] * 5 + ["5/2,5/1"] * 2 + ["5/1,5/4,5/1", "5/8,5/8"]
 MESSAGE = b"a message"
+# How many bytes a job line has.
+LINE = len(job_lines(MESSAGE))
 # What may become of the kept nodes before a life.
 MISHAPS = ["removed", "emptied", "cut", "changed", "older", "another key's"]
 
@@ -74,27 +77,32 @@ class Life:
     def __init__(self, key, number):
         dice = key.dice
         self.key, self.name = key, f"{key.folder}/{number}"
-        self.is_batch = dice.random() < 0.45
-        self.jobs = dice.choice([0, 1, 1, 2, 2, 3, 3, 4, 6, 9, 33]) if self.is_batch else 1
+        self.command = dice.choices(["sign", "batch", "serve"], [50, 25, 25])[0]
+        self.jobs = 1 if self.command == "sign" else dice.choice([0, 1, 1, 2, 2, 3, 3, 4, 6, 9, 33])
         self.workers = dice.choice([1, 2, 2, 3, 4])
         self.fault = dice.choices(["none", "stop", "fail", "refuse", "kill", "full"], [30, 20, 22, 8, 15, 5])[0]
         self.settings = {}
+        operations = {"sign": 34, "batch": 60, "serve": 150}[self.command]
         if self.fault == "stop":
-            self.settings = {"STOP": dice.randint(1, 60 if self.is_batch else 34)}
+            self.settings = {"STOP": dice.randint(1, operations)}
         elif self.fault == "fail":
-            first = dice.randint(1, 60 if self.is_batch else 34)
+            first = dice.randint(1, operations)
             self.settings = {"FAIL": first, "LAST": first + dice.choice([0, 0, 0, 1, 2, 5, 1000])}
             if dice.random() < 0.5:
                 self.settings["LATE"] = 1
         elif self.fault == "refuse":
             self.settings = {"REFUSE": dice.randint(1, 160)}
+        if self.command == "serve" and self.fault != "refuse" and dice.random() < 0.7:
+            self.settings["TAKE"] = dice.choice([LINE, LINE, 2 * LINE, 2 * LINE + 1, 5 * LINE])
+        # (It computes the trees of all indices that are near.)
+        self.patience = dice.choice([1, 3, 10]) if self.command == "serve" else 1
         self.moment, self.power, self.record = dice.random() * 1.2, None, None
 
     def arguments(self):
         """What the program is asked for."""
         state = f"{self.key.folder}/key.state"
-        if self.is_batch:
-            return ["batch", "--state", state, "--workers", str(self.workers)]
+        if self.command != "sign":
+            return [self.command, "--state", state, "--workers", str(self.workers)]
         to = "/dev/full" if self.fault == "full" and self.moment < 0.6 else f"{self.name}.sig"
         return sign(f"{self.key.folder}/text", to, state=state)
 
@@ -110,17 +118,20 @@ class Life:
         to = "/dev/full" if self.fault == "full" and self.moment >= 0.6 else f"{self.name}.out"
         with open(f"{self.name}.in", "rb") as given, open(to, "wb") as output, open(f"{self.name}.err", "wb") as errors:
             how = {"stdin": given, "stdout": output, "stderr": errors, "env": preload(*libraries, **settings)}
+            self.began = time.monotonic()
             self.process = subprocess.Popen([PROGRAM, *self.arguments()], **how)
 
     def wait(self):
         """Waits for its end, or for the moment at which it is killed."""
         try:
-            self.status = self.process.wait(self.moment * self.key.seconds if self.fault == "kill" else 600)
+            moment = self.moment * self.key.seconds * self.patience
+            self.status = self.process.wait(moment if self.fault == "kill" else 600)
         except subprocess.TimeoutExpired:
             self.process.kill()
             self.status = self.process.wait()
             holds(self.fault == "kill", f"{self.name}: it did not end")
-        self.output, self.errors, self.signature = self.read("out"), self.read("err").decode(), self.read("sig")
+        self.output, self.signature = self.read("out"), self.read("sig")
+        self.errors = without_counts(self.read("err").decode(), self.began)
         keeps_secret(self.arguments(), (self.output, self.errors), self.key.folder, self.key.seeds, self.record)
         holds(self.status in (0, 1, 3, 4, 5, 6, -9), f"{self.name}: it ended with {self.status}: {self.errors}")
 
@@ -131,7 +142,7 @@ class Life:
 
     def answers(self):
         """The indices that were given, each with its signature as far as that was written."""
-        if not self.is_batch:
+        if self.command == "sign":
             printed = self.output.removeprefix(b"index ").removesuffix(b"\n") if self.output.endswith(b"\n") else b""
             found = index_in(self.signature, self.key.levels)
             if printed and found is not None and int(printed) != found:
@@ -154,10 +165,12 @@ class Life:
         if self.fault != "none":
             return
         left = self.key.capacity - before
-        if is_alone and self.jobs <= left:
-            holds(whole == list(range(before, before + self.jobs)), f"{self.name}: it gave {whole} from {before} on, and {ended}")
+        # (A `serve` gives the first lines what is left.)
+        first = min(self.jobs, left) if self.jobs <= left or self.command == "serve" else 0
+        if is_alone:
+            holds(whole == list(range(before, before + first)), f"{self.name}: it gave {whole} from {before} on, and {ended}")
         if is_alone and self.jobs > left:
-            is_right = (self.status, self.errors) == (4, f"error: exhausted: {left} left\n")
+            is_right = (self.status, self.errors) == (4, f"error: exhausted: {left - first} left\n")
             holds(is_right, f"{self.name}: {self.jobs} of {left} indices, and {ended}")
         if not is_alone and self.status != 0:
             holds(self.errors == "error: state in use\n" or "exhausted" in self.errors, f"{self.name}: beside another one {ended}")

@@ -1,5 +1,5 @@
-"""The rounds of README.md as they are there, of one signature and of a batch, by the program. They
-need openssl and basenc."""
+"""The rounds of README.md as they are there, of one signature, of a batch and of a service, by the program.
+They need openssl and basenc."""
 
 import os
 import subprocess
@@ -36,4 +36,5 @@ def each_signature_of_the_rounds_is_valid():
     files = len(list((TOP / "examples").glob("*.*")))
     with open("home/keys/answers", "rb") as answers:
         holds(len(answers.readlines()) == files, f"not an answer for each file{said}")
-    holds(lines.count("valid") == files + 3, f"not each signature is valid{said}")
+    holds(any(it.endswith(f"/update.sig has index {files + 1}") for it in lines), f"no signature by a service{said}")
+    holds(lines.count("valid") == files + 4, f"not each signature is valid{said}")

@@ -6,7 +6,8 @@ key or joined signature that it writes is whole then; after a fault it is whole 
 program one processor, so that its requests are the same in each run, and a clock by which it tells of
 all leaves that it has computed: so it is seen how many are computed when a request is refused. `sign`
 asks for all memory before it computes a leaf, and again where kept nodes turn out to be wrong; `keygen`
-asks for that of its state and tree before, and `batch` for all of a tree before its leaves."""
+asks for that of its state and tree before, and `batch` and `serve` for all of a tree before its leaves. A
+`serve` has answered all groups but the one that it is refused memory for."""
 
 import collections
 import concurrent.futures
@@ -17,15 +18,18 @@ import re
 
 from tests.harness import Wrong, add_test, holds
 from tests.merge_check.made_up_trees import MadeUpTree
+from tests.merge_check.service import WINDOW, messages_of_groups
 from tests.merge_check.wrong_nodes import misfitting
-from tests.program import BATCH, INFO, NODES, TO_JOIN, index_in, job_lines, join, join_public, keygen, preload, public, put, run, sign, verify
+from tests.program import BATCH, INFO, NODES, SERVE, TO_JOIN, index_in, job_lines, join, join_public, keygen, preload, public, put, run, sign, verify
 from tests.reference import IDENTIFIER, SEED, SUBTREE, checked, image, joined, kept, kept_parts, number, parts_to_join, public_of, signature_of
 
 ONE, TWO, TALL = ((5, 1),), ((5, 1),) * 2, ((15, 1), *((5, 1),) * 4)
+# A key of which the second level's trees are as large as what a `serve` keeps.
+WIDE = ((5, 1), (10, 1))
 # The last index of a tree of height 5, and the first one of the second bottom subtree of TALL's top tree.
 LAST, EDGE = 31, 2 ** (SUBTREE + 20)
 # A batch has a job on either side of the end of a tree.
-JOBS = 2
+JOBS, SERVE_BY_ONE = 2, [*SERVE[:-1], "1"]
 # How far the clock goes on at a look, so that each count is told.
 TICK = 10**10
 # More requests than any command makes.
@@ -77,12 +81,14 @@ class Command:
     """A command: its arguments, the levels of the key, the index that the state gives next, or None where
     there is no state, how many indices it uses, its input, and a call for the other files that it finds.
     `late` says how many leaves were computed where it ends by a refusal and some were: each number with
-    that of these refusals. Where only those are tried that burn an index, the others are as in another
-    command. What it makes is a file of a name with the bytes of a call, if that is said."""
+    that of these refusals, or the numbers alone. Where only those are tried that burn an index, the others
+    are as in another command. What it makes is a file of a name with the bytes of a call, if that is said.
+    A `serve` answers its jobs one by one, and all others at once."""
 
     def __init__(self, arguments, levels, late, index=LAST, uses=1, lines=b"", files=None, burns=False, makes=None):
         self.arguments, self.levels, self.late, self.index, self.uses, self.lines = arguments, levels, late, index, uses, lines
         self.files, self.burns, self.makes = files or (lambda: key_of(levels)), burns, makes
+        self.at_once = 1 if arguments is SERVE_BY_ONE else uses
 
     def begin(self, folder, files):
         """Makes the files that it finds."""
@@ -95,16 +101,18 @@ class Command:
     def ends(self, fault, answers):
         """With which status it may end where it prints this fault and so many answers, and how many
         indices are used by then, or None without a state."""
+        # (All that was asked for at once before is answered.)
+        before = answers - answers % self.at_once if self.at_once < self.uses else 0
         if fault is None:
             return 0, [self.uses]
         if fault == "out of memory":
-            return 5, [0, None] if self.index is None else [0]
-        if self.uses and fault == f"out of memory: {self.uses} burnt":
-            return 5, [self.uses]
-        if self.uses and fault == f"partial: {answers} of {self.uses} signed":
-            return 1, [self.uses]
+            return 5, [0, None] if self.index is None else [before]
+        if self.uses and fault == f"out of memory: {self.at_once} burnt":
+            return 5, [before + self.at_once]
+        if self.uses and fault == f"partial: {answers - before} of {self.at_once} signed":
+            return 1, [before + self.at_once]
         holds(self.uses and fault == "cannot write output", f"it says {fault!r}")
-        return 6, [self.uses]
+        return 6, [before + self.at_once]
 
 
 class Run:
@@ -133,7 +141,7 @@ class Run:
         if not state.exists():
             return None
         for used in range(JOBS + 1):
-            if state.read_bytes() == image(self.command.levels, first + used, min(used, 1)):
+            if state.read_bytes() == image(self.command.levels, first + used, used if self.command.at_once == 1 else min(used, 1)):
                 return used
         raise Wrong("another state is left")
 
@@ -192,7 +200,8 @@ def refuses_each(command):
             found = list(pool.map(lambda request: refuses(command, files, request), requests[:at_once]))
             late.update(told for _, told in found if told)
             requests = requests[at_once:] if all(is_tried for is_tried, _ in found) else []
-    holds(late == command.late, f"leaves computed where memory is refused: {dict(late)}, and not {command.late}")
+    is_as_said = late == command.late if isinstance(command.late, dict) else set(late) == command.late
+    holds(is_as_said, f"leaves computed where memory is refused: {dict(late)}, and not {command.late}")
 
 
 COMMANDS = {
@@ -209,6 +218,8 @@ COMMANDS = {
     "sign by the next tree, under another root": Command(sign(), TWO, {32: 8}, index=LAST + 1, files=with_another_root, burns=True),
     "sign by the next bottom subtree": Command(sign(), TALL, {}, index=EDGE, files=with_tall_nodes, burns=True),
     "batch": Command([*BATCH[:-1], "1"], TWO, {32: 4, 64: 3, 96: 5}, uses=JOBS, lines=job_lines(*[b"abc"] * JOBS)),
+    "serve": Command(SERVE_BY_ONE, ONE, {32}, index=LAST - 2, uses=JOBS, lines=job_lines(*messages_of_groups(*[1] * JOBS))),
+    "serve over the edge of its trees": Command(SERVE_BY_ONE, WIDE, {32, 1056}, index=WINDOW - 1, uses=JOBS, lines=job_lines(*[b"abc"] * JOBS)),
 }
 for what, one_of_them in COMMANDS.items():
     add_test(f"{what}, each request for memory refused", refuses_each, one_of_them)

@@ -1,8 +1,8 @@
 """How fast trees are computed: by ratios of times of one machine, within wide bounds.
 
 By one processor, which `machine.c` has the program find, a hash of a tree takes less time than one of a
-message, since eight leaves are computed side by side; and a `sign` and a `batch` that compute a tree, or a
-bottom subtree, take no longer than the `keygen` of such a tree, so they compute it once. These times are
+message, since eight leaves are computed side by side; and a `sign`, a `batch` and a `serve` that compute a
+tree, or a bottom subtree, take no longer than the `keygen` of such a tree, so they compute it once. These times are
 taken in turn, of each the least counts, and more are taken while a ratio is too great, since other
 programs may have been in the way. By all processors `keygen` of 15/2 gets as much of them as programs do
 that only spin. And with no time taken it is seen that a thread with much left gives a part away where a
@@ -14,7 +14,7 @@ import subprocess
 import time
 
 from tests.harness import Skipped, Wrong, checks, holds, test
-from tests.program import BATCH, NODES, job_lines, keygen, measured, preload, put, read, run, sign, taken, verify
+from tests.program import BATCH, NODES, SERVE, job_lines, keygen, measured, preload, put, read, run, sign, taken, verify
 from tests.reference import CHAINS, SUBTREE, image
 
 WIDTH, LEAVES = 2, 2**10
@@ -70,8 +70,9 @@ class Times:
         self.rounds += 1
         begins_at(SMALL, 5)
         self.add("sign", time_of(sign()))
-        begins_at(SMALL, 5)
-        self.add("batch", time_of(BATCH, job_lines(b"abc")))
+        for words in (BATCH, SERVE):
+            begins_at(SMALL, 5)
+            self.add(words[0], time_of(words, job_lines(b"abc")))
         begins_at(TALL, self.rounds << SUBTREE, self.nodes)
         self.add("moved", time_of(sign()))
         remove("key.state")
@@ -144,7 +145,7 @@ def trees(counter):
     run(keygen(state="long.state", public="long.pub"))
     run(sign(out="long.sig", state="long.state"))
     counter.check("a hash of a tree takes less than one of a message", times.check, "tree", MOST_OF_A_HASH)
-    for what, name in [("sign", "a tree is computed once by a signature"), ("batch", "and once by a batch")]:
+    for what, name in [("sign", "a tree is computed once by a signature"), ("batch", "and once by a batch"), ("serve", "and by a service")]:
         counter.check(name, times.check, what, MOST_OF_A_TREE)
     counter.check("a bottom subtree is computed once by a signature", times.check, "moved", MOST_OF_A_TREE)
 

@@ -170,6 +170,7 @@ HELP = [
     "sign --help",
     "join-public --help",
     "batch -h",
+    "serve --help",
 ]
 
 
@@ -201,7 +202,8 @@ def texts_of_help():
 def commands_that_sign_or_read_a_state_and_others_beside_their_help():
     with Trial() as it:
         it.tries_well(0, "capacity 32\n")
-        for line in ("keygen", "info", "public", "sign", "batch", "join", "join-public", "sign --help --state", "batch --state --help"):
+        commands = ["keygen", "info", "public", "sign", "batch", "serve", "join", "join-public"]
+        for line in (*commands, "sign --help --state", "batch --state --help", "serve --state key.state --workers 2"):
             it.starts(*line.split())
             it.only_ran(*line.split())
 

@@ -90,13 +90,14 @@ def differs_by(left, state):
     return tuple((name, first[left[name][0]], left[name][1]) for name in sorted(left) if name.startswith(state))
 
 
-def fault_of(state, before, after, has_left):
-    """What is wrong with this state image, if anything, where a run found one and left the other: a
-    word for it, and what it is."""
-    if state == before != after and has_left:
-        return "older", f"{'the old state' if state else 'no state'}, and bytes were given away"
-    if state in (before, after):
+def fault_of(state, states, least):
+    """What is wrong with this state image, if anything, where a run found the first of these and stores the
+    others, one after another, and so many of them are too old, since bytes were given away: a word for it,
+    and what it is."""
+    if state in states[least:]:
         return None
+    if state in states:
+        return "older", f"{'an older state' if state else 'no state'}, and bytes were given away"
     if state is None:
         return "gone", "no state"
     return "torn", f"{len(state)} bytes that are neither state: {state[:20].hex()}{'..' if state[20:] else ''}"
@@ -130,14 +131,23 @@ def found_in(folder):
 
 class Disk:
     """The files that a folder has, all flushed, and what is done to them. Each name has what it led
-    to since its folder was flushed, and why. Flushes of `files`, of `folders` or of a file of one name
-    do nothing where these are ignored."""
+    to since its folder was flushed, and why; and `states` what the state was from the beginning of a run on.
+    Flushes of `files`, of `folders` or of a file of one name do nothing where these are ignored."""
 
     def __init__(self, folder, found, state, ignored=None):
         self.folder, self.state, self.ignored = os.path.realpath(folder), state, ignored
         files = {number: File(contents) for number, contents in found.values()}
         self.names = {name: [(files[number], "")] for name, (number, _) in found.items()}
-        self.opened, self.has_left, self.has_printed = {}, False, False
+        self.start()
+
+    def start(self):
+        """Begins a run."""
+        self.opened, self.has_left, self.printed = {}, False, 0
+        self.states = [self.contents(self.state)]
+
+    def contents(self, name):
+        """The bytes of a file, or None where it is not there."""
+        return self.file(name).contents if self.file(name) else None
 
     def file(self, name):
         """The file to which a name leads, or None."""
@@ -163,7 +173,7 @@ class Disk:
         if word == "write" and first not in self.opened:
             holds(first in (1, 2), f"{number} write: to a file that was not opened")
             self.has_left = self.has_left or first == 1
-            self.has_printed = self.has_printed or first == 1
+            self.printed += len(data) if first == 1 else 0
             return f"{number} write to stream {first}"
         if word == "write":
             name, file = self.opened[first]
@@ -184,6 +194,8 @@ class Disk:
             if self.file(old) is not self.file(new):
                 self.lead(new, self.file(old), what)
                 self.lead(old, None, what)
+            if new == self.state:
+                self.states.append(self.contents(new))
             return what
         holds(word == "unlink", f"{number} {data.decode()}: a call that is not known")
         what = f"{number} removal of {self.name(data)}"
@@ -213,7 +225,7 @@ class Disk:
 
     def begin(self):
         """Begins another run: what the runs before gave away is flushed."""
-        self.opened, self.has_left, self.has_printed = {}, False, False
+        self.start()
         for name in self.names:
             if not self.is_beside(name):
                 self.names[name] = self.names[name][-1:]

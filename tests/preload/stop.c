@@ -6,8 +6,9 @@
    operation, since only some machines have it: so the program sees no quota of processors.
 
    Where STEPS is set, that file gets a line for each operation, before it is done: what it does, and
-   the file's name. Where SHORT is set, a read or a write moves at most so many bytes. Where SIZE is
-   set, the file NAME is reported to have so many bytes. */
+   the file's name. Where SHORT is set, a read or a write moves at most so many bytes, and where TAKE
+   is set, a read of standard input. Where SIZE is set, the file NAME is reported to have so many
+   bytes. */
 #define _GNU_SOURCE
 #include <dlfcn.h>
 #include <errno.h>
@@ -88,9 +89,9 @@ static long reported(int is_failed, long answer) {
     return answer;
 }
 
-/* How many bytes of these a read or a write may move. */
-static size_t moved(size_t count) {
-    size_t most = number("SHORT");
+/* How many bytes of these a read or a write may move, by a setting. */
+static size_t moved(size_t count, const char *setting) {
+    size_t most = number(setting);
     return most && most < count ? most : count;
 }
 
@@ -122,7 +123,8 @@ int open(const char *path, int flags, ...) {
 
 ssize_t read(int file, void *bytes, size_t count) {
     ssize_t (*next)(int, void *, size_t) = dlsym(RTLD_NEXT, "read");
-    ANSWER("read", name_of(file), next(file, bytes, moved(count)));
+    count = moved(moved(count, "SHORT"), file ? "SHORT" : "TAKE");
+    ANSWER("read", name_of(file), next(file, bytes, count));
 }
 
 struct text {
@@ -142,7 +144,7 @@ static void write_half(const void *given) {
 }
 
 ssize_t write(int file, const void *bytes, size_t count) {
-    struct text text = {file, bytes, moved(count)};
+    struct text text = {file, bytes, moved(count, "SHORT")};
     int is_failed = fails("write", name_of(file), write_half, &text);
     return reported(is_failed, write_first(&text, is_failed && !number("LATE") ? text.count / 2 : text.count));
 }

@@ -42,9 +42,8 @@ pub fn print_held(rt: &(impl Print + AllocGlobal + Threads + Sync)) -> Result<()
     print_bytes(rt, "in whole trees", (1 << 16) - 1, (1 << 11) - 1)
 }
 
-/// Prints the bytes of so many nodes of 32 bytes in the two trees and of the head, which comes
-/// before the bottom tree's signatures: while the bottom tree is computed, when the top tree is
-/// held beside it, and when the forest is made.
+/// Prints the bytes of so many nodes of 32 bytes in the two trees, and of the head, which comes
+/// before the bottom tree's signatures.
 fn print_bytes(
     rt: &impl Print,
     form: &str,
@@ -55,11 +54,8 @@ fn print_bytes(
     requires bottom { bottom_nodes < 100000 }
 {
     let head = 4 + lms_sig_len(LmsType::H15, OtsType::W8) + LMS_KEY_LEN;
-    let then = 32 * bottom_nodes + head;
-    let at_most = 32 * top_nodes + 4 + then;
-    println!(rt;
-        "forest of 1024 indices of 15/8,10/8 {form}: at most {at_most} bytes, then {then}"
-    )?;
+    let bytes = 32 * (top_nodes + bottom_nodes) + head;
+    println!(rt; "forest of 1024 indices of 15/8,10/8 {form}: {bytes} bytes")?;
     Ok(())
 }
 

@@ -6,9 +6,9 @@ use crate::book::book;
 use crate::stopwatch::Stopwatch;
 use crate::workers::Workers;
 use bench_base::{Fault, Hierarchy, Hss, RANDOMIZER, clock, process_clock};
-use lms_batch::{Batch, Job, SigningService};
+use lms_batch::{Batch, Job, SigningService, Trees};
 use lms_book::{Book, MemoryStore};
-use lms_hss::{Forest, HssKey};
+use lms_hss::{Forest, HssKey, Unwatched};
 use lms_params::OutOfMemory;
 use lms_shared_book::{Blanks, BookLedger, Desk, SharedBook};
 use std::alloc::Global;
@@ -65,13 +65,36 @@ impl Batches {
     where
         R: AllocGlobal + Clock + CpuClock + Threads + Wait + Sync,
     {
+        self.sign_by(rt, workers, &mut Trees::per_batch())
+    }
+
+    /// The same, by trees that were computed before.
+    pub fn sign_by_kept<R>(&self, rt: &R, workers: Workers) -> Result<SignedBatch, Fault>
+    where
+        R: AllocGlobal + Clock + CpuClock + Threads + Wait + Sync,
+    {
+        let key = self.hierarchy.key()?;
+        if key.capacity() == 0 {
+            return Err(Fault::Key);
+        }
+        let mut trees = Trees::kept();
+        match trees.prepare(rt, rt.alloc(), key, 0, &Unwatched) {
+            Ok(()) => self.sign_by(rt, workers, &mut trees),
+            Err(OutOfMemory) => Err(Fault::OutOfMemory),
+        }
+    }
+
+    fn sign_by<R>(&self, rt: &R, workers: Workers, trees: &mut Trees) -> Result<SignedBatch, Fault>
+    where
+        R: AllocGlobal + Clock + CpuClock + Threads + Wait + Sync,
+    {
         let book = book(rt.alloc(), self.hierarchy)?;
         let blanks = Blanks {
             entries: Blank::new(2),
             received: Blank::new(2),
             burnt: Blank::new(2),
         };
-        sign_shared::<Brand, Brand, Brand, R>(rt, book, blanks, &self.jobs, workers)
+        sign_shared::<Brand, Brand, Brand, R>(rt, book, blanks, &self.jobs, workers, trees)
     }
 
     /// The time of covering the indices of the batch.
@@ -120,6 +143,7 @@ fn sign_shared<E: BookLedger, G: BookLedger, B: BookLedger, R>(
     blanks: Blanks,
     jobs: &[Job],
     workers: Workers,
+    trees: &mut Trees,
 ) -> Result<SignedBatch, Fault>
 where
     R: AllocGlobal + Clock + CpuClock + Threads + Wait + Sync,
@@ -130,7 +154,14 @@ where
 {
     match SharedBook::<MemoryStore, E, G, B>::share(rt.alloc(), book, blanks, 1) {
         Ok((shared, mut desks)) => match desks.first_mut() {
-            Some(desk) => sign_at(rt, &SigningService::over(shared), desk, jobs, workers),
+            Some(desk) => sign_at(
+                rt,
+                &SigningService::over(shared),
+                desk,
+                jobs,
+                workers,
+                trees,
+            ),
             None => Err(Fault::Service),
         },
         Err(_) => Err(Fault::OutOfMemory),
@@ -144,6 +175,7 @@ fn sign_at<E: BookLedger, G: BookLedger, B: BookLedger, R>(
     desk: &mut Desk<E, G, B>,
     jobs: &[Job],
     workers: Workers,
+    trees: &mut Trees,
 ) -> Result<SignedBatch, Fault>
 where
     R: AllocGlobal + Clock + CpuClock + Threads + Wait + Sync,
@@ -151,7 +183,8 @@ where
     let gate = Stopwatch::new(rt);
     let used = process_clock(rt);
     let start = clock(rt);
-    match service.sign_batch(rt, rt.alloc(), desk, jobs, workers.count(), &gate) {
+    let count = workers.count();
+    match service.sign_batch_by(rt, rt.alloc(), desk, jobs, count, &gate, &Unwatched, trees) {
         Ok(batch) => Ok(SignedBatch {
             batch,
             whole: clock(rt).saturating_sub(start),

@@ -73,6 +73,8 @@ where
             workers.count(),
         )?;
     }
+    batches.sign_by_kept(rt, Workers::One)?;
+    print_number(rt, "SigningService::sign_batch_by 5/8,5/8 workers", 1)?;
     run_lines(rt)
 }
 
@@ -145,10 +147,12 @@ fn print_claims(
     Ok(())
 }
 
-/// The least times of a batch, of covering its indices and of as many bare digests.
+/// The least times of a batch, of one by kept trees, of covering its indices and of as many bare
+/// digests.
 #[derive(Clone, Copy)]
 struct Times {
     whole: Duration,
+    kept: Duration,
     cover: Duration,
     signing: Duration,
     processor: Duration,
@@ -159,6 +163,7 @@ struct Times {
 impl Times {
     const NONE: Times = Times {
         whole: Duration::MAX,
+        kept: Duration::MAX,
         cover: Duration::MAX,
         signing: Duration::MAX,
         processor: Duration::MAX,
@@ -185,6 +190,8 @@ impl Times {
             let at_once = time_digests_at_once(rt, compressions, workers.count())?;
             least.at_once = least.at_once.min(at_once);
         }
+        let kept = batches.sign_by_kept(rt, workers)?;
+        least.kept = least.kept.min(kept.whole);
         let cover = batches.time_cover(rt)?;
         least.cover = least.cover.min(cover);
         let bare = time_digests(rt, compressions)?;
@@ -266,8 +273,9 @@ where
 
 /// Prints the signatures that so many workers make a second, and how many times those of one worker
 /// these are; how many times as many bare digests as one thread as many threads make at once; what
-/// share of these bare digests the signatures' compressions are; and the signatures a second by the
-/// time of the batch less that of covering its indices.
+/// share of these bare digests the signatures' compressions are; the signatures a second by the time
+/// of the batch less that of covering its indices; and the time of a batch by kept trees, beside that
+/// of the signatures alone.
 fn print_times(
     rt: &impl Print,
     levels: &str,
@@ -281,8 +289,9 @@ fn print_times(
     let share = times.at_once.as_secs_f64() / times.signing.as_secs_f64();
     let rest = times.whole.saturating_sub(times.cover).as_secs_f64();
     let less_cover = JOBS as f64 / rest;
+    let kept = times.kept.as_secs_f64() / times.signing.as_secs_f64();
     println!(rt;
-        "SigningService::sign_batch {levels} workers={workers}: {rate:.0} signatures a second, {scale:.2} times one worker, bare digests {threads:.2} times one thread, share {share:.2}, {less_cover:.0} by the batch less its cover"
+        "SigningService::sign_batch {levels} workers={workers}: {rate:.0} signatures a second, {scale:.2} times one worker, bare digests {threads:.2} times one thread, share {share:.2}, {less_cover:.0} by the batch less its cover, by kept trees {kept:.3} of the signatures' time"
     )?;
     Ok(())
 }

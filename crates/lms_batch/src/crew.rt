@@ -9,6 +9,7 @@ use crate::gate::Gate;
 use crate::job::Job;
 use crate::open_lease::OpenLease;
 use crate::receipt::Receipt;
+use crate::trees::Trees;
 use crate::worker::Worker;
 use lms_book::Lease;
 use lms_hss::{HssKey, Progress};
@@ -99,8 +100,8 @@ fn gathered<'a>(collector: Collector<'a>, workers: Vec<Worker<'a>>) -> Batch
 }
 
 /// Signs the jobs by the indices of the lease, one for each, by 1 to `MOST_WORKERS` workers, but no
-/// more than there are jobs. Reports to `progress` how many leaves of the lease's forest are
-/// computed.
+/// more than there are jobs. `trees` are those of the lease, which are computed where they are not
+/// kept there; how many of their leaves are is reported to `progress`.
 ///
 /// `OutOfMemory` where memory is refused before any worker runs, with the lease handed back as it
 /// was.
@@ -112,6 +113,7 @@ pub(crate) fn sign_leased<R: Threads + Sync, G: Gate>(
     workers: usize,
     gate: &G,
     progress: &impl Progress,
+    trees: &mut Trees,
 ) -> Result<Batch, (OutOfMemory, Lease)>
     requires some { 1 ≤ workers }
     requires at_most { workers ≤ most_workers }
@@ -125,7 +127,11 @@ pub(crate) fn sign_leased<R: Threads + Sync, G: Gate>(
         Ok(crew) => crew,
         Err(refused) => return Err((refused, lease)),
     };
-    let (opened, seats) = OpenLease::new_watched(rt, alloc, lease, workers, progress)?;
+    let forest = match trees.take(rt, alloc, &lease, progress) {
+        Ok(forest) => forest,
+        Err(refused) => return Err((refused, lease)),
+    };
+    let (opened, seats) = OpenLease::over(alloc, lease, forest, workers)?;
     let (collector, mut workers) = crew.seated(&opened, seats);
     let threads = workers.len();
     thread::for_each_mut(
@@ -134,5 +140,7 @@ pub(crate) fn sign_leased<R: Threads + Sync, G: Gate>(
         threads,
         &|_, worker: &mut Worker| { worker.work(gate) },
     );
-    Ok(gathered(collector, workers))
+    let batch = gathered(collector, workers);
+    trees.keep(opened.into_forest());
+    Ok(batch)
 }

@@ -10,6 +10,7 @@ mod job;
 mod open_lease;
 mod receipt;
 mod service;
+mod trees;
 mod worker;
 
 pub use crate::collector::{Batch, Collector};
@@ -19,4 +20,5 @@ pub use crate::job::{Job, MOST_JOBS};
 pub use crate::open_lease::OpenLease;
 pub use crate::receipt::Receipt;
 pub use crate::service::{MOST_WORKERS, SigningService};
+pub use crate::trees::Trees;
 pub use lms_params::OutOfMemory;

@@ -8,6 +8,7 @@ use crate::crew::sign_leased;
 use crate::fault::BatchFault;
 use crate::gate::Gate;
 use crate::job::{Job, MOST_JOBS};
+use crate::trees::Trees;
 use lms_book::StateStore;
 use lms_hss::{HssKey, Progress, Unwatched};
 use lms_shared_book::{BookLedger, Desk, SharedBook};
@@ -100,6 +101,36 @@ impl<S: StateStore, E: BookLedger, G: BookLedger, B: BookLedger> SigningService<
         requires at_most { workers ≤ most_workers }
         ensures { SignsBatch self.now jobs.now desk.old result desk.new }
     {
+        self.sign_batch_by(
+            rt,
+            alloc,
+            desk,
+            jobs,
+            workers,
+            gate,
+            progress,
+            &mut Trees::per_batch(),
+        )
+    }
+
+    /// As `sign_batch_watched`, by trees that are kept from one batch to the next. What it answers
+    /// does not depend on these: trees that are not the key's or not those of the indices are
+    /// computed.
+    pub fn sign_batch_by<R: Threads + Wait + Sync, W: Gate>(
+        &self,
+        rt: &R,
+        alloc: Global,
+        desk: &mut Desk<E, G, B>,
+        jobs: &[Job],
+        workers: usize,
+        gate: &W,
+        progress: &impl Progress,
+        trees: &mut Trees,
+    ) -> Result<Batch, BatchFault>
+        requires some { 1 ≤ workers }
+        requires at_most { workers ≤ most_workers }
+        ensures { SignsBatch self.now jobs.now desk.old result desk.new }
+    {
         if jobs.len() > MOST_JOBS {
             return Err(BatchFault::TooMany);
         }
@@ -114,7 +145,7 @@ impl<S: StateStore, E: BookLedger, G: BookLedger, B: BookLedger> SigningService<
             Ok(lease) => lease,
             Err(refused) => return Err(BatchFault::Book(refused)),
         };
-        match sign_leased(rt, alloc, lease, jobs, workers, gate, progress) {
+        match sign_leased(rt, alloc, lease, jobs, workers, gate, progress, trees) {
             Ok(batch) => Ok(batch),
             Err((_, lease)) => {
                 self.book.give_back(lease);

@@ -7,21 +7,22 @@ use Rattle.lms_hss.specs.declared.key.HssKey.{HssKey as KeyOfCode}
 use Rattle.lms_world.specs.Names.{Bytes}
 use Rattle.lms_world.specs.Held.{Answers, Follows, Held, answer_in}
 use Rattle.lms_world.proofs.Outcomes.{holds_what_is_logged}
-use Rattle.lms_commands.specs.BatchInMemory.{FailsToSignJobs}
+use Rattle.lms_signature_commands.specs.BatchInMemory.{FailsToSignJobs}
 use Rattle.lms_commands.specs.InMemory.{OnlyFiles, SameFilesBut, SignsNone, Stays}
-use Rattle.lms_commands.specs.KeygenInMemory.{FailsToMakeKey}
+use Rattle.lms_key_commands.specs.KeygenInMemory.{FailsToMakeKey}
 use Rattle.lms_commands.specs.Logs.{WorldCalls}
-use Rattle.lms_commands.specs.PublicInMemory.{FailsToPublishKey}
-use Rattle.lms_commands.specs.ReadingInMemory.{FailsToDescribe}
-use Rattle.lms_commands.specs.SignInMemory.{FailsToSign}
+use Rattle.lms_key_commands.specs.PublicInMemory.{FailsToPublishKey}
+use Rattle.lms_key_commands.specs.InfoInMemory.{FailsToDescribe}
+use Rattle.lms_signature_commands.specs.SignInMemory.{FailsToSign}
 use Rattle.lms_commands.specs.declared.fault.Fault.{Fault}
 use Rattle.lms_commands.specs.declared.status.Status.{Status}
-use Rattle.lms_commands.proofs.BatchInMemory.{fails_to_sign_jobs_in_memory, signs_jobs_in_memory}
-use Rattle.lms_commands.proofs.KeygenInMemory.{fails_to_make_key_in_memory, makes_key_in_memory}
-use Rattle.lms_commands.proofs.PublicInMemory.{fails_to_publish_key_in_memory, publishes_key_in_memory}
-use Rattle.lms_commands.proofs.ReadingInMemory.{describes_in_memory, fails_to_describe_in_memory}
-use Rattle.lms_commands.proofs.ReadingInMemory.{fails_to_judge_in_memory, judges_in_memory}
-use Rattle.lms_commands.proofs.SignInMemory.{fails_to_sign_in_memory, signs_in_memory}
+use Rattle.lms_signature_commands.proofs.ServingCalls.{serve_failed_keeps, serve_keeps, stays_unwritten}
+use Rattle.lms_signature_commands.proofs.BatchInMemory.{fails_to_sign_jobs_in_memory, signs_jobs_in_memory}
+use Rattle.lms_key_commands.proofs.KeygenInMemory.{fails_to_make_key_in_memory, makes_key_in_memory}
+use Rattle.lms_key_commands.proofs.PublicInMemory.{fails_to_publish_key_in_memory, publishes_key_in_memory}
+use Rattle.lms_key_commands.proofs.InfoInMemory.{describes_in_memory, fails_to_describe_in_memory}
+use Rattle.lms_signature_commands.proofs.VerifyInMemory.{fails_to_judge_in_memory, judges_in_memory}
+use Rattle.lms_signature_commands.proofs.SignInMemory.{fails_to_sign_in_memory, signs_in_memory}
 use Rattle.lms_commands.proofs.Telling.{nothing_done}
 use Rattle.lms_join_commands.proofs.JoinInMemory.{fails_to_join_in_memory, fails_to_join_keys_in_memory}
 use Rattle.lms_join_commands.proofs.JoinInMemory.{joins_in_memory, joins_keys_in_memory}
@@ -31,7 +32,7 @@ use Rattle.lms_cli.specs.RunsInMemory.{ChangesAsked, ChangesAskedInMemory, Keeps
 use Rattle.lms_cli.specs.RunsInMemory.{WritesSome}
 use Rattle.lms_cli.specs.declared.command.types.Command.{Command}
 use Rattle.lms_cli.specs.declared.command.types.Command.TheVariants.{Batch, Info, Join, JoinPublic, Keygen, Public}
-use Rattle.lms_cli.specs.declared.command.types.Command.TheVariants.{Sign, Verify}
+use Rattle.lms_cli.specs.declared.command.types.Command.TheVariants.{Serve, Sign, Verify}
 
 -- ---- which files and nodes stay
 
@@ -197,6 +198,15 @@ module _ (input rest : Option (List ℕ)) (before printed : List ℕ) (old new :
     all = λ other none. absurd (other tt);
   }
 
+  serve_changes : (state workers : String Global) → Unwritten old new → ChangesOwn (Serve state workers) old new
+  serve_changes state workers unwritten = record {
+    files = λ name other. at_name name _ _ unwritten.0;
+    state = λ other. absurd (other tt);
+    nodes = λ other. unwritten.1;
+    only = λ other. absurd (other tt);
+    all = λ other none. absurd (other tt);
+  }
+
   join_changes : (public endorsement signer signature out : String Global) → Others (string_bytes out) old new
       → OnlyFiles old new → ChangesOwn (Join public endorsement signer signature out) old new
   join_changes public endorsement signer signature out others only = record {
@@ -234,6 +244,9 @@ module _ (input rest : Option (List ℕ)) (before printed : List ℕ) (old new :
   obeyed (Batch state workers) end (done, is) =
       let made = signs_jobs_in_memory _ _ input rest before printed old new earlier now is follows in
       batch_changes state workers (made.1.0.files, made.1.0.nodes)
+  obeyed (Serve state workers) end (done, is) =
+      serve_changes state workers
+      (stays_unwritten old new earlier now (serve_keeps _ _ input rest before printed earlier now is) follows)
   obeyed (Verify public message signature) end (verdict, at, is) =
       let judged = judges_in_memory _ _ _ verdict before printed old new earlier now is follows in
       none_changed _ old new judged.1
@@ -264,6 +277,9 @@ module _ (input rest : Option (List ℕ)) (before printed : List ℕ) (old new :
   failed (Batch state workers) fault is =
       let why = fails_to_sign_jobs_in_memory _ _ input rest before printed fault old new earlier now is follows in
       batch_changes state workers (batch_unwritten fault old new _ input rest before printed why)
+  failed (Serve state workers) fault is =
+      serve_changes state workers (stays_unwritten old new earlier now
+      (serve_failed_keeps _ _ input rest before printed fault earlier now is) follows)
   failed (Verify public message signature) fault is =
       let why = fails_to_judge_in_memory _ _ _ before printed fault old new earlier now is follows in
       none_changed _ old new why.1

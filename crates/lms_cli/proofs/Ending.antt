@@ -1,28 +1,37 @@
 -- How a run ends, by the command and by the fault.
-use Rattle.std.proofs.Common.{append-nil, sym, [], Option, ◌⊎◌, ◌≡◌, ◌∙◌, ◌<◌, ◌≤◌, ℕ, List, Result, Ok, Err, ap, subst}
-use Rattle.std.proofs.Common.{inl, inr, length, ⊎_elim, arith}
-use Rattle.std.specs.Prelude.{OnErr, OnOk}
+use Rattle.std.proofs.Common.{append-nil, sym, [], ◌∷◌, ◌++◌, Option, Some, ◌⊎◌, ◌≡◌, ◌∙◌, ◌<◌, ◌≤◌, ℕ, List, Result}
+use Rattle.std.proofs.Common.{Ok, Err, ap, subst}
+use Rattle.std.proofs.Common.{Bool, true, false, inl, inr, length, ⊎_elim, arith}
+use Rattle.std.specs.Prelude.{OnErr, OnOk, if◌then◌else◌}
 use Rattle.std.specs.Io.KnownBytes.{Appends}
 use Rattle.lms_blocks.specs.Writing.{AppendsFront}
 use Rattle.lms_hss.specs.declared.key.HssKey.{HssKey as KeyOfCode}
 use Rattle.clap.specs.Words.{Text}
-use Rattle.lms_commands.specs.BatchLogs.{AreUnread, LogsUnanswered}
+use Rattle.lms_signature_commands.specs.BatchLogs.{AreUnread, LogsUnanswered}
 use Rattle.lms_commands.specs.Faults.{of_seed, status_number, status_of}
-use Rattle.lms_commands.specs.Keygen.{AreNoLevels, IsNoKey}
-use Rattle.lms_commands.specs.KeygenLogs.{LogsUnmade}
-use Rattle.lms_commands.specs.Logs.{IsLockRefused, IsReadRefused, IsWriteRefused, KeyState, LogsUnopened, LogsUnsigned}
-use Rattle.lms_commands.specs.Logs.{WorldCalls}
-use Rattle.lms_commands.specs.PublicLogs.{FailsToPublishOf, LogsUnread}
-use Rattle.lms_commands.specs.SignLogs.{LogsSign, LogsSignFailed, LogsUndelivered}
-use Rattle.lms_commands.specs.Verdicts.{verdict_status}
+use Rattle.lms_key_commands.specs.Keygen.{AreNoLevels, IsNoKey}
+use Rattle.lms_key_commands.specs.KeygenLogs.{LogsUnmade}
+use Rattle.lms_commands.specs.Logs.{BurnsUnsigned, IsLockRefused, IsReadRefused, IsWriteRefused, KeyState}
+use Rattle.lms_commands.specs.Logs.{LeavesUnsigned, LogsUnopened, LogsUnsigned, WorldCalls}
+use Rattle.lms_key_commands.specs.PublicLogs.{FailsToPublishOf, LogsUnread}
+use Rattle.lms_signature_commands.specs.Serving.{AnyState, Due, FailsGroup, FailsToServe, Group, LeavesGroup}
+use Rattle.lms_signature_commands.specs.Serving.{LogsGroups}
+use Rattle.lms_signature_commands.specs.Serving.{NoState, Only, is_bad_state, unopened_fault}
+use Rattle.lms_signature_commands.specs.Serving.{ServesNone, TriesLines, TriesPiece, UsesGroup, tried, unread_fault}
+use Rattle.lms_signature_commands.specs.Serving.{whole_text}
+use Rattle.lms_lines.specs.TextLines.{lines_of}
+use Rattle.lms_lines.specs.declared.fault.JobsFault.{JobsFault}
+use Rattle.lms_lines.specs.declared.fault.JobsFault.TheVariants as jobs
+use Rattle.lms_signature_commands.specs.SignLogs.{LogsSign, LogsSignFailed, LogsUndelivered}
+use Rattle.lms_signature_commands.specs.Verdicts.{verdict_status}
 use Rattle.lms_join_commands.specs.JoinLogs.{AreUnjoined, FailsToReadParts, FailsToReadTwo, JoinNames, JoinParts}
 use Rattle.lms_join_commands.specs.JoinLogs.{LogsJoin, LogsJoinFailed, LogsJoinKeysFailed}
 use Rattle.lms_cli.specs.RunLogs.{LogsFailed, LogsObeyed, LogsRefused, LogsRun}
-use Rattle.lms_cli.specs.Runs.{AsksForBatch, AsksToRead, IsBatch, Runs, Setting}
+use Rattle.lms_cli.specs.Runs.{AsksToSignLines, AsksToRead, AsksToServe, SignsJobLines, IsServe, Runs, Setting}
 use Rattle.lms_world.specs.Held.{Follows}
 use Rattle.lms_cli.specs.declared.command.types.Command.{Command}
 use Rattle.lms_cli.specs.declared.command.types.Command.TheVariants.{Batch, Info, Join, JoinPublic, Keygen, Public}
-use Rattle.lms_cli.specs.declared.command.types.Command.TheVariants.{Sign, Verify}
+use Rattle.lms_cli.specs.declared.command.types.Command.TheVariants.{Serve, Sign, Verify}
 use Rattle.lms_texts.specs.declared.fault.SeedFault.{SeedFault}
 use Rattle.lms_texts.specs.declared.fault.SeedFault.TheVariants as no_seed
 use Rattle.lms_commands.specs.declared.fault.Fault.{Fault}
@@ -33,8 +42,8 @@ use Rattle.lms_commands.specs.declared.fault.Fault.TheVariants.{BadState, WriteS
 use Rattle.lms_commands.specs.declared.fault.Fault.TheVariants.{OutOfMemory, OutOfMemoryBurnt, ReadInput, WriteOutput}
 use Rattle.lms_commands.specs.declared.status.Status.{Status}
 use Rattle.lms_commands.specs.declared.status.Status.TheVariants.{Done, Negative}
-use Rattle.lms_commands.specs.declared.verdict.Verdict.{Verdict}
-use Rattle.lms_commands.specs.declared.verdict.Verdict.TheVariants.{Valid, Invalid}
+use Rattle.lms_signature_commands.specs.declared.verdict.Verdict.{Verdict}
+use Rattle.lms_signature_commands.specs.declared.verdict.Verdict.TheVariants.{Valid, Invalid}
 
 -- the fault has a status of 2 at least
 abbrev IsHigh : Fault → Type 0
@@ -44,9 +53,27 @@ seed_high : (why : SeedFault) → IsHigh (of_seed why)
 seed_high no_seed.Bad = omega arith
 seed_high no_seed.Read = omega arith
 
+unopened_high : (due : Due) (cause : Fault) → IsHigh cause → IsHigh (unopened_fault due cause)
+unopened_high AnyState cause high = high
+unopened_high (Only state) cause high = by_test (is_bad_state cause)
+  where
+    by_test : (bad : Bool) → IsHigh (if bad then ReadState else cause)
+    by_test true = omega arith
+    by_test false = high
+unopened_high NoState cause high = high
+
+same_high : (fault other : Fault) → IsHigh other → fault ≡ other → IsHigh fault
+same_high fault other high is = subst IsHigh (sym is) high
+
+at_unopened : (fault : Fault) (old new : WorldCalls) → LogsUnopened fault old new → IsHigh fault
+at_unopened fault old new (inl (is, _)) = same_high fault OutOfMemory (omega arith) is
+at_unopened fault old new (inr (_, inl (is, _))) = same_high fault OutOfMemory (omega arith) is
+at_unopened fault old new (inr (_, inr (inl (is, _, _)))) = same_high fault ReadState (omega arith) is
+at_unopened fault old new (inr (_, inr (inr (bad, _, is, _, _, _)))) = same_high fault (BadState bad) (omega arith) is
+
 module _ (fault : Fault) where
   at : (other : Fault) → IsHigh other → fault ≡ other → IsHigh fault
-  at other high is = subst IsHigh (sym is) high
+  at = same_high fault
 
   at_lock : IsLockRefused fault → IsHigh fault
   at_lock (inl is) = at StateInUse (omega arith) is
@@ -77,17 +104,17 @@ module _ (fault : Fault) where
   at_unread input (inr (inl (line, is, _))) = at (BadJob line) (omega arith) is
   at_unread input (inr (inr (is, _))) = at TooManyJobs (omega arith) is
 
-  at_unopened : (old new : WorldCalls) → LogsUnopened fault old new → IsHigh fault
-  at_unopened old new (inl (is, _)) = at OutOfMemory (omega arith) is
-  at_unopened old new (inr (_, inl (is, _))) = at OutOfMemory (omega arith) is
-  at_unopened old new (inr (_, inr (inl (is, _, _)))) = at ReadState (omega arith) is
-  at_unopened old new (inr (_, inr (inr (bad, _, is, _, _, _)))) = at (BadState bad) (omega arith) is
+  at_spared : (n : ℕ) (state : KeyState) (old new : WorldCalls) → LeavesUnsigned n fault state old new → IsHigh fault
+  at_spared n state old new (inl (is, _, _)) = at (Exhausted _) (omega arith) is
+  at_spared n state old new (inr (is, _)) = at OutOfMemory (omega arith) is
+
+  at_burnt : (n : ℕ) (state : KeyState) (old new : WorldCalls) → BurnsUnsigned n fault state old new → IsHigh fault
+  at_burnt n state old new (inl (is, _)) = at (WriteStateBurnt _ _) (omega arith) is
+  at_burnt n state old new (inr (is, _)) = at (OutOfMemoryBurnt _) (omega arith) is
 
   at_unsigned : (n : ℕ) (state : KeyState) (old new : WorldCalls) → LogsUnsigned n fault state old new → IsHigh fault
-  at_unsigned n state old new (inl (is, _, _)) = at (Exhausted _) (omega arith) is
-  at_unsigned n state old new (inr (inl (is, _))) = at OutOfMemory (omega arith) is
-  at_unsigned n state old new (inr (inr (inl (is, _)))) = at (WriteStateBurnt _ _) (omega arith) is
-  at_unsigned n state old new (inr (inr (inr (is, _)))) = at (OutOfMemoryBurnt _) (omega arith) is
+  at_unsigned n state old new (inl is) = at_spared n state old new is
+  at_unsigned n state old new (inr is) = at_burnt n state old new is
 
   at_two : (first second : List ℕ) (old new : WorldCalls) → FailsToReadTwo first second fault old new → IsHigh fault
   at_two first second old new (refused, _) = at_read refused
@@ -113,88 +140,193 @@ module _ (fault : Fault) where
   at_keys public signer out old new (inr (top, lower, last, _, inl (is, _, _))) = at BadPublicKey (omega arith) is
   at_keys public signer out old new (inr (top, lower, last, _, inr (_, refused, _))) = at_write refused
 
-  -- nothing is printed, at a status of 2 at least; or the output fails; or a batch is partly done
-  abbrev Fails : Type 0 → List ℕ → List ℕ → Type 0
-  Fails IsBatch before printed =
-      ((printed ≡ before) × IsHigh fault) ⊎ ((fault ≡ WriteOutput) ⊎ (IsBatch × (status_of fault ≡ Negative)))
+  -- nothing is printed, or lines are served, at a status of 2 at least; or the output fails; or a
+  -- batch is partly done
+  abbrev Fails : Type 0 → Type 0 → List ℕ → List ℕ → Type 0
+  Fails IsServed SignsJobLines before printed =
+      (((printed ≡ before) ⊎ IsServed) × IsHigh fault)
+      ⊎ ((fault ≡ WriteOutput) ⊎ (SignsJobLines × (status_of fault ≡ Negative)))
+
+  -- not said of a command that serves
+  abbrev FailsOnce : Type 0 → List ℕ → List ℕ → Type 0
+  FailsOnce SignsJobLines before printed = Fails ⊥ SignsJobLines before printed
+
+  -- what `serve` may fail by
+  abbrev IsUnserved : Type 0
+  IsUnserved = IsHigh fault ⊎ ((fault ≡ WriteOutput) ⊎ (status_of fault ≡ Negative))
 
   module _ (before printed : List ℕ) where
     unmade : (key : KeyOfCode) (public : List ℕ) (old new : WorldCalls)
-        → LogsUnmade key public before printed fault old new → Fails ⊥ before printed
-    unmade key public old new (inl (same, inl (is, _))) = inl (same, at StateExists (omega arith) is)
-    unmade key public old new (inl (same, inr (inl (inl (is, _))))) = inl (same, at OutOfMemory (omega arith) is)
+        → LogsUnmade key public before printed fault old new → FailsOnce ⊥ before printed
+    unmade key public old new (inl (same, inl (is, _))) = inl (inl same, at StateExists (omega arith) is)
+    unmade key public old new (inl (same, inr (inl (inl (is, _))))) = inl (inl same, at OutOfMemory (omega arith) is)
     unmade key public old new (inl (same, inr (inl (inr (_, _, inl (is, _), _))))) =
-        inl (same, at OutOfMemory (omega arith) is)
+        inl (inl same, at OutOfMemory (omega arith) is)
     unmade key public old new (inl (same, inr (inl (inr (_, _, inr (is, _), _))))) =
-        inl (same, at WriteState (omega arith) is)
-    unmade key public old new (inl (same, inr (inr (refused, _)))) = inl (same, at_write refused)
+        inl (inl same, at WriteState (omega arith) is)
+    unmade key public old new (inl (same, inr (inr (refused, _)))) = inl (inl same, at_write refused)
     unmade key public old new (inr (is, _, _)) = inr (inl is)
 
     unanswered : (input rest : Option (List ℕ)) (old new : WorldCalls)
-        → LogsUnanswered input rest before printed fault old new → Fails (Unit {0}) before printed
-    unanswered input rest old new (inl (inl (is, _), same)) = inl (same, at_unopened old new is)
-    unanswered input rest old new (inl (inr (state, inl (unread, _)), same)) = inl (same, at_unread input unread)
+        → LogsUnanswered input rest before printed fault old new → FailsOnce (Unit {0}) before printed
+    unanswered input rest old new (inl (inl (is, _), same)) = inl (inl same, at_unopened fault old new is)
+    unanswered input rest old new (inl (inr (state, inl (unread, _)), same)) = inl (inl same, at_unread input unread)
     unanswered input rest old new (inl (inr (state, inr (jobs, _, _, is)), same)) =
-        inl (same, at_unsigned (length jobs) state old new is)
+        inl (inl same, at_unsigned (length jobs) state old new is)
     unanswered input rest old new (inr (inl (_, _, is, _, _))) = inr (inr (tt, ap status_of is))
     unanswered input rest old new (inr (inr (is, _))) = inr (inl is)
 
     undelivered : (random message out : List ℕ) (old new : WorldCalls)
-        → LogsUndelivered random message out before printed fault old new → Fails ⊥ before printed
-    undelivered random message out old new (inl (_, inl is, same)) = inl (same, at_unopened _ new is)
-    undelivered random message out old new (inl (_, inr (state, is), same)) = inl (same, at_unsigned 1 state _ new is)
+        → LogsUndelivered random message out before printed fault old new → FailsOnce ⊥ before printed
+    undelivered random message out old new (inl (_, inl is, same)) = inl (inl same, at_unopened fault _ new is)
+    undelivered random message out old new (inl (_, inr (state, is), same)) =
+        inl (inl same, at_unsigned 1 state _ new is)
     undelivered random message out old new (inr (is, _)) = inr (inl is)
 
     at_unread_state : (state : List ℕ) (old new : WorldCalls) → LogsUnread state fault old new → IsHigh fault
     at_unread_state state old new (inl (refused, _)) = at_lock refused
-    at_unread_state state old new (inr (last, is, _)) = at_unopened _ last is
+    at_unread_state state old new (inr (last, is, _)) = at_unopened fault _ last is
 
     unpublished : (key : KeyOfCode) (public : List ℕ) (old new : WorldCalls)
-        → FailsToPublishOf key public before printed fault old new → Fails ⊥ before printed
-    unpublished key public old new (inl (refused, _, same)) = inl (same, at_write refused)
+        → FailsToPublishOf key public before printed fault old new → FailsOnce ⊥ before printed
+    unpublished key public old new (inl (refused, _, same)) = inl (inl same, at_write refused)
     unpublished key public old new (inr (is, _, _)) = inr (inl is)
 
+  -- what one group fails by
+  left_fails : (text : List ℕ) (state : KeyState) (old new : WorldCalls) → LeavesGroup text fault state old new
+      → IsHigh fault
+  left_fails text state old new (inl (unread, _)) = at_unread (Some text) unread
+  left_fails text state old new (inr (_, jobs, _, _, is)) = at_spared (length jobs) state old new is
+
+  used_fails : (text : List ℕ) (state : KeyState) (before printed : List ℕ) (old new : WorldCalls)
+      → UsesGroup text fault state before printed old new → IsUnserved
+  used_fails text state before printed old new (inl (_, jobs, _, _, is, _)) =
+      inl (at_burnt (length jobs) state old new is)
+  used_fails text state before printed old new (inr (_, _, _, _, inl (is, _, _))) = inr (inr (ap status_of is))
+  used_fails text state before printed old new (inr (_, _, _, _, inr (is, _))) = inr (inl is)
+
+  group_fails : (text : List ℕ) (due next : Due) (before printed : List ℕ) (old new : WorldCalls)
+      → FailsGroup text fault due next before printed old new → IsUnserved
+  group_fails text due next before printed old new (inl (_, inl (inl (cause, never, is), _))) =
+      inl (at (unopened_fault due cause) (unopened_high due cause (at_unopened cause old new never)) is)
+  group_fails text due next before printed old new (inl (_, inl (inr (is, _), _))) = inl (at ReadState (omega arith) is)
+  group_fails text due next before printed old new (inl (_, inr (state, _, is, _))) =
+      inl (left_fails text state old new is)
+  group_fails text due next before printed old new (inr ((state, _, is), _)) =
+      used_fails text state before printed old new is
+
+  newest_fails : (text : List ℕ) (earlier : List Group) (due next : Due) (before printed : List ℕ)
+      (old new : WorldCalls) → LogsGroups (tried text fault ∷ earlier) due next before printed old new → IsUnserved
+  newest_fails text earlier due next before printed old new (between, mid, later_due, more, is) =
+      group_fails text later_due next between printed mid new is
+
+  lines_fail : (text : List ℕ) (groups earlier : List Group) (due next : Due) (before printed : List ℕ)
+      (old new : WorldCalls) → TriesLines text fault groups
+      → LogsGroups (groups ++ earlier) due next before printed old new → IsUnserved
+  lines_fail text groups earlier due next before printed old new (inl (same, other)) logs =
+      newest_fails text earlier due next before printed old new
+      (subst (λ (gs : List Group). LogsGroups (gs ++ earlier) due next before printed old new) same logs)
+  lines_fail text groups earlier due next before printed old new
+      (inr (left, front, some, is_front, inl (is, same))) logs = inl (at (Exhausted 0) (omega arith) is)
+  lines_fail text groups earlier due next before printed old new (inr (left, front, some, is_front, inr same)) logs =
+      newest_fails front (tried text (Exhausted left) ∷ earlier) due next before printed old new
+      (subst (λ (gs : List Group). LogsGroups (gs ++ earlier) due next before printed old new) same logs)
+
+  piece_fails : (count : ℕ) (text : List ℕ) (groups : List Group) (due next : Due) (before printed : List ℕ)
+      (old new : WorldCalls) → TriesPiece count text fault groups
+      → LogsGroups groups due next before printed old new → IsUnserved
+  piece_fails count text groups due next before printed old new (inl (tries, other)) logs =
+      lines_fail text groups [] due next before printed old new tries
+      (subst (λ (gs : List Group). LogsGroups gs due next before printed old new) (sym (append-nil groups)) logs)
+  piece_fails count text groups due next before printed old new (inr (line, first, tries, inl (few, is, same))) logs =
+      inl (at (BadJob _) (omega arith) is)
+  piece_fails count text groups due next before printed old new
+      (inr (line, first, tries, inr (some, front, is_front, inl (is, same)))) logs =
+      inl (at (BadJob _) (omega arith) is)
+  piece_fails count text groups due next before printed old new
+      (inr (line, first, tries, inr (some, front, is_front, inr (more, again, same)))) logs =
+      lines_fail front more first due next before printed old new again
+      (subst (λ (gs : List Group). LogsGroups gs due next before printed old new) same logs)
+
+  cut_fails : (count : ℕ) (cause : JobsFault) → fault ≡ unread_fault count cause → IsUnserved
+  cut_fails count jobs.Read is = inl (at ReadInput (omega arith) is)
+  cut_fails count (jobs.BadJob line) is = inl (at (BadJob _) (omega arith) is)
+  cut_fails count jobs.TooManyJobs is = inl (at TooManyJobs (omega arith) is)
+  cut_fails count jobs.OutOfMemory is = inl (at OutOfMemory (omega arith) is)
+
+  unserved : (input rest : Option (List ℕ)) (before printed : List ℕ) (old new : WorldCalls)
+      → FailsToServe input rest fault before printed old new → IsUnserved
+  unserved input rest before printed old new (inl (next, is, same)) =
+      group_fails [] AnyState next before printed old new is
+  unserved input rest before printed old new (inr (inl (is, _, _, _))) = inl (at OutOfMemory (omega arith) is)
+  unserved input rest before printed old new (inr (inr (inl some))) = by_fails some.fails
+    where
+      by_fails : ServesNone (length (lines_of (whole_text some.texts))) some.until rest some.held fault some.due
+          some.between printed some.mid new → IsUnserved
+      by_fails (inl (cause, cuts, is, same, none)) = cut_fails _ cause is
+      by_fails (inr next) =
+          piece_fails _ next.text next.groups some.due next.next some.between printed some.mid new next.tries next.logs
+  unserved input rest before printed old new (inr (inr (inr (is, pieces)))) = inl (at TooManyJobs (omega arith) is)
+
+  module _ (before printed : List ℕ) where
+    served : IsUnserved → Fails (Unit {0}) (Unit {0}) before printed
+    served (inl high) = inl (inr tt, high)
+    served (inr (inl is)) = inr (inl is)
+    served (inr (inr negative)) = inr (inr (tt, negative))
+
     failed : (command : Command) (input rest : Option (List ℕ)) (old new : WorldCalls)
-        → LogsFailed command fault input rest before printed old new → Fails (IsBatch command) before printed
-    failed (Keygen _ _ _ _ _) input rest old new (inl (is, _, same)) = inl (same, at_no_key _ _ _ input rest is)
-    failed (Keygen _ _ _ _ _) input rest old new (inr (_, _, inl (refused, _, same))) = inl (same, at_lock refused)
-    failed (Keygen _ _ _ _ _) input rest old new (inr (key, _, inr (last, is, _))) = unmade key _ _ last is
-    failed (Info _) input rest old new (inl (refused, _, same)) = inl (same, at_lock refused)
-    failed (Info _) input rest old new (inr (last, inl (is, same), _)) = inl (same, at_unopened _ last is)
+        → LogsFailed command fault input rest before printed old new
+        → Fails (IsServe command) (SignsJobLines command) before printed
+    failed (Keygen _ _ _ _ _) input rest old new (inl (is, _, same)) = inl (inl same, at_no_key _ _ _ input rest is)
+    failed (Keygen _ _ _ _ _) input rest old new (inr (_, _, inl (refused, _, same))) = inl (inl same, at_lock refused)
+    failed (Keygen _ _ _ _ _) input rest old new (inr (key, _, inr (last, is, _))) =
+        unmade before printed key _ _ last is
+    failed (Info _) input rest old new (inl (refused, _, same)) = inl (inl same, at_lock refused)
+    failed (Info _) input rest old new (inr (last, inl (is, same), _)) = inl (inl same, at_unopened fault _ last is)
     failed (Info _) input rest old new (inr (_, inr (is, _), _)) = inr (inl is)
-    failed (Public _ _) input rest old new (inl (is, same)) = inl (same, at_unread_state _ old new is)
+    failed (Public _ _) input rest old new (inl (is, same)) =
+        inl (inl same, at_unread_state before printed _ old new is)
     failed (Public _ _) input rest old new (inr (read, last, _, inl (is, _, same))) =
-        inl (same, at OutOfMemory (omega arith) is)
-    failed (Public _ _) input rest old new (inr (read, last, _, inr is)) = unpublished read.key _ last new is
-    failed (Sign _ _ _ _) input rest old new (inl (is, _, same, _)) = inl (same, at BadRandom (omega arith) is)
-    failed (Sign _ _ _ _) input rest old new (inr (inl (refused, _, same, _))) = inl (same, at_read refused)
-    failed (Sign _ _ _ _) input rest old new (inr (inr (inl (_, refused, _, same, _)))) = inl (same, at_lock refused)
+        inl (inl same, at OutOfMemory (omega arith) is)
+    failed (Public _ _) input rest old new (inr (read, last, _, inr is)) =
+        unpublished before printed read.key _ last new is
+    failed (Sign _ _ _ _) input rest old new (inl (is, _, same, _)) = inl (inl same, at BadRandom (omega arith) is)
+    failed (Sign _ _ _ _) input rest old new (inr (inl (refused, _, same, _))) = inl (inl same, at_read refused)
+    failed (Sign _ _ _ _) input rest old new (inr (inr (inl (_, refused, _, same, _)))) =
+        inl (inl same, at_lock refused)
     failed (Sign _ _ _ _) input rest old new (inr (inr (inr (c, text, last, _, is, _)))) =
-        undelivered c text _ _ last is
-    failed (Batch _ _) input rest old new (inl (is, _, same, _, _)) = inl (same, at BadWorkers (omega arith) is)
-    failed (Batch _ _) input rest old new (inr (inl (refused, _, same, _, _))) = inl (same, at_lock refused)
-    failed (Batch _ _) input rest old new (inr (inr (last, is, _, _))) = unanswered input rest _ last is
-    failed (Verify _ _ _) input rest old new (inl (refused, same, _)) = inl (same, at_read refused)
+        undelivered before printed c text _ _ last is
+    failed (Batch _ _) input rest old new (inl (is, _, same, _, _)) = inl (inl same, at BadWorkers (omega arith) is)
+    failed (Batch _ _) input rest old new (inr (inl (refused, _, same, _, _))) = inl (inl same, at_lock refused)
+    failed (Batch _ _) input rest old new (inr (inr (last, is, _, _))) = unanswered before printed input rest _ last is
+    failed (Serve _ _) input rest old new (inl (is, _, same, _, _)) = inl (inl same, at BadWorkers (omega arith) is)
+    failed (Serve _ _) input rest old new (inr (inl (refused, _, same, _, _))) = inl (inl same, at_lock refused)
+    failed (Serve _ _) input rest old new (inr (inr (last, is, _, _))) =
+        served (unserved input rest before printed _ last is)
+    failed (Verify _ _ _) input rest old new (inl (refused, same, _)) = inl (inl same, at_read refused)
     failed (Verify _ _ _) input rest old new (inr (is, _)) = inr (inl is)
-    failed (Join _ _ _ _ _) input rest old new (same, is) = inl (same, at_not_joined _ old new is)
-    failed (JoinPublic _ _ _) input rest old new (same, is) = inl (same, at_keys _ _ _ old new is)
+    failed (Join _ _ _ _ _) input rest old new (same, is) = inl (inl same, at_not_joined _ old new is)
+    failed (JoinPublic _ _ _) input rest old new (same, is) = inl (inl same, at_keys _ _ _ old new is)
 
     refused : (words : List Text) (input rest : Option (List ℕ)) (old new : WorldCalls)
-        → LogsRefused words fault input rest before printed old new → Fails (AsksForBatch words) before printed
-    refused words input rest old new (inl (_, inl (is, same))) = inl (same, at OutOfMemory (omega arith) is)
+        → LogsRefused words fault input rest before printed old new
+        → Fails (AsksToServe words) (AsksToSignLines words) before printed
+    refused words input rest old new (inl (_, inl (is, same))) = inl (inl same, at OutOfMemory (omega arith) is)
     refused words input rest old new (inl (_, inr (_, is))) = inr (inl is)
     refused words input rest old new (inr (command, taken, is)) =
-        ⊎_elim inl (λ more. inr (⊎_elim inl (λ part. inr ((command, taken, part.0), part.1)) more))
+        ⊎_elim (λ high. inl (⊎_elim inl (λ serves. inr (command, taken, serves)) high.0, high.1))
+        (λ more. inr (⊎_elim inl (λ part. inr ((command, taken, part.0), part.1)) more))
         (failed command input rest old new is)
 
 -- a fault with a line on the errors and a status below 2 is that of `batch`
 pub speaks : (words : List Text) (fault : Fault) (input rest : Option (List ℕ)) (before printed : List ℕ)
     (old new : WorldCalls) → status_number (status_of fault) < 2
-    → LogsRefused words fault input rest before printed old new → (status_of fault ≡ Negative) × AsksForBatch words
+    → LogsRefused words fault input rest before printed old new → (status_of fault ≡ Negative) × AsksToSignLines words
 speaks words fault input rest before printed old new low is =
     by_fails (refused fault before printed words input rest old new is)
   where
-    by_fails : Fails fault (AsksForBatch words) before printed → (status_of fault ≡ Negative) × AsksForBatch words
+    by_fails : Fails fault (AsksToServe words) (AsksToSignLines words) before printed
+        → (status_of fault ≡ Negative) × AsksToSignLines words
     by_fails (inl (same, high)) = absurd (omega (arith, low, high))
     by_fails (inr (inl is)) = let high = at fault WriteOutput (omega arith) is in absurd (omega (arith, low, high))
     by_fails (inr (inr (asks, negative))) = (negative, asks)
@@ -216,25 +348,27 @@ obeyed_low (Info _) end input rest before printed old new high is = too_low end 
 obeyed_low (Public _ _) end input rest before printed old new high is = too_low end _ is.0 (omega arith) high
 obeyed_low (Sign _ _ _ _) end input rest before printed old new high is = too_low end _ is.0 (omega arith) high
 obeyed_low (Batch _ _) end input rest before printed old new high is = too_low end _ is.0 (omega arith) high
+obeyed_low (Serve _ _) end input rest before printed old new high is = too_low end _ is.0 (omega arith) high
 obeyed_low (Verify _ _ _) end input rest before printed old new high is = too_low end _ is.1 (answers is.0) high
 obeyed_low (Join _ _ _ _ _) end input rest before printed old new high is = too_low end _ is.0 (omega arith) high
 obeyed_low (JoinPublic _ _ _) end input rest before printed old new high is = too_low end _ is.0 (omega arith) high
 
--- at a status from 2 to 5 nothing is printed
+-- at a status from 2 to 5 nothing is printed, but by `serve`
 silent_at : (words : List Text) (end : Status) (input rest : Option (List ℕ)) (before printed : List ℕ)
     (errors_before errors_after : Option (List ℕ)) (old new : WorldCalls)
     → LogsRun words end input rest before printed errors_before errors_after old new
-    → 2 ≤ status_number end → status_number end < 6 → printed ≡ before
+    → 2 ≤ status_number end → status_number end < 6 → (printed ≡ before) ⊎ AsksToServe words
 silent_at words end input rest before printed eb ea old new (inl (inl (_, inl (_, is, _)))) high below =
     absurd (too_low end Done is (omega arith) high)
-silent_at words end input rest before printed eb ea old new (inl (inl (_, inr (_, _, same)))) high below = same
+silent_at words end input rest before printed eb ea old new (inl (inl (_, inr (_, _, same)))) high below = inl same
 silent_at words end input rest before printed eb ea old new (inl (inr (command, _, is))) high below =
     absurd (obeyed_low command end input rest before printed old new high is)
 silent_at words end input rest before printed eb ea old new (inr (fault, end_is, _, is)) high below =
     by_fails (refused fault before printed words input rest old new is)
   where
-    by_fails : Fails fault (AsksForBatch words) before printed → printed ≡ before
-    by_fails (inl (same, _)) = same
+    by_fails : Fails fault (AsksToServe words) (AsksToSignLines words) before printed
+        → (printed ≡ before) ⊎ AsksToServe words
+    by_fails (inl (quiet, _)) = quiet
     by_fails (inr (inl is)) =
         let six : status_number end ≡ 6 = ap status_number (end_is ∙ ap status_of is) in
         absurd (omega (arith, below, six))
@@ -245,7 +379,7 @@ pub runs : {I E : Type 0} (old new : Setting I E) (words : List Text) (end : Sta
     → LogsRun words end old.remaining new.remaining old.output new.output old.error_text new.error_text
     old.calls new.calls
     → Follows old.memory old.calls new.memory new.calls
-    → (status_number end < 2 → (new.errors ≡ old.errors) ⊎ ((end ≡ Negative) × AsksForBatch words))
+    → (status_number end < 2 → (new.errors ≡ old.errors) ⊎ ((end ≡ Negative) × AsksToSignLines words))
     → (new.input ≡ old.input) ⊎ AsksToRead words → Runs old new words end
 runs old new words end logged follows quiet unread = record {
   logged = logged;

@@ -5,26 +5,28 @@ use Rattle.lms_hss.specs.declared.key.HssKey.{HssKey as KeyOfCode}
 use Rattle.lms_world.specs.Names.{Bytes}
 use Rattle.lms_world.specs.Held.{Follows, Held}
 use Rattle.lms_commands.specs.Faults.{status_number, status_of}
-use Rattle.lms_commands.specs.KeygenInMemory.{FailsToMakeKey}
+use Rattle.lms_key_commands.specs.KeygenInMemory.{FailsToMakeKey}
 use Rattle.lms_commands.specs.Logs.{WorldCalls}
-use Rattle.lms_commands.specs.PublicInMemory.{FailsToPublishKey}
+use Rattle.lms_key_commands.specs.PublicInMemory.{FailsToPublishKey}
 use Rattle.lms_commands.specs.declared.fault.Fault.{Fault}
 use Rattle.lms_commands.specs.declared.fault.Fault.TheVariants.{WriteOutput}
 use Rattle.lms_commands.specs.declared.status.Status.{Status}
-use Rattle.lms_commands.proofs.BatchInMemory.{fails_to_sign_jobs_in_memory}
-use Rattle.lms_commands.proofs.KeygenInMemory.{fails_to_make_key_in_memory}
-use Rattle.lms_commands.proofs.PublicInMemory.{fails_to_publish_key_in_memory}
-use Rattle.lms_commands.proofs.ReadingInMemory.{fails_to_describe_in_memory, fails_to_judge_in_memory}
-use Rattle.lms_commands.proofs.SignInMemory.{fails_to_sign_in_memory}
+use Rattle.lms_signature_commands.proofs.BatchInMemory.{fails_to_sign_jobs_in_memory}
+use Rattle.lms_key_commands.proofs.KeygenInMemory.{fails_to_make_key_in_memory}
+use Rattle.lms_key_commands.proofs.PublicInMemory.{fails_to_publish_key_in_memory}
+use Rattle.lms_key_commands.proofs.InfoInMemory.{fails_to_describe_in_memory}
+use Rattle.lms_signature_commands.proofs.VerifyInMemory.{fails_to_judge_in_memory}
+use Rattle.lms_signature_commands.proofs.SignInMemory.{fails_to_sign_in_memory}
 use Rattle.lms_commands.proofs.Telling.{nothing_done}
 use Rattle.lms_join_commands.proofs.JoinInMemory.{fails_to_join_in_memory, fails_to_join_keys_in_memory}
+use Rattle.lms_signature_commands.proofs.ServingCalls.{serve_failed_keeps, stays_unwritten}
 use Rattle.lms_cli.proofs.ChangesInMemory.{batch_unwritten, files_of, info_stays}
 use Rattle.lms_cli.proofs.Ending.{obeyed_low}
 use Rattle.lms_cli.specs.RunLogs.{LogsFailed}
 use Rattle.lms_cli.specs.RunsInMemory.{FilesStay}
 use Rattle.lms_cli.specs.declared.command.types.Command.{Command}
 use Rattle.lms_cli.specs.declared.command.types.Command.TheVariants.{Batch, Info, Join, JoinPublic, Keygen, Public}
-use Rattle.lms_cli.specs.declared.command.types.Command.TheVariants.{Sign, Verify}
+use Rattle.lms_cli.specs.declared.command.types.Command.TheVariants.{Serve, Sign, Verify}
 
 not_output : (fault : Fault) → status_number (status_of fault) < 6 → fault ≢ WriteOutput
 not_output fault low is =
@@ -66,6 +68,9 @@ module _ (fault : Fault) (other : fault ≢ WriteOutput) (old new : Held) where
   failed (Batch state workers) input rest before printed earlier now follows is =
       let why = fails_to_sign_jobs_in_memory _ _ input rest before printed fault old new earlier now is follows in
       (batch_unwritten fault old new _ input rest before printed why).0
+  failed (Serve state workers) input rest before printed earlier now follows is =
+      (stays_unwritten old new earlier now
+      (serve_failed_keeps _ _ input rest before printed fault earlier now is) follows).0
   failed (Verify public message signature) input rest before printed earlier now follows is =
       files_of (fails_to_judge_in_memory _ _ _ before printed fault old new earlier now is follows).1
   failed (Join public endorsement signer signature out) input rest before printed earlier now follows (quiet, is) =

@@ -48,6 +48,10 @@ sign = record {
 abbrev pub batch : Subcommand
 batch = record { name = codes "batch"; options = codes "state" ∷ codes "workers" ∷ [] }
 
+-- `serve --state FILE --workers N`
+abbrev pub serve : Subcommand
+serve = record { name = codes "serve"; options = codes "state" ∷ codes "workers" ∷ [] }
+
 -- `verify --public FILE --message FILE --signature FILE`
 abbrev pub verify : Subcommand
 verify = record {
@@ -73,7 +77,7 @@ join_public = record {
 }
 
 abbrev pub subcommands : List Subcommand
-subcommands = keygen ∷ info ∷ public_key ∷ sign ∷ batch ∷ verify ∷ join ∷ join_public ∷ []
+subcommands = keygen ∷ info ∷ public_key ∷ sign ∷ batch ∷ serve ∷ verify ∷ join ∷ join_public ∷ []
 
 -- the subcommand of this name, of some
 abbrev pub subcommand_called_in : List Subcommand → Text → Option Subcommand

@@ -6,10 +6,10 @@ use Rattle.clap.specs.declared.error.kind.ErrorKind.{ErrorKind}
 use Rattle.clap.specs.declared.error.kind.ErrorKind.TheVariants as kind
 use Rattle.clap.specs.declared.parser.matches.Found.{Found}
 use Rattle.lms_cli.specs.Application.{Subcommand, batch, info, join, join_public, keygen, lms_app, public_key, sign}
-use Rattle.lms_cli.specs.Application.{verify}
+use Rattle.lms_cli.specs.Application.{serve, verify}
 use Rattle.lms_cli.specs.declared.command.types.Command.{Command}
 use Rattle.lms_cli.specs.declared.command.types.Command.TheVariants.{Batch, Info, Join, JoinPublic, Keygen, Public}
-use Rattle.lms_cli.specs.declared.command.types.Command.TheVariants.{Sign, Verify}
+use Rattle.lms_cli.specs.declared.command.types.Command.TheVariants.{Serve, Sign, Verify}
 use Rattle.lms_cli.specs.declared.fault.CommandFault.{CommandFault}
 use Rattle.lms_cli.specs.declared.fault.CommandFault.TheVariants.{Help, Usage, OutOfMemory}
 
@@ -30,6 +30,7 @@ subcommand_for (Info state) = info
 subcommand_for (Public state public) = public_key
 subcommand_for (Sign state random message out) = sign
 subcommand_for (Batch state workers) = batch
+subcommand_for (Serve state workers) = serve
 subcommand_for (Verify public message signature) = verify
 subcommand_for (Join public endorsement signer signature out) = join
 subcommand_for (JoinPublic public signer out) = join_public
@@ -44,6 +45,7 @@ option_texts (Public state public) = string_bytes state ∷ string_bytes public 
 option_texts (Sign state random message out) =
     string_bytes state ∷ string_bytes random ∷ string_bytes message ∷ string_bytes out ∷ []
 option_texts (Batch state workers) = string_bytes state ∷ string_bytes workers ∷ []
+option_texts (Serve state workers) = string_bytes state ∷ string_bytes workers ∷ []
 option_texts (Verify public message signature) =
     string_bytes public ∷ string_bytes message ∷ string_bytes signature ∷ []
 option_texts (Join public endorsement signer signature out) =

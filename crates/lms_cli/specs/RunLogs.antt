@@ -4,25 +4,27 @@ use Rattle.std.specs.Global.{Global}
 use Rattle.clap.specs.Words.{Text}
 use Rattle.lms_hss.specs.declared.key.HssKey.{HssKey as KeyOfCode}
 use Rattle.lms_cli.specs.Commands.{AreTakenAs, AsksForHelp, IsMistaken}
-use Rattle.lms_commands.specs.BatchLogs.{LogsJobs, LogsJobsFailed}
+use Rattle.lms_signature_commands.specs.BatchLogs.{LogsJobs, LogsJobsFailed}
 use Rattle.lms_commands.specs.Faults.{fault_line, status_of}
 use Rattle.lms_blocks.specs.Writing.{AppendsFront}
-use Rattle.lms_commands.specs.Keygen.{IsKeyOf, IsNoKey}
-use Rattle.lms_commands.specs.KeygenLogs.{LogsKeygen, LogsKeygenFailed}
+use Rattle.lms_key_commands.specs.Keygen.{IsKeyOf, IsNoKey}
+use Rattle.lms_key_commands.specs.KeygenLogs.{LogsKeygen, LogsKeygenFailed}
 use Rattle.lms_commands.specs.Logs.{WorldCalls}
-use Rattle.lms_commands.specs.PublicLogs.{LogsPublic, LogsPublicFailed}
-use Rattle.lms_commands.specs.ReadingLogs.{LogsInfo, LogsInfoFailed, LogsVerify, LogsVerifyFailed}
-use Rattle.lms_commands.specs.SignLogs.{LogsSign, LogsSignFailed}
-use Rattle.lms_commands.specs.Verdicts.{verdict_status}
+use Rattle.lms_key_commands.specs.PublicLogs.{LogsPublic, LogsPublicFailed}
+use Rattle.lms_key_commands.specs.InfoLogs.{LogsInfo, LogsInfoFailed}
+use Rattle.lms_signature_commands.specs.VerifyLogs.{LogsVerify, LogsVerifyFailed}
+use Rattle.lms_signature_commands.specs.Serving.{LogsServe, LogsServeFailed}
+use Rattle.lms_signature_commands.specs.SignLogs.{LogsSign, LogsSignFailed}
+use Rattle.lms_signature_commands.specs.Verdicts.{verdict_status}
 use Rattle.lms_join_commands.specs.JoinLogs.{JoinNames, LogsJoin, LogsJoinFailed, LogsJoinKeys, LogsJoinKeysFailed}
 use Rattle.lms_cli.specs.declared.command.types.Command.{Command}
 use Rattle.lms_cli.specs.declared.command.types.Command.TheVariants.{Batch, Info, Join, JoinPublic, Keygen, Public}
-use Rattle.lms_cli.specs.declared.command.types.Command.TheVariants.{Sign, Verify}
+use Rattle.lms_cli.specs.declared.command.types.Command.TheVariants.{Serve, Sign, Verify}
 use Rattle.lms_commands.specs.declared.fault.Fault.{Fault}
 use Rattle.lms_commands.specs.declared.fault.Fault.TheVariants.{OutOfMemory, WriteOutput}
 use Rattle.lms_commands.specs.declared.status.Status.{Status}
 use Rattle.lms_commands.specs.declared.status.Status.TheVariants.{Done, Usage}
-use Rattle.lms_commands.specs.declared.verdict.Verdict.{Verdict}
+use Rattle.lms_signature_commands.specs.declared.verdict.Verdict.{Verdict}
 
 -- the files that `join` is asked to read and write
 abbrev pub join_names : String Global → String Global → String Global → String Global
@@ -52,6 +54,9 @@ LogsObeyed (Sign state random message out) end input rest before printed old new
 LogsObeyed (Batch state workers) end input rest before printed old new =
     (end ≡ Done)
     × LogsJobs (string_bytes state) (string_bytes workers) input rest before printed old new
+LogsObeyed (Serve state workers) end input rest before printed old new =
+    (end ≡ Done)
+    × LogsServe (string_bytes state) (string_bytes workers) input rest before printed old new
 LogsObeyed (Verify public message signature) end input rest before printed old new =
     (verdict : Verdict) × (end ≡ verdict_status verdict)
     × LogsVerify (string_bytes public) (string_bytes message)
@@ -81,6 +86,8 @@ LogsFailed (Sign state random message out) fault input rest before printed old n
     (string_bytes out) before printed fault old new
 LogsFailed (Batch state workers) fault input rest before printed old new =
     LogsJobsFailed (string_bytes state) (string_bytes workers) input rest before printed fault old new
+LogsFailed (Serve state workers) fault input rest before printed old new =
+    LogsServeFailed (string_bytes state) (string_bytes workers) input rest before printed fault old new
 LogsFailed (Verify public message signature) fault input rest before printed old new =
     LogsVerifyFailed (string_bytes public) (string_bytes message)
     (string_bytes signature) before printed fault old new

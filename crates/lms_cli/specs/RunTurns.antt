@@ -1,19 +1,23 @@
 -- Runs of the program at one state, one after another, each perhaps cut off by a crash.
-use Rattle.std.specs.Prelude.{◌≡◌, ◌⊎◌, ℕ, List, [], ◌∷◌, AllPairs, Option, string_bytes}
+use Rattle.std.specs.Prelude.{◌≡◌, ◌⊎◌, ℕ, List, [], ◌∷◌, ◌++◌, length, AllPairs, None, Option, string_bytes}
 use Rattle.clap.specs.Words.{Text}
-use Rattle.lms_commands.specs.Histories.{AreDelivered, ArePrinted, HandsKey, HandsNothing, HandsState, HandsVerdict}
-use Rattle.lms_commands.specs.Histories.{StateTexts, IsBeginning, IsCarriedAlong, IsEarlier, IsTurn, TakenTurn}
-use Rattle.lms_commands.specs.Histories.{Signature, all_left}
+use Rattle.lms_commands.specs.Histories.{AreDelivered, ArePrinted, HandsNothing}
+use Rattle.lms_key_commands.specs.KeyTurns.{HandsKey, HandsState}
+use Rattle.lms_signature_commands.specs.VerifyTurns.{HandsVerdict}
+use Rattle.lms_commands.specs.Histories.{AreCutTurns, AreLinked, IsBeginning, IsCarriedAlong, IsEarlier, StateTexts}
+use Rattle.lms_commands.specs.Histories.{TakenTurn}
+use Rattle.lms_commands.specs.Histories.{Signature, all_left, begun_calls, turn_signatures, whole_calls}
 use Rattle.lms_commands.specs.Logs.{WorldCalls}
 use Rattle.lms_commands.specs.declared.status.Status.{Status}
 use Rattle.lms_join_commands.specs.Joined.{HandsJoined, HandsJoinedKey}
 use Rattle.lms_cli.specs.Commands.{AreTakenAs, AsksForHelp}
 use Rattle.lms_cli.specs.RunLogs.{LogsRun}
+use Rattle.lms_cli.specs.Runs.{AsksToServe}
 use Rattle.lms_cli.specs.declared.command.types.Command.{Command}
 use Rattle.lms_cli.specs.declared.command.types.Command.TheVariants.{Batch, Info, Join, JoinPublic, Keygen, Public}
-use Rattle.lms_cli.specs.declared.command.types.Command.TheVariants.{Sign, Verify}
+use Rattle.lms_cli.specs.declared.command.types.Command.TheVariants.{Serve, Sign, Verify}
 
--- what a command hands out: `sign` writes signatures to its file, `batch` prints their lines, and
+-- what a command hands out: `sign` writes signatures to its file, `batch` and `serve` print their lines, and
 -- no other has any of its own; what `join` writes repeats one that was read
 abbrev pub HandsOut : Command → List Signature → WorldCalls → List ℕ → List ℕ → Type 0
 HandsOut (Keygen levels seed id state public) signatures whole before printed =
@@ -25,6 +29,8 @@ HandsOut (Public state public) signatures whole before printed =
 HandsOut (Sign state random message out) signatures whole before printed =
     AreDelivered signatures whole before printed
 HandsOut (Batch state workers) signatures whole before printed =
+    ArePrinted signatures whole before printed
+HandsOut (Serve state workers) signatures whole before printed =
     ArePrinted signatures whole before printed
 HandsOut (Verify public message signature) signatures whole before printed =
     (signatures ≡ []) × HandsVerdict whole before printed
@@ -57,23 +63,34 @@ HandsOutAll run signatures =
     ⊎ ((command : Command) × AreTakenAs run.words command
     × HandsOut command signatures run.whole run.before run.printed)
 
--- a run takes this turn at its state
-pub record TakesTurn (run : ProgramRun) (turn : TakenTurn) : Type 0 where
-  pub whole : turn.whole ≡ run.whole
-  pub begun : turn.begun ≡ run.begun
-  pub is_turn : IsTurn turn.turn turn.signatures turn.whole
-  pub hands : HandsOutAll run turn.signatures
+-- a run takes these turns at its state, one after another: `serve` any number, and every other
+-- command one
+pub record TakesTurns (run : ProgramRun) (turns : List TakenTurn) : Type 0 where
+  pub whole : whole_calls turns ≡ run.whole
+  pub begun : begun_calls turns ≡ run.begun
+  pub are_turns : AreCutTurns turns
+  -- each turn reads what the run stored last, if it stored anything before
+  pub linked : AreLinked None turns
+  pub one : (length turns ≡ 1) ⊎ AsksToServe run.words
+  pub hands : HandsOutAll run (turn_signatures turns)
 
--- each run takes its turn
-abbrev pub TakeTurns : List ProgramRun → List TakenTurn → Type 0
+-- each run takes its turns
+abbrev pub TakeTurns : List ProgramRun → List (List TakenTurn) → Type 0
 TakeTurns [] [] = Unit {0}
-TakeTurns (run ∷ runs) (turn ∷ turns) = TakesTurn run turn × TakeTurns runs turns
-TakeTurns [] (turn ∷ turns) = ⊥
+TakeTurns (run ∷ runs) (turns ∷ more) = TakesTurns run turns × TakeTurns runs more
+TakeTurns [] (turns ∷ more) = ⊥
 TakeTurns (run ∷ runs) [] = ⊥
 
+-- the turns of all runs
+abbrev pub all_turns : List (List TakenTurn) → List TakenTurn
+all_turns [] = []
+all_turns (turns ∷ more) = turns ++ all_turns more
+
 -- runs of the program take turns at their state; and where these carry along what is stored, no two
--- signatures that left are by one index of a key
+-- signatures that left are by one index of a key. Of what is stored it is asked that a run which uses
+-- indices finds something that may be stored, the first time that it does
 abbrev pub NoIndexLeavesTwice : Type 0
 NoIndexLeavesTwice = (runs : List ProgramRun)
-    → (turns : List TakenTurn) × TakeTurns runs turns
-    × ((held : StateTexts) → IsCarriedAlong held turns → AllPairs IsEarlier (all_left turns))
+    → (turns : List (List TakenTurn)) × TakeTurns runs turns
+    × ((held : StateTexts) → IsCarriedAlong held (all_turns turns)
+    → AllPairs IsEarlier (all_left (all_turns turns)))

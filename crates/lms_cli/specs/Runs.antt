@@ -9,24 +9,35 @@ use Rattle.lms_commands.specs.Logs.{WorldCalls}
 use Rattle.lms_texts.specs.Seeds.{on_input}
 use Rattle.lms_world.specs.Held.{Follows, Memory}
 use Rattle.lms_cli.specs.declared.command.types.Command.{Command}
-use Rattle.lms_cli.specs.declared.command.types.Command.TheVariants.{Batch, Keygen}
+use Rattle.lms_cli.specs.declared.command.types.Command.TheVariants.{Batch, Keygen, Serve}
 use Rattle.lms_commands.specs.declared.status.Status.{Status}
 use Rattle.lms_commands.specs.declared.status.Status.TheVariants as status
 
--- the command is `batch`
-abbrev pub IsBatch : Command → Type 0
-IsBatch (Batch state workers) = Unit {0}
-IsBatch _ = ⊥
+-- the command is `batch` or `serve`
+abbrev pub SignsJobLines : Command → Type 0
+SignsJobLines (Batch state workers) = Unit {0}
+SignsJobLines (Serve state workers) = Unit {0}
+SignsJobLines _ = ⊥
 
--- the command reads standard input: `batch` does, and `keygen` where its seed is there
+-- the command is `serve`
+abbrev pub IsServe : Command → Type 0
+IsServe (Serve state workers) = Unit {0}
+IsServe _ = ⊥
+
+-- the command reads standard input: `batch` and `serve` do, and `keygen` where its seed is there
 abbrev pub ReadsInput : Command → Type 0
 ReadsInput (Batch state workers) = Unit {0}
+ReadsInput (Serve state workers) = Unit {0}
 ReadsInput (Keygen levels seed id state public) = string_bytes seed ≡ on_input
 ReadsInput _ = ⊥
 
--- the arguments ask for `batch`
-abbrev pub AsksForBatch : List Text → Type 0
-AsksForBatch words = (command : Command) × AreTakenAs words command × IsBatch command
+-- the arguments ask for `serve`
+abbrev pub AsksToServe : List Text → Type 0
+AsksToServe words = (command : Command) × AreTakenAs words command × IsServe command
+
+-- the arguments ask for `batch` or `serve`
+abbrev pub AsksToSignLines : List Text → Type 0
+AsksToSignLines words = (command : Command) × AreTakenAs words command × SignsJobLines command
 
 -- the arguments ask for a command that reads standard input
 abbrev pub AsksToRead : List Text → Type 0
@@ -64,6 +75,7 @@ pub record Runs {I E : Type 0} (old new : Setting I E) (words : List Text)
       old.error_text new.error_text old.calls new.calls
   pub follows : Follows old.memory old.calls new.memory new.calls
   pub quiet : status_number end < 2 → (new.errors ≡ old.errors)
-      ⊎ ((end ≡ status.Negative) × AsksForBatch words)
-  pub silent : 2 ≤ status_number end → status_number end < 6 → new.output ≡ old.output
+      ⊎ ((end ≡ status.Negative) × AsksToSignLines words)
+  pub silent : 2 ≤ status_number end → status_number end < 6
+      → (new.output ≡ old.output) ⊎ AsksToServe words
   pub unread : (new.input ≡ old.input) ⊎ AsksToRead words

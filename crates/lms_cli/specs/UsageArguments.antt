@@ -2,7 +2,7 @@
 use Rattle.std.specs.Prelude.{◌≡◌, ◌++◌, List, ◌∷◌, [], codes, true}
 use Rattle.clap.specs.Words.{Text, takes}
 use Rattle.lms_cli.specs.Application.{Subcommand, batch, info, join, join_public, keygen, lms_app, public_key, sign}
-use Rattle.lms_cli.specs.Application.{verify}
+use Rattle.lms_cli.specs.Application.{serve, verify}
 use Rattle.lms_cli.specs.Commands.{AsksFor}
 
 -- `--NAME=TEXT` for each name and the text in its place
@@ -38,6 +38,9 @@ SignIsTaken =
 
 abbrev pub BatchIsTaken : Type 0
 BatchIsTaken = (state workers : Text) → TakesTexts batch (state ∷ workers ∷ [])
+
+abbrev pub ServeIsTaken : Type 0
+ServeIsTaken = (state workers : Text) → TakesTexts serve (state ∷ workers ∷ [])
 
 abbrev pub VerifyIsTaken : Type 0
 VerifyIsTaken =

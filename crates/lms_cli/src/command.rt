@@ -2,7 +2,7 @@
 ghost use Rattle.std.specs.Prelude.{◌≡◌, [], codes, IfOk, IfErr, IsSome, Some, MatchResult, map, true, false, string_bytes};
 ghost use Rattle.clap.specs.Words.{app_of, fault_of, first_value, found_of, kind_of, rows_of, rule_of, takes};
 ghost use Rattle.clap.specs.declared.builder.command.Command.TheViews.{out-Command as fields_of};
-ghost use Rattle.lms_cli.specs.Application.{app_for, bare_app, batch, subcommand_called, info, join, join_public, keygen, lms_app, public_key, required_option, sign, verify};
+ghost use Rattle.lms_cli.specs.Application.{app_for, bare_app, batch, subcommand_called, info, join, join_public, keygen, lms_app, public_key, required_option, serve, sign, verify};
 ghost use Rattle.lms_cli.specs.Commands.{AreWordsOf, FaultAt, FaultOf, HasOptions, IsMadeOf};
 
 mod help;
@@ -14,7 +14,7 @@ use clap::error::ErrorKind;
 use clap::{Arg, ArgMatches, Error};
 use help::{
     BATCH_NOTE, INFO_NOTE, JOIN_NOTE, JOIN_PUBLIC_NOTE, KEYGEN_NOTE, LEVELS_HELP, PUBLIC_NOTE,
-    SIGN_NOTE, VERIFY_NOTE,
+    SERVE_NOTE, SIGN_NOTE, VERIFY_NOTE,
 };
 use std::alloc::{AllocError, Global};
 use std::convert::AsStr;
@@ -51,6 +51,7 @@ fn application<'a>(alloc: Global) -> Result<clap::Command<'a>, AllocError>
         .subcommand(public_application(alloc)?)?
         .subcommand(sign_application(alloc)?)?
         .subcommand(batch_application(alloc)?)?
+        .subcommand(serve_application(alloc)?)?
         .subcommand(verify_application(alloc)?)?
         .subcommand(join_application(alloc)?)?
         .subcommand(join_public_application(alloc)?)
@@ -154,6 +155,22 @@ fn batch_application<'a>(alloc: Global) -> Result<clap::Command<'a>, AllocError>
         ))
 }
 
+fn serve_application<'a>(alloc: Global) -> Result<clap::Command<'a>, AllocError>
+    ensures app { IfOk result (λ c. app_of c ≡ app_for serve) }
+    ensures local { IfOk result (λ c. (fields_of c).has_globals ≡ false) }
+{
+    clap::Command::new(alloc, "serve")
+        .about("Signs job lines of standard input as they come")
+        .after_help(SERVE_NOTE)
+        .arg(option(alloc, "state", "FILE", "The key's state"))?
+        .arg(option(
+            alloc,
+            "workers",
+            "N",
+            "How many workers sign at once, 1 to 64",
+        ))
+}
+
 fn verify_application<'a>(alloc: Global) -> Result<clap::Command<'a>, AllocError>
     ensures app { IfOk result (λ c. app_of c ≡ app_for verify) }
     ensures local { IfOk result (λ c. (fields_of c).has_globals ≡ false) }
@@ -235,6 +252,7 @@ fn read(alloc: Global, name: &str, options: &ArgMatches<'_>) -> Result<Command, 
         "public" => read_public(alloc, options),
         "sign" => read_sign(alloc, options),
         "batch" => read_batch(alloc, options),
+        "serve" => read_serve(alloc, options),
         "verify" => read_verify(alloc, options),
         "join" => read_join(alloc, options),
         "join-public" => read_join_public(alloc, options),
@@ -291,6 +309,16 @@ fn read_batch(alloc: Global, options: &ArgMatches<'_>) -> Result<Command, AllocE
     ensures { IfOk result (IsMadeOf (codes "batch") (rows_of (found_of options.now))) }
 {
     Ok(Command::Batch {
+        state: option_text(alloc, options, "state")?,
+        workers: option_text(alloc, options, "workers")?,
+    })
+}
+
+fn read_serve(alloc: Global, options: &ArgMatches<'_>) -> Result<Command, AllocError>
+    requires { HasOptions (Some serve) (found_of options.now) }
+    ensures { IfOk result (IsMadeOf (codes "serve") (rows_of (found_of options.now))) }
+{
+    Ok(Command::Serve {
         state: option_text(alloc, options, "state")?,
         workers: option_text(alloc, options, "workers")?,
     })

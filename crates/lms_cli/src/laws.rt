@@ -3,10 +3,12 @@ ghost use Rattle.lms_cli.specs.RunsInMemory.{ChangesAskedInMemory, FilesStay};
 ghost use Rattle.lms_cli.specs.RunTurns.{NoIndexLeavesTwice};
 
 /// Of runs of the program, each perhaps cut off, with the calls that the contract of `run`
-/// describes: each takes a turn at its state, in two parts. In the first the state is found and
-/// stored, once at most, and nothing leaves; in the second something leaves, and nothing is done
-/// with the state. What `sign` writes to files and what `batch` prints are signatures, each by an
-/// index of its own whose use was stored for certain in the first part.
+/// describes: each takes a turn at its state, and `serve` one after another; where a run is cut off,
+/// the turns before are whole, and those after are not begun. A turn has two parts. In the first the
+/// state is found and stored, once at most, and nothing leaves; in the second something leaves, and
+/// nothing is done with the state. What `sign` writes to files and what `batch` and `serve` print
+/// are signatures, each by an index of its own whose use was stored for certain in the first part of
+/// its turn.
 ///
 /// Where these turns carry along what may be stored, no two signatures that left are by one index
 /// of a key: each is by a later index than those of its key before. A signature left once it began

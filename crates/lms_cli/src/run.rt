@@ -8,12 +8,11 @@ ghost use Rattle.lms_cli.specs.RunLogs.{LogsAnswered, LogsFailed, LogsObeyed, Lo
 ghost use Rattle.lms_cli.specs.Runs.{AsksToRead, ReadsInput, Runs, setting};
 
 use crate::command::{Command, CommandFault, command};
-use lms_commands::{
-    Fault, Resources, SignRequest, Status, describe, key_from, make_key, print_fault, publish_key,
-    sign_file, sign_jobs, verify_files,
-};
+use lms_commands::{Fault, Resources, Status, print_fault};
 use lms_hss::Progress;
 use lms_join_commands::{JoinRequest, join_public_keys, join_signature};
+use lms_key_commands::{describe, key_from, make_key, publish_key};
+use lms_signature_commands::{SignRequest, serve_jobs, sign_file, sign_jobs, verify_files};
 use lms_world::{Printer, World};
 use std::convert::AsStr;
 use std::io;
@@ -25,11 +24,11 @@ use std::thread::Threads;
 /// files and its three streams. Answers how it ends; the exit status is that answer's code.
 ///
 /// A fault is one line on `errors`, `error: ` and its text. Help is printed to `output` and a
-/// mistake in the arguments to `errors`, both in clap's wording. Nothing but `keygen`, `sign` and
-/// `batch` changes states, and of the files only the one that `--public` or `--out` names is
-/// changed. `keygen` and `sign` alone keep nodes of trees beside the state. `input` is read by
-/// `batch`, and by `keygen` where its seed is `-`. `resources.progress` gets how far `keygen`,
-/// `public`, `sign` and `batch` are while they compute trees.
+/// mistake in the arguments to `errors`, both in clap's wording. Nothing but `keygen`, `sign`,
+/// `batch` and `serve` changes states, and of the files only the one that `--public` or `--out`
+/// names is changed. `keygen` and `sign` alone keep nodes of trees beside the state. `input` is read
+/// by `batch` and `serve`, and by `keygen` where its seed is `-`. `resources.progress` gets how far
+/// `keygen`, `public`, `sign`, `batch` and `serve` are while they compute trees.
 pub fn run<S: AsStr, W: World, I: Read, O: Write, E: Write>(
     resources: &Resources<impl Threads + Wait + Sync, impl Progress>,
     words: &[S],
@@ -160,6 +159,10 @@ fn obey<W: World, I: Read, O: Write>(
         }
         Command::Batch { state, workers } => {
             sign_jobs(resources, world, &state, &workers, input, output)?;
+            Ok(Status::Done)
+        }
+        Command::Serve { state, workers } => {
+            serve_jobs(resources, world, &state, &workers, input, output)?;
             Ok(Status::Done)
         }
         Command::Verify {

@@ -145,7 +145,7 @@ module _ (base : List Event) (still : AreStill base) {before mid last now : Worl
 
   pub unsigned : (n : ℕ) (state : KeyState) (fault : Fault) → LogsUnsigned n fault state mid last
       → EndsSo (SignsNone n fault old new)
-  unsigned n state fault (inl (at, few, leaves)) =
+  unsigned n state fault (inl (inl (at, few, leaves))) =
       let is = finds state leaves in
       let lacks : LacksIndices n _ old new = record {
         finds = is.1.0;
@@ -153,11 +153,11 @@ module _ (base : List Event) (still : AreStill base) {before mid last now : Worl
         left_is = ap (λ (s : KeyState). capacity_of (hss_key_of s.key) - s.index) (sym is.1.1);
       } in
       (is.0, (is.1.0.stays.files, inr (inl (_, at, lacks))))
-  unsigned n state fault (inr (inl (at, leaves))) =
+  unsigned n state fault (inl (inr (at, leaves))) =
       let is = finds state leaves in (is.0, (is.1.0.stays.files, inl (at, is.1.0)))
-  unsigned n state fault (inr (inr (inl (at, tries)))) =
+  unsigned n state fault (inr (inl (at, tries))) =
       let is = burns n state tries in (is.0, (is.1.0, inr (inr (inl (_, at, is.1.1)))))
-  unsigned n state fault (inr (inr (inr (at, (taken, read, reads, within, calls))))) =
+  unsigned n state fault (inr (inr (at, (taken, read, reads, within, calls)))) =
       let back = put_back taken (after_write (image_using n state) read) calls in
       let uses : UsesIndices n old new = record {
         state = state;

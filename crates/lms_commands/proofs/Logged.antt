@@ -1,6 +1,6 @@
 -- What a command logged, by what its steps did.
-use Rattle.std.proofs.Common.{◌≡◌, ◌∙◌, inl, inr, Ok, Err, sym, ℕ, ◌+◌, ◌-◌, ◌≤◌, List, ◌∷◌, Option, Some, refl, ap}
-use Rattle.std.proofs.Common.{ap₂, subst, arith}
+use Rattle.std.proofs.Common.{◌≡◌, ◌∙◌, inl, inr, ℕ, ◌+◌, ◌-◌, ◌≤◌, List, ◌∷◌, Some, refl, ap}
+use Rattle.std.proofs.Common.{subst, arith}
 use Rattle.lms_image.specs.Image.{HasImage}
 use Rattle.lms_book.specs.declared.fault.OpenFault.{OpenFault}
 use Rattle.lms_book.specs.declared.fault.OpenFault.TheVariants as opening
@@ -8,23 +8,10 @@ use Rattle.lms_book.specs.declared.fault.BookFault.TheVariants as book
 use Rattle.lms_book.specs.Books.{HasCause, IsReadFrom, capacity, counter, next_image}
 use Rattle.lms_book.specs.States.{BookState}
 use Rattle.lms_book.specs.Stops.{StoreView, FailsToWrite, after_write}
-use Rattle.lms_kept.specs.Signed.{IsSignedByText}
-use Rattle.lms_kept.specs.Ways.{Way}
-use Rattle.lms_world.specs.Events.{Event, PutBack, Taken, Taking, Writing, Written}
-use Rattle.lms_world.specs.Names.{Bytes}
-use Rattle.lms_spec.specs.Profile.{hss_public_key}
-use Rattle.lms_hss.specs.Keys.{hss_key_of}
-use Rattle.lms_hss.specs.declared.key.HssKey.{HssKey as KeyOfCode}
-use Rattle.lms_commands.specs.KeygenLogs.{LogsUnmade, WritesKey, capacity_line}
-use Rattle.lms_commands.specs.declared.fault.Fault.{Fault}
-use Rattle.lms_commands.specs.declared.fault.Fault.TheVariants.{Exhausted, WriteStateBurnt}
-use Rattle.lms_commands.specs.Faults.{of_opening, of_signing}
-use Rattle.lms_commands.specs.Logs.{FailsToPublish, LeavesState, WorldCalls, LogsKeeping, LogsUnopened, LogsUnsigned}
-use Rattle.lms_commands.specs.Logs.{OpensState, ReadsState, StoresUse, TriesUse, state_of, write_cause}
-use Rattle.lms_commands.specs.SignLogs.{LogsSigned}
-use Rattle.lms_commands.specs.Signing.{GivesOne, SignsNothing}
-use Rattle.lms_commands.specs.declared.sign.NextFault.{NextFault}
-use Rattle.lms_commands.specs.declared.sign.NextFault.TheVariants as unsigned
+use Rattle.lms_world.specs.Events.{Event, PutBack, Taken, Taking}
+use Rattle.lms_commands.specs.Faults.{of_opening}
+use Rattle.lms_commands.specs.Logs.{LeavesState, WorldCalls, LogsUnopened}
+use Rattle.lms_commands.specs.Logs.{OpensState, ReadsState, StoresUse, TriesUse, state_of}
 use Rattle.lms_commands.proofs.Signings.{IsJustOpened, image_is}
 
 -- two calls, and three
@@ -94,41 +81,3 @@ module _ (before after_it : BookState) (view : StoreView) (old opened back : Wor
 
   pub left_so : after_it ≡ before → LeavesState (state_of before) old back
   left_so same = (taken, before.store, opens.1, put _ (ap (λ (b : BookState). b.store) same))
-
-  pub log_signed : (nodes : Option (List ℕ)) (random message : List ℕ) (index : ℕ) (signature : List ℕ)
-      (trees : Option Way) (new : WorldCalls)
-      → GivesOne before after_it → index ≡ counter before → LogsKeeping trees back new
-      → IsSignedByText nodes before.key index random message signature trees
-      → LogsSigned nodes random message index signature old new
-  log_signed nodes random message index signature trees new gives at keeps signed = record {
-    state = state_of before;
-    trees = trees;
-    until_stored = back;
-    next = at ∙ is_fresh.used;
-    stores = stored 1 gives.within gives.stored;
-    keeps = keeps;
-    signed = signed;
-  }
-
-  pub log_unsigned : (fault : NextFault) → SignsNothing before fault after_it
-      → LogsUnsigned 1 (of_signing fault) (state_of before) old back
-  log_unsigned (unsigned.Book (book.Exhausted left)) (full, is, same) =
-      let left_is : left ≡ capacity before - before.base = omega (arith, is, is_fresh.used) in
-      inl (ap (λ (n : ℕ). Exhausted n) left_is, omega (arith, full, is_fresh.used), left_so same)
-  log_unsigned (unsigned.Book book.OutOfMemory) (enough, same) = inr (inl (refl, left_so same))
-  log_unsigned (unsigned.Book (book.Store start len)) (enough, s, l, history, failed) =
-      inr (inr (inl (ap₂ (λ (a b : ℕ). WriteStateBurnt a b) (s ∙ is_fresh.used) l, tried 1 enough failed)))
-  log_unsigned unsigned.OutOfMemory gives = inr (inr (inr (refl, stored 1 gives.within gives.stored)))
-
--- a key's state was stored, and its public key or capacity not published
-pub unmade : (key : KeyOfCode) (public : Bytes) (before printed : List ℕ) (old kept new : WorldCalls)
-    → ((answer : Writing) → WritesKey key public answer old
-    (Written public (hss_public_key (hss_key_of key)) answer ∷ kept)) → (fault : Fault)
-    → FailsToPublish public (hss_public_key (hss_key_of key)) (capacity_line key) before printed fault kept new
-    → LogsUnmade key public before printed fault old new
-unmade key public before printed old kept new writes fault (inl (refused, calls, same)) =
-    let written = subst (λ (log : WorldCalls). WritesKey key public (Err (write_cause fault)) old log) (sym calls)
-    (writes (Err (write_cause fault))) in
-    inl (same, inr (inr (refused, written)))
-unmade key public before printed old kept new writes fault (inr (at, calls, line)) =
-    inr (at, record { until_written = _; writes = writes (Ok tt); prints = calls }, line)

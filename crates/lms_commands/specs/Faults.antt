@@ -30,8 +30,6 @@ use Rattle.lms_texts.specs.declared.fault.LevelsTextFault.{LevelsTextFault}
 use Rattle.lms_texts.specs.declared.fault.LevelsTextFault.TheVariants as unread
 use Rattle.lms_texts.specs.declared.fault.SeedFault.{SeedFault}
 use Rattle.lms_texts.specs.declared.fault.SeedFault.TheVariants as seed
-use Rattle.lms_commands.specs.declared.sign.NextFault.{NextFault}
-use Rattle.lms_commands.specs.declared.sign.NextFault.TheVariants as signing
 use Rattle.lms_commands.specs.declared.status.Status.{Status}
 use Rattle.lms_commands.specs.declared.status.Status.TheVariants as status
 
@@ -128,11 +126,6 @@ abbrev pub of_book : BookFault → Fault
 of_book (book.Exhausted left) = Exhausted left
 of_book book.OutOfMemory = OutOfMemory
 of_book (book.Store start len) = WriteStateBurnt start len
-
--- the fault that a message not signed is
-abbrev pub of_signing : NextFault → Fault
-of_signing (signing.Book fault) = of_book fault
-of_signing signing.OutOfMemory = OutOfMemoryBurnt 1
 
 -- the fault that job lines not read are
 abbrev pub of_jobs : JobsFault → Fault

@@ -1,10 +1,10 @@
 -- Runs of the program at one state, one after another, each perhaps cut off by a crash: what each
 -- does with the state, and which signatures leave it.
-use Rattle.std.specs.Prelude.{◌≡◌, ◌⊎◌, ◌+◌, ◌<◌, ◌≤◌, ℕ, List, [], ◌∷◌, ◌++◌, Bool, true, false, if◌then◌else◌}
+use Rattle.std.specs.Prelude.{◌≡◌, ◌≢◌, ◌⊎◌, ◌+◌, ◌<◌, ◌≤◌, ℕ, List, [], ◌∷◌, ◌++◌, Bool, true, false, if◌then◌else◌}
 use Rattle.std.specs.Prelude.{Contains, codes, filter, map, Option, Some, None}
 use Rattle.std.specs.List.{list_any}
 use Rattle.lms_spec.specs.Hss.{capacity_of}
-use Rattle.lms_spec.specs.Profile.{hss_public_key, hss_signature}
+use Rattle.lms_spec.specs.Profile.{hss_signature}
 use Rattle.lms_hss.specs.Keys.{hss_key_of}
 use Rattle.lms_hss.specs.declared.key.HssKey.{HssKey as KeyOfCode}
 use Rattle.lms_image.specs.Image.{image_of}
@@ -15,10 +15,6 @@ use Rattle.lms_lines.specs.AnswerLines.{answer_line}
 use Rattle.lms_blocks.specs.Writing.{AppendsFront}
 use Rattle.lms_world.specs.Events.{Event, Written, Asked, Taken, Taking, PutBack, Printing}
 use Rattle.lms_texts.specs.Descriptions.{number_line}
-use Rattle.lms_commands.specs.KeygenLogs.{capacity_line}
-use Rattle.lms_commands.specs.ReadingLogs.{info_of}
-use Rattle.lms_commands.specs.Verdicts.{line_of}
-use Rattle.lms_commands.specs.declared.verdict.Verdict.{Verdict}
 use Rattle.lms_commands.specs.Logs.{KeyState, WorldCalls, ReadsState, image_using}
 
 -- bytes that are a signature by an index of a key
@@ -176,33 +172,17 @@ AreDelivered signatures whole before printed = AreWritten signatures whole
 abbrev pub HandsNothing : WorldCalls → List ℕ → List ℕ → Type 0
 HandsNothing whole before printed = (written_in whole ≡ []) × (printed ≡ before)
 
--- a public key is written to a file, and at most the key's capacity is printed
-abbrev pub HandsKey : WorldCalls → List ℕ → List ℕ → Type 0
-HandsKey whole before printed =
-    (key : KeyOfCode) × (written_in whole ≡ hss_public_key (hss_key_of key) ∷ [])
-    × Prints before printed (capacity_line key)
-
--- no file is written, and at most what a state says is printed
-abbrev pub HandsState : WorldCalls → List ℕ → List ℕ → Type 0
-HandsState whole before printed =
-    (written_in whole ≡ [])
-    × ((printed ≡ before) ⊎ ((read : KeyState) × Prints before printed (info_of read)))
-
--- no file is written, and at most a verdict is printed
-abbrev pub HandsVerdict : WorldCalls → List ℕ → List ℕ → Type 0
-HandsVerdict whole before printed =
-    (written_in whole ≡ [])
-    × ((printed ≡ before) ⊎ ((verdict : Verdict) × Prints before printed (line_of verdict)))
-
 -- the calls that were begun before a crash, the last perhaps cut off, are the first of all that
 -- would have been
 abbrev pub IsBeginning : WorldCalls → WorldCalls → Type 0
 IsBeginning begun whole = (later : WorldCalls) × (whole ≡ later ++ begun)
 
--- a run: what it does with the state, the signatures that leave it if it comes so far, all calls
--- that it would make, and those that it began before it ended or crashed
+-- a turn of a run: what it does with the state, the signatures that leave it if it comes so far, all
+-- calls that it would make, and those that it began before the run ended or crashed
 pub record TakenTurn : Type 0 where
   pub turn : Turn
+  -- the image that the run stored last before it, if it stored any
+  pub due : Option (List ℕ)
   pub signatures : List Signature
   pub whole : WorldCalls
   pub begun : WorldCalls
@@ -215,29 +195,53 @@ left_in run = if list_any hands_out run.begun then run.signatures else []
 abbrev pub StateTexts : Type 0
 StateTexts = List (Option (List ℕ))
 
--- a turn finds something that may be stored: none, or the bytes that it reads
-abbrev pub FindsText : Turn → StateTexts → Type 0
-FindsText StoresNothing held = Unit {0}
-FindsText (Makes key) held = Contains held None
-FindsText (Uses count state text) held = Contains held (Some text)
+-- a turn finds something that may be stored: none, or the bytes that it reads. Nothing is asked of
+-- a turn whose run stored an image before: it reads that one alone
+abbrev pub FindsText : Turn → Option (List ℕ) → StateTexts → Type 0
+FindsText StoresNothing due held = Unit {0}
+FindsText (Makes key) due held = Contains held None
+FindsText (Uses count state text) None held = Contains held (Some text)
+FindsText (Uses count state text) (Some image) held = Unit {0}
+
+-- where its run stored an image before, that is what a turn reads
+abbrev pub Continues : Turn → Option (List ℕ) → Type 0
+Continues (Uses count state text) (Some image) = text ≡ image
+Continues (Uses count state text) None = Unit {0}
+Continues StoresNothing due = Unit {0}
+Continues (Makes key) due = Unit {0}
+
+-- the image that a run stored last, after a turn; a run that makes a key takes no other
+abbrev pub stored_last : Turn → Option (List ℕ) → Option (List ℕ)
+stored_last StoresNothing due = due
+stored_last (Makes key) due = None
+stored_last (Uses count state text) due = Some (image_using count state)
+
+-- turns of one run, one after another, each of which reads what the run stored last, if it stored
+-- anything before
+abbrev pub AreLinked : Option (List ℕ) → List TakenTurn → Type 0
+AreLinked due [] = Unit {0}
+AreLinked due (run ∷ later) =
+    (run.due ≡ due) × Continues run.turn due × AreLinked (stored_last run.turn due) later
 
 -- this is what may be stored, and nothing else
 abbrev pub IsOnly : List ℕ → StateTexts → Type 0
 IsOnly image held = (found : Option (List ℕ)) → Contains held found → found ≡ Some image
 
--- what a store owes, once a run came to it: it gave what it may have held; it may hold that still,
+-- what a store owes, once a turn came to it: it gave what it may have held; it may hold that still,
 -- or the image that was stored; and that image alone where it was stored for certain
 pub record Moves (run : TakenTurn) (held left : StateTexts) : Type 0 where
-  pub found : FindsText run.turn held
+  pub found : FindsText run.turn run.due held
   pub one_of : (text : Option (List ℕ)) → Contains left text → Contains held text
       ⊎ ((image : List ℕ) × (image_by run.turn ≡ Some image) × (text ≡ Some image))
   pub certain : (image : List ℕ) → IsStored image run.begun → IsOnly image left
 
--- what may be stored before and after a run; where it did not come to its state, that is the same
+-- what may be stored before and after a turn; where it did not come to its state, that is the same
 abbrev pub IsCarried : TakenTurn → StateTexts → StateTexts → Type 0
-IsCarried run held left = ((store_calls run.begun ≡ []) × (left ≡ held)) ⊎ Moves run held left
+IsCarried run held left =
+    ((store_calls run.begun ≡ []) × (left ≡ held))
+    ⊎ ((store_calls run.begun ≢ []) × Moves run held left)
 
--- runs one after another carry along what is stored, from this on
+-- turns one after another carry along what is stored, from this on
 abbrev pub IsCarriedAlong : StateTexts → List TakenTurn → Type 0
 IsCarriedAlong held [] = Unit {0}
 IsCarriedAlong held (run ∷ runs) =
@@ -251,3 +255,31 @@ all_left (run ∷ runs) = left_in run ++ all_left runs
 -- of one key, the second is by a later index
 abbrev pub IsEarlier : Signature → Signature → Type 0
 IsEarlier first second = first.key ≡ second.key → first.index < second.index
+
+-- all calls that turns would make, one turn after another
+abbrev pub whole_calls : List TakenTurn → WorldCalls
+whole_calls [] = []
+whole_calls (run ∷ later) = whole_calls later ++ run.whole
+
+-- those that they began
+abbrev pub begun_calls : List TakenTurn → WorldCalls
+begun_calls [] = []
+begun_calls (run ∷ later) = begun_calls later ++ run.begun
+
+-- the signatures that leave them if all come so far
+abbrev pub turn_signatures : List TakenTurn → List Signature
+turn_signatures [] = []
+turn_signatures (run ∷ later) = run.signatures ++ turn_signatures later
+
+-- turns one after another, cut off somewhere: where one is not begun to its end, nothing is begun of
+-- those after it
+abbrev pub AreCutTurns : List TakenTurn → Type 0
+AreCutTurns [] = Unit {0}
+AreCutTurns (run ∷ later) = IsTurn run.turn run.signatures run.whole
+    × IsBeginning run.begun run.whole
+    × ((run.begun ≡ run.whole) ⊎ (begun_calls later ≡ [])) × AreCutTurns later
+
+-- turns one after another, none of them cut off
+abbrev pub AreWholeTurns : List TakenTurn → Type 0
+AreWholeTurns [] = Unit {0}
+AreWholeTurns (run ∷ later) = IsTurn run.turn run.signatures run.whole × AreWholeTurns later

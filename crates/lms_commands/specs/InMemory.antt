@@ -1,5 +1,5 @@
 -- What a command finds in a world in memory and leaves there.
-use Rattle.std.specs.Prelude.{ℕ, ◌≡◌, ◌≢◌, ◌⊎◌, ◌+◌, ◌-◌, ◌<◌, ◌≤◌, List, true, Option, Some, Ok}
+use Rattle.std.specs.Prelude.{ℕ, ◌≡◌, ◌≢◌, ◌⊎◌, ◌+◌, ◌-◌, ◌<◌, ◌≤◌, List, true, Option, Some, Ok, Err}
 use Rattle.lms_spec.specs.Hss.{capacity_of}
 use Rattle.lms_hss.specs.Keys.{hss_key_of}
 use Rattle.lms_hss.specs.declared.key.HssKey.{HssKey as KeyOfCode}
@@ -9,6 +9,7 @@ use Rattle.lms_book.specs.Stops.{Texts, IsAmong, IsLeftBy, only}
 use Rattle.lms_kept.specs.Ways.{AreGenuine, IsWay, Way, nodes_text}
 use Rattle.lms_world.specs.Names.{Bytes}
 use Rattle.lms_world.specs.Held.{Answers, Held, answer_in}
+use Rattle.lms_world.specs.declared.fault.WorldFault.TheVariants.{Device}
 use Rattle.lms_commands.specs.Logs.{KeyState, image_using}
 use Rattle.lms_commands.specs.declared.fault.Fault.{Fault}
 use Rattle.lms_commands.specs.declared.fault.Fault.TheVariants.{BadState, Exhausted, OutOfMemory, OutOfMemoryBurnt}
@@ -25,6 +26,10 @@ pub record Stays (old new : Held) : Type 0 where
 -- nothing is changed but files
 abbrev pub OnlyFiles : Held → Held → Type 0
 OnlyFiles old new = new ≡ record old { files = new.files }
+
+-- a read of the name fails
+abbrev pub IsUnreadable : Bytes → Held → Type 0
+IsUnreadable name held = answer_in held.files name ≡ Err Device
 
 -- only the file of this name may have changed
 abbrev pub SameFilesBut : Bytes → Answers → Answers → Type 0

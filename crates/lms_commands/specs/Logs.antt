@@ -106,15 +106,23 @@ TriesUse n state old new =
     × FailsToWrite (image_using n state) read left
     × PutsBack taken left old new
 
--- n indices of a state that was opened sign nothing: none is used, or their use is stored, for
--- certain or not
-abbrev pub LogsUnsigned : ℕ → Fault → KeyState → WorldCalls → WorldCalls → Type 0
-LogsUnsigned n fault state old new =
+-- n indices of a state that was opened are not used: there are too few, or memory runs out
+abbrev pub LeavesUnsigned : ℕ → Fault → KeyState → WorldCalls → WorldCalls → Type 0
+LeavesUnsigned n fault state old new =
     ((fault ≡ Exhausted (capacity_of (hss_key_of state.key) - state.index))
     × (capacity_of (hss_key_of state.key) < state.index + n) × LeavesState state old new)
-    ⊎ (((fault ≡ OutOfMemory) × LeavesState state old new)
-    ⊎ (((fault ≡ WriteStateBurnt state.index n) × TriesUse n state old new)
-    ⊎ ((fault ≡ OutOfMemoryBurnt n) × StoresUse n state old new)))
+    ⊎ ((fault ≡ OutOfMemory) × LeavesState state old new)
+
+-- their use is stored, for certain or not, and they sign nothing
+abbrev pub BurnsUnsigned : ℕ → Fault → KeyState → WorldCalls → WorldCalls → Type 0
+BurnsUnsigned n fault state old new =
+    ((fault ≡ WriteStateBurnt state.index n) × TriesUse n state old new)
+    ⊎ ((fault ≡ OutOfMemoryBurnt n) × StoresUse n state old new)
+
+-- n indices of a state that was opened sign nothing
+abbrev pub LogsUnsigned : ℕ → Fault → KeyState → WorldCalls → WorldCalls → Type 0
+LogsUnsigned n fault state old new =
+    LeavesUnsigned n fault state old new ⊎ BurnsUnsigned n fault state old new
 
 -- the bytes of these trees are kept, which is done or fails, or nothing is, since memory for them was
 -- refused or there are no trees

@@ -2,10 +2,11 @@
 ghost use Rattle.std.specs.Prelude.{[], ◌∷◌, ◌≡◌, ℕ, List, None, IfErr, IfOk, IfSome, OnOk};
 ghost use Rattle.lms_world.specs.Events.{Read, Opened, Written, Locked, opening_of, read_of};
 ghost use Rattle.lms_world.specs.Held.{Does, Follows};
-ghost use Rattle.lms_commands.specs.Logs.{IsLockRefused, IsReadRefused, IsWriteRefused, LogsUnopened, OpensState, caused, locked_so, write_cause, written_so};
+ghost use Rattle.lms_commands.specs.Logs.{IsLockRefused, IsReadRefused, IsWriteRefused, LogsUnopened, OpensState, caused, locked_so, state_in, state_of, write_cause, written_so};
 
 use crate::fault::Fault;
-use lms_book::Book;
+use lms_book::{Book, StateStore};
+use lms_image::Image;
 use lms_world::{Contents, LockFault, Taker, World, WorldFault};
 use std::alloc::Global;
 
@@ -25,11 +26,7 @@ pub fn read_file<W: World>(alloc: Global, world: &mut W, name: &str) -> Result<V
 }
 
 /// Opens a file to be read in pieces. Faults as `read_file`.
-pub(crate) fn open_file<W: World>(
-    alloc: Global,
-    world: &mut W,
-    name: &str,
-) -> Result<W::Contents, Fault>
+pub fn open_file<W: World>(alloc: Global, world: &mut W, name: &str) -> Result<W::Contents, Fault>
     ensures logged { W.events world.new
         ≡ Opened name.now (opening_of W.Contents.holds (caused result)) ∷ W.events world.old }
     ensures refused { IfErr result IsReadRefused }
@@ -43,7 +40,7 @@ pub(crate) fn open_file<W: World>(
 }
 
 /// Hands the bytes of a file over, piece by piece. Faults as `read_file`.
-pub(crate) fn hand_over<C: Contents, T: Taker>(contents: C, taker: &mut T) -> Result<(), Fault>
+pub fn hand_over<C: Contents, T: Taker>(contents: C, taker: &mut T) -> Result<(), Fault>
     ensures handed { OnOk result ((bytes : List ℕ)
         × IfSome (C.holds contents) (λ held. bytes ≡ held) × T.after taker.old bytes taker.new) }
     ensures refused { IfErr result (λ fault. IsReadRefused fault × (C.holds contents ≡ None)) }
@@ -101,11 +98,7 @@ fn unwritten(cause: WorldFault) -> Fault
 
 /// The lock of a state. `StateInUse` where it is held, can't be acquired or can't be reached,
 /// `OutOfMemory` where memory for it was refused.
-pub(crate) fn lock_state<W: World>(
-    alloc: Global,
-    world: &mut W,
-    state: &str,
-) -> Result<W::Lock, Fault>
+pub fn lock_state<W: World>(alloc: Global, world: &mut W, state: &str) -> Result<W::Lock, Fault>
     ensures logged { W.events world.new ≡ Locked state.now (locked_so result) ∷ W.events world.old }
     ensures refused { IfErr result IsLockRefused }
     ensures acts { Does (Locked state.now (locked_so result))
@@ -120,7 +113,7 @@ pub(crate) fn lock_state<W: World>(
 
 /// Takes the state of a lock out of the world, and opens its book, whose store the caller puts
 /// back. `ReadState`, `BadState` and `OutOfMemory` leave the state where it was.
-pub(crate) fn open_state<W: World>(
+pub fn open_state<W: World>(
     alloc: Global,
     world: &mut W,
     lock: &W::Lock,
@@ -139,5 +132,18 @@ pub(crate) fn open_state<W: World>(
             world.put_back(lock, store);
             Err(Fault::from(fault))
         }
+    }
+}
+
+/// What a book has read that was just opened.
+pub fn image_read<S: StateStore>(book: &Book<S>) -> Image
+    requires fresh { book.now.history ≡ [] }
+    ensures { state_in result ≡ state_of book.now }
+{
+    Image {
+        key: book.key(),
+        counter: book.base(),
+        openings: book.openings(),
+        burnt: book.burnt(),
     }
 }

@@ -9,7 +9,7 @@ use lms_world::World;
 use std::alloc::Global;
 
 /// What is kept beside the state of a lock, where that can be read.
-pub(crate) fn kept_text<W: World>(alloc: Global, world: &mut W, lock: &W::Lock) -> Option<Vec<u8>>
+pub fn kept_text<W: World>(alloc: Global, world: &mut W, lock: &W::Lock) -> Option<Vec<u8>>
     ensures logged { W.events world.new
         ≡ NodesRead (option_map (λ text. text.items) result) ∷ W.events world.old }
     ensures acts { Does (NodesRead (option_map (λ text. text.items) result))
@@ -20,7 +20,7 @@ pub(crate) fn kept_text<W: World>(alloc: Global, world: &mut W, lock: &W::Lock) 
 
 /// Keeps these trees beside the state of a lock, where that can be done. Where it can't, that is no
 /// fault: whoever finds nothing right there computes all again.
-pub(crate) fn keep_trees<W: World>(alloc: Global, world: &mut W, lock: &W::Lock, trees: &KeptTrees)
+pub fn keep_trees<W: World>(alloc: Global, world: &mut W, lock: &W::Lock, trees: &KeptTrees)
     ensures logged { LogsKeeping (Some trees.now) (W.events world.old) (W.events world.new) }
     ensures follows { Follows (W.memory world.old) (W.events world.old)
         (W.memory world.new) (W.events world.new) }

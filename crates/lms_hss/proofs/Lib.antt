@@ -1,9 +1,11 @@
 pub mod Bottoms
 pub mod Forests
 pub mod Keys
+pub mod Numbered
 pub mod SameKeys
 pub mod Ranges
 pub mod Sets
 pub mod SignedKeys
 pub mod Sent
+pub mod SharedWays
 pub mod TopKeys

@@ -44,7 +44,13 @@ forest_is_shared =
         search sendable depth 20,
         (
           search sendable depth 20,
-          (search sendable depth 20, (trees_are_shared, (search (sendable, crosses) depth 20, tt))),
+          (
+            search sendable depth 20,
+            (
+              search (trees_are_shared, sendable, crosses) depth 20,
+              (trees_are_shared, (search (sendable, crosses) depth 20, tt)),
+            ),
+          ),
         ),
       ),
     ) in

@@ -55,6 +55,36 @@ pub record IsChild (parent : SignedTree) (q : ℕ) (sets : LmsType × OtsType) (
       (public_key_of (tree_of signed_tree.tree.key))
       ++ public_key_of (tree_of signed_tree.tree.key)
 
+-- the same tree with the same head, which serves these leaves
+pub record IsMovedTree (old : SignedTree) (leaves : Leaves) (signed_tree : SignedTree) : Type 0 where
+  pub tree : tree_of signed_tree.tree.key ≡ tree_of old.tree.key
+  pub first : signed_tree.tree.first ≡ leaves.first
+  pub last : signed_tree.tree.last ≡ leaves.last
+  pub head : signed_tree.head.items ≡ old.head.items
+
+-- tree `number` of level k, with what is before its signatures, whichever leaves it serves
+pub record IsTreeNumbered (key : HssKey) (k number : ℕ) (signed_tree : SignedTree) : Type 0 where
+  pub tree : (g : ℕ) → tree_number key g k ≡ number → tree_of signed_tree.tree.key ≡ tree_at key g k
+  pub head : (g : ℕ) → tree_number key g k ≡ number
+      → signed_tree.head.items ≡ signature_head key g k
+
+-- tree `number` of level k, which serves the leaves that the indices from `start` to `last` go
+-- through
+abbrev pub ServesRange : HssKey → ℕ → ℕ → ℕ → ℕ → SignedTree → Type 0
+ServesRange key k number start last signed_tree =
+    (g : ℕ) → start ≤ g → g ≤ last → tree_number key g k ≡ number → IsSignedTree key g k signed_tree
+
+-- trees of level k side by side, whichever leaves they serve
+abbrev pub AreTrees : HssKey → ℕ → LevelTrees → Type 0
+AreTrees key k level =
+    (n : ℕ) (other : SignedTree) → level.first ≤ n → n < level.first + length level.trees.items
+    → IsTreeNumbered key k n (slice_index_or level.trees.items (n - level.first) other)
+
+-- trees of level k and of the levels below it
+abbrev pub AreLevelsFrom : HssKey → ℕ → List LevelTrees → Type 0
+AreLevelsFrom key k levels =
+    (j : ℕ) (other : LevelTrees) → j < length levels → AreTrees key (k + j) (slice_index_or levels j other)
+
 -- trees of level k side by side, from number `first` on, for the indices from `start` to `last`
 abbrev pub HoldsTrees : HssKey → ℕ → ℕ → ℕ → ℕ → List SignedTree → Type 0
 HoldsTrees key k start last first trees =

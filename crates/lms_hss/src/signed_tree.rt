@@ -6,7 +6,7 @@ ghost use Rattle.lms_spec.specs.Hss.{level};
 ghost use Rattle.lms_spec.specs.Profile.{hss_public_key, leaf_at, tree_at};
 ghost use Rattle.lms_tree.specs.TreeKey.{tree_of, signature_length_under};
 ghost use Rattle.lms_hss.specs.Keys.{hss_key_of};
-ghost use Rattle.lms_hss.specs.Forests.{AreLeaves, IsChild, IsSignedTree};
+ghost use Rattle.lms_hss.specs.Forests.{AreLeaves, IsChild, IsMovedTree, IsSignedTree};
 ghost use Rattle.lms_hss.specs.Levels.{level_of};
 
 use crate::child_key::{child_key, randomizer};
@@ -82,6 +82,29 @@ impl SignedTree {
         )?;
         self.sign_key_into(q, &randomizer(&key, q), &public_bytes(&tree), &mut head);
         Ok(SignedTree { tree, head })
+    }
+
+    /// The same tree, which serves these leaves from now on. What it has of them is not computed
+    /// again.
+    pub(crate) fn moved_to(
+        self,
+        rt: &(impl Threads + Sync),
+        alloc: Global,
+        leaves: Leaves,
+        begun: &Begun<impl Progress>,
+    ) -> Result<Self, OutOfMemory>
+        requires { AreLeaves (tree_of self.tree.key).lms.h leaves }
+        ensures { IfOk result (IsMovedTree self leaves) }
+    {
+        let SignedTree { tree, head } = self;
+        let tree = tree.moved_to(rt, alloc, leaves.first, leaves.last, begun)?;
+        Ok(SignedTree { tree, head })
+    }
+
+    /// How many leaves `moved_to` does not compute, of all that the tree has.
+    pub(crate) fn leaves_spared(&self, leaves: Leaves) -> u64 {
+        let all = 1u64 << self.tree.key().lms.height();
+        all.saturating_sub(self.tree.leaves_to(leaves.first, leaves.last))
     }
 
     /// The public key of the HSS key whose tree of level 0 this is.

@@ -4,6 +4,7 @@ ghost use Rattle.std.specs.Prelude.{◌≡◌, ◌≤◌, length};
 mod damage;
 mod forests;
 mod keys;
+mod moves;
 mod pieces;
 mod verification;
 

@@ -4,9 +4,8 @@ use Rattle.lms_join.specs.Joined.{joined_public}
 use Rattle.lms_join.specs.Keys.{AreJoinable}
 use Rattle.lms_world.specs.Names.{Bytes}
 use Rattle.lms_world.specs.Held.{Follows, Held, answer_in}
-use Rattle.lms_commands.specs.InMemory.{OnlyFiles, WritesFile}
+use Rattle.lms_commands.specs.InMemory.{IsUnreadable, OnlyFiles, WritesFile}
 use Rattle.lms_commands.specs.Logs.{IsWriteRefused, WorldCalls}
-use Rattle.lms_commands.specs.ReadingInMemory.{IsUnreadable}
 use Rattle.lms_commands.specs.declared.fault.Fault.{Fault}
 use Rattle.lms_commands.specs.declared.fault.Fault.TheVariants.{BadPublicKey, OutOfMemory, ReadInput}
 use Rattle.lms_join_commands.specs.JoinLogs.{AreUnjoined, JoinNames, JoinParts, JoinsParts, LogsJoin, LogsJoinFailed}

@@ -12,8 +12,8 @@ use Rattle.lms_spec.specs.Parameters.{lms_signature_length, lms_public_key_lengt
 use Rattle.lms_spec.specs.Bytes.{below, u32str}
 use Rattle.lms_spec.specs.Ots.{ots_signature}
 use Rattle.lms_spec.specs.Tree.{Tree, lms_signature, public_key_of}
-use Rattle.lms_spec.specs.Hss.{HssKey, level as level_at, height_of, signed_public_key}
-use Rattle.lms_spec.specs.Profile.{leaf_at, for_randomizer, derived, child, tree_at, signed_key, hss_signature}
+use Rattle.lms_spec.specs.Hss.{HssKey, level as level_at, height_of}
+use Rattle.lms_spec.specs.Profile.{leaf_at, for_randomizer, derived, tree_at, signed_key, hss_signature}
 use Rattle.lms_spec.proofs.Below.{concat-below-suc}
 use Rattle.lms_spec.proofs.Hierarchies.{length-id, level-lms, level-ots, signature-parts}
 use Rattle.lms_spec.proofs.Lengths.{length-ots_signature, length-public_key}
@@ -28,59 +28,11 @@ use Rattle.lms_hss.specs.Levels.{level_of}
 use Rattle.lms_hss.specs.Keys.{hss_key_of, tree_number}
 use Rattle.lms_kept.specs.Ways.{AreGenuine, bottom_of, IsGenuine, IsKeptChild, IsMoved, IsOnWay, Serves, SignOwnKeys}
 use Rattle.lms_kept.specs.Ways.{SignsOwnKey, signed_keys, signed_length, signed_text, Way}
-use Rattle.lms_hss.proofs.Forests.{number-above}
+use Rattle.lms_hss.proofs.SharedWays.{above-same, keys-same, leaf-same, signed-same, tree-same}
 
 -- a key has as many levels as its code's
 pub levels-count : (key : KeyOfCode) → length (hss_key_of key).levels ≡ length key.levels
 levels-count key = length-map key.levels level_of
-
--- two indices that go through one tree go through the same trees above
-above-same : (key : HssKey) (k g g' : ℕ) → k < length key.levels
-    → tree_number key g (k + 1) ≡ tree_number key g' (k + 1)
-    → tree_number key g k ≡ tree_number key g' k
-above-same key k g g' there same =
-    sym (number-above key g k there) ∙ (ap (λ n. n / 2 ^ (level_at key k).lms.h) same ∙ number-above key g' k there)
-
--- by the same leaf above it
-leaf-same : (key : HssKey) (k g g' : ℕ) → tree_number key g (k + 1) ≡ tree_number key g' (k + 1)
-    → leaf_at key g k ≡ leaf_at key g' k
-leaf-same key k g g' same = ap (λ n. n % 2 ^ (level_at key k).lms.h) same
-
--- it is the same tree
-pub tree-same : (key : HssKey) (k g g' : ℕ) → k < length key.levels → tree_number key g k ≡ tree_number key g' k
-    → tree_at key g k ≡ tree_at key g' k
-tree-same key zero g g' there same = refl
-tree-same key (suc k) g g' there same =
-    let next : suc k ≡ k + 1 = omega arith in
-    let here : tree_number key g (k + 1) ≡ tree_number key g' (k + 1) =
-    subst (λ n. tree_number key g n ≡ tree_number key g' n) next same in
-    ap₂ (λ t q. child t q (level_at key (suc k)))
-    (tree-same key k g g' (omega arith) (above-same key k g g' (omega arith) here)) (leaf-same key k g g' here)
-
--- by the same signed key
-signed-same : (key : HssKey) (k g g' : ℕ) → k + 1 < length key.levels
-    → tree_number key g (k + 1) ≡ tree_number key g' (k + 1)
-    → signed_key key g k ≡ signed_key key g' k
-unfolding signed_key
-signed-same key k g g' there same =
-    let signed : Tree → ℕ → Tree → List ℕ = λ t q next. signed_public_key t q (derived t q for_randomizer) next in
-    ap₂ (λ t q. signed t q (tree_at key g (k + 1)))
-    (tree-same key k g g' (omega arith) (above-same key k g g' (omega arith) same)) (leaf-same key k g g' same)
-    ∙ ap (signed (tree_at key g' k) (leaf_at key g' k)) (tree-same key (k + 1) g g' there same)
-
--- and the same signed keys above
-keys-same : (key : HssKey) (k g g' : ℕ) → k < length key.levels → tree_number key g k ≡ tree_number key g' k
-    → concat (map (signed_key key g) (below k)) ≡ concat (map (signed_key key g') (below k))
-keys-same key zero g g' there same = refl
-keys-same key (suc k) g g' there same =
-    let next : suc k ≡ k + 1 = omega arith in
-    let here : tree_number key g (k + 1) ≡ tree_number key g' (k + 1) =
-    subst (λ n. tree_number key g n ≡ tree_number key g' n) next same in
-    subst (λ n. concat (map (signed_key key g) (below n)) ≡ concat (map (signed_key key g') (below n))) (sym next)
-    (concat-below-suc (signed_key key g) k
-    ∙ (ap₂ (λ x y. x ++ y) (keys-same key k g g' (omega arith) (above-same key k g g' (omega arith) here))
-    (signed-same key k g g' (omega arith) here)
-    ∙ sym (concat-below-suc (signed_key key g') k)))
 
 -- what is signed of a tree is the same by both
 pub signed-text-same : (key : HssKey) (k g g' : ℕ) → k < length key.levels → tree_number key g k ≡ tree_number key g' k

@@ -41,7 +41,7 @@ long-line (x ∷ front) rest one long =
       long = let len = length-append (x ∷ front) line.more in omega arith;
     }
 
-lines-one : (line : List ℕ) → 0 < length line → HasNoEnd line → lines_of line ≡ line ∷ []
+pub lines-one : (line : List ℕ) → 0 < length line → HasNoEnd line → lines_of line ≡ line ∷ []
 lines-one [] some one = absurd (let h : ⊥ = omega arith in h)
 lines-one (x ∷ line) some one = lines-last x line one
 

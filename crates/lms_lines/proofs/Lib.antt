@@ -6,3 +6,4 @@ pub mod Steps
 pub mod Outcomes
 pub mod Judging
 pub mod SignedLines
+pub mod Cutting

@@ -4,5 +4,6 @@ pub mod Gathered
 pub mod JobLines
 pub mod JobsLaws
 pub mod JobsTexts
+pub mod Pieces
 pub mod SignedLines
 pub mod TextLines

@@ -161,7 +161,7 @@ impl Gathering {
 }
 
 /// Where the first LF is.
-fn line_end(bytes: &[u8]) -> Option<usize>
+pub(crate) fn line_end(bytes: &[u8]) -> Option<usize>
     ensures { MatchOption result (HasNoEnd bytes.now) (λ at.
         (at < length bytes.now) × HasNoEnd (take at bytes.now) × (slice_index bytes.now at ≡ 10)) }
 {

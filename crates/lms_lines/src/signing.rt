@@ -6,7 +6,7 @@ ghost use Rattle.lms_lines.specs.SignedLines.{IsSigned, IsUnsigned, SignsLines, 
 use crate::answers::write_batch;
 use crate::fault::LinesFault;
 use crate::jobs::read_jobs;
-use lms_batch::{Batch, OpenGate, SigningService};
+use lms_batch::{Batch, OpenGate, SigningService, Trees};
 use lms_book::StateStore;
 use lms_hss::{Progress, Unwatched};
 use lms_shared_book::{BookLedger, Desk};
@@ -137,12 +137,44 @@ where
         (IsUnsigned service.now (I.remaining reader.old)
         (I.remaining reader.new) desk.old desk.new) }
 {
+    let trees = &mut Trees::per_batch();
+    read_and_sign_by(rt, alloc, service, reader, desk, workers, progress, trees)
+}
+
+/// As `read_and_sign`, by trees that are kept from one batch to the next, on which the answer does
+/// not depend.
+pub fn read_and_sign_by<S, E, G, B, R, I, P>(
+    rt: &R,
+    alloc: Global,
+    service: &SigningService<S, E, G, B>,
+    reader: &mut I,
+    desk: &mut Desk<E, G, B>,
+    workers: usize,
+    progress: &P,
+    trees: &mut Trees,
+) -> Result<SignedJobs, LinesFault>
+where
+    S: StateStore,
+    E: BookLedger,
+    G: BookLedger,
+    B: BookLedger,
+    R: Threads + Wait + Sync,
+    I: Read,
+    P: Progress,
+    requires some { 1 ≤ workers }
+    requires at_most { workers ≤ most_workers }
+    ensures signed { IfOk result
+        (IsSigned service.now (I.remaining reader.old) (I.remaining reader.new) desk.old desk.new) }
+    ensures unsigned { IfErr result
+        (IsUnsigned service.now (I.remaining reader.old)
+        (I.remaining reader.new) desk.old desk.new) }
+{
     let jobs = match read_jobs(alloc, reader) {
         Ok(jobs) => jobs,
         Err(fault) => return Err(LinesFault::Jobs(fault)),
     };
-    let batch = match service.sign_batch_watched(
-        rt, alloc, desk, &jobs, workers, &OpenGate, progress,
+    let batch = match service.sign_batch_by(
+        rt, alloc, desk, &jobs, workers, &OpenGate, progress, trees,
     ) {
         Ok(batch) => batch,
         Err(fault) => return Err(LinesFault::Batch(fault)),

@@ -1,6 +1,7 @@
 //! What no contract says: that good texts are read, and which fault a failed stream gives.
 
 mod answers;
+mod pieces;
 mod signing;
 
 use lms_batch::Job;

@@ -5,7 +5,7 @@ ghost use Rattle.std.specs.Prelude.{◌≡◌};
 
 use lms_tree::Progress;
 use std::io;
-use std::io::{Print, Write};
+use std::io::{Print, Read, Write};
 use std::sync::atomic::{AtomicBool, AtomicU64, Ordering};
 use std::time::{Clock, Duration};
 
@@ -19,8 +19,8 @@ const ELSEWHERE: u64 = 10_000_000_000;
 const WIPED: &str = "\r\x1b[K";
 
 /// Prints to `errors` how many leaves are done of how many. On a terminal that is one line, written
-/// again twice a second and cleared before anything else is printed; elsewhere it is a line every
-/// ten seconds. What can't be printed is left out.
+/// again twice a second and cleared before anything else is printed or read; elsewhere it is a line
+/// every ten seconds. What can't be printed is left out.
 #[derive(Drop)]
 pub struct Meter<'r, C, P> {
     clock: &'r C,
@@ -107,30 +107,39 @@ impl<'r, C: Clock + Sync, P: Print + Sync> Progress for Meter<'r, C, P> {
     }
 }
 
-/// A writer that clears the meter's line before each write.
+/// A stream that clears the meter's line before each write and each read, which may wait.
 #[derive(Drop)]
-pub struct Wiping<'m, 'r, C, P, W> {
+pub struct Wiping<'m, 'r, C, P, S> {
     meter: &'m Meter<'r, C, P>,
-    pub writer: W,
+    pub stream: S,
 }
 
-impl<'m, 'r, C, P, W> Wiping<'m, 'r, C, P, W> {
-    pub fn new(meter: &'m Meter<'r, C, P>, writer: W) -> Self
-        ensures { result.writer ≡ writer }
+impl<'m, 'r, C, P, S> Wiping<'m, 'r, C, P, S> {
+    pub fn new(meter: &'m Meter<'r, C, P>, stream: S) -> Self
+        ensures { result.stream ≡ stream }
     {
-        Wiping { meter, writer }
+        Wiping { meter, stream }
     }
 }
 
-impl<'m, 'r, C: Clock, P: Print, W: Write> Write for Wiping<'m, 'r, C, P, W> {
-    ghost contents = { λ wiping. W.contents wiping.writer };
+impl<'m, 'r, C: Clock, P: Print, S: Write> Write for Wiping<'m, 'r, C, P, S> {
+    ghost contents = { λ wiping. S.contents wiping.stream };
 
     fn write(&mut self, buf: &[u8]) -> io::Result<usize> {
         self.meter.wipe();
-        self.writer.write(buf)
+        self.stream.write(buf)
     }
 
     fn flush(&mut self) -> io::Result<()> {
-        self.writer.flush()
+        self.stream.flush()
+    }
+}
+
+impl<'m, 'r, C: Clock, P: Print, S: Read> Read for Wiping<'m, 'r, C, P, S> {
+    ghost remaining = { λ wiping. S.remaining wiping.stream };
+
+    fn read(&mut self, buf: &mut [u8]) -> io::Result<usize> {
+        self.meter.wipe();
+        self.stream.read(buf)
     }
 }

@@ -32,13 +32,12 @@ fn main(rt: HostRuntime) -> ExitCode {
             },
             arguments.as_slice(),
             &mut DiskWorld::new(&rt),
-            &mut rt.reader(),
+            &mut Wiping::new(&meter, rt.reader()),
             &mut Printer::new(Wiping::new(&meter, rt.stdout())),
             &mut Wiping::new(&meter, rt.stderr()),
         ),
         Err(fault) => report(fault, &mut errors),
     };
-    // Nothing more is printed.
     drop(held);
     ExitCode::from(status.code())
 }

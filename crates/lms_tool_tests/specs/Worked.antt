@@ -8,7 +8,9 @@ use Rattle.lms_hss.specs.declared.key.HssKey.{HssKey as KeyOfCode}
 use Rattle.lms_image.specs.Image.{HasImage, image_of}
 use Rattle.lms_book.specs.Stops.{StoreView, Texts, after_failure, after_write, having_given, moved, only, or_else}
 use Rattle.lms_world.specs.Events.{PutBack, Taken, Taking}
-use Rattle.lms_commands.specs.Histories.{IsCarriedAlong, IsSignature, IsTurn, Signature, TakenTurn, Uses}
+use Rattle.lms_commands.specs.Histories.{AreLinked, FindsText, IsCarriedAlong, IsSignature, IsTurn, Signature}
+use Rattle.lms_commands.specs.Histories.{StateTexts}
+use Rattle.lms_commands.specs.Histories.{TakenTurn, Uses}
 use Rattle.lms_commands.specs.Logs.{KeyState}
 
 -- a key's state after so many signatures, each of an opening of its own
@@ -24,6 +26,7 @@ abbrev pub run_at : KeyOfCode → ℕ → Taking → StoreView → List Signatur
 run_at key n taken left signatures =
     record {
       turn = Uses 1 (state_at key n) (image_after key n);
+      due = None;
       signatures = signatures;
       whole = PutBack left ∷ Taken (Some taken) ∷ [];
       begun = PutBack left ∷ Taken (Some taken) ∷ [];
@@ -40,6 +43,23 @@ WorkedRuns = (key : KeyOfCode) (taken : Taking) (given : StoreView) (first third
     (run_at key 0 taken (after_write (image_after key 1) given) first
     ∷ run_at key 1 taken (one_of_two key given) []
     ∷ run_at key 2 taken (after_write (image_after key 3) given) third ∷ [])
+
+-- two turns of one run, the second after the first stored its image for certain
+abbrev pub next_turn : KeyOfCode → Taking → StoreView → TakenTurn
+next_turn key taken given =
+    record (run_at key 1 taken (after_write (image_after key 2) given) []) { due = Some (image_after key 1) }
+
+abbrev pub both_turns : KeyOfCode → Taking → StoreView → List TakenTurn
+both_turns key taken given =
+    run_at key 0 taken (after_write (image_after key 1) given) [] ∷ next_turn key taken given ∷ []
+
+-- they are linked, and carry along what is stored, though nothing is said of what was found by the
+-- second
+abbrev pub WorkedLink : Type 0
+WorkedLink = (key : KeyOfCode) (taken : Taking) (given : StoreView)
+    → AreLinked None (both_turns key taken given)
+    × IsCarriedAlong (Some (image_after key 0) ∷ []) (both_turns key taken given)
+    × ((held : StateTexts) → FindsText (next_turn key taken given).turn (next_turn key taken given).due held)
 
 -- a store that holds one of these byte strings, as it is taken out
 abbrev pub holding : Texts → Taking

@@ -10,6 +10,7 @@ mod meter;
 mod recorded;
 mod replays;
 mod seeds;
+mod serve;
 mod states;
 
 use lms_cli::run::run;

@@ -1,10 +1,15 @@
-//! A worked case of a premise, as a contract.
-ghost use Rattle.lms_tool_tests.specs.Worked.{WorkedRuns, WorkedTurns};
+//! Worked cases of a premise, as contracts.
+ghost use Rattle.lms_tool_tests.specs.Worked.{WorkedLink, WorkedRuns, WorkedTurns};
 
 /// Runs one after another can carry along what is stored, with a failed write between them: so the
 /// premise on which no index leaves twice is not one that nothing meets.
 pub fn runs_carry_their_state_along()
     ensures { WorkedRuns }
+{}
+
+/// Two turns of one run are linked, and nothing is asked of what the second finds.
+pub fn later_turns_are_linked()
+    ensures { WorkedLink }
 {}
 
 /// Such runs take their turns at the state: by what they read and store, the first and the third

@@ -1,5 +1,5 @@
 -- Which rows of a tree are held, where a range of its leaves is served.
-use Rattle.std.specs.Prelude.{ℕ, ◌≡◌, ◌+◌, ◌-◌, ◌*◌, ◌/◌, ◌^◌, ◌<◌, ◌≤◌, List, length, min}
+use Rattle.std.specs.Prelude.{ℕ, ◌≡◌, ◌+◌, ◌-◌, ◌*◌, ◌/◌, ◌^◌, ◌<◌, ◌≤◌, ◌==◌, ◌&&◌, if◌then◌else◌, List, length, min}
 use Rattle.lms_tree.specs.declared.tree_key.TreeKey.{TreeKey}
 use Rattle.lms_tree.specs.declared.band.Rows.{Rows}
 use Rattle.lms_tree.specs.TreeKey.{tree_of}
@@ -39,6 +39,14 @@ lower_rows h first last = record {
   width = subtrees h first last;
   depth = bottom_height h;
 }
+
+-- how many leaves are computed so that other leaves are served: none where the same subtrees hold
+-- these, else all leaves of theirs
+abbrev pub moved_leaves : ℕ → ℕ → ℕ → ℕ → ℕ → ℕ
+moved_leaves h old_first old_last first last =
+    if (first / 2 ^ bottom_height h == old_first / 2 ^ bottom_height h)
+    && (last / 2 ^ bottom_height h == old_last / 2 ^ bottom_height h)
+    then 0 else subtrees h first last * 2 ^ bottom_height h
 
 -- the number of nodes of both: the nodes from the root down to the roots of the bottom subtrees,
 -- and all nodes of each subtree that holds one of the leaves

@@ -168,6 +168,15 @@ impl Band {
         self.rows
     }
 
+    /// Whether these are the rows.
+    pub(crate) fn has_rows(&self, rows: Rows) -> bool
+        ensures { IsTrue result → self.now.rows ≡ rows }
+    {
+        self.rows.first == rows.first
+            && self.rows.width == rows.width
+            && self.rows.depth == rows.depth
+    }
+
     /// The nodes, row after row from the top.
     pub(crate) fn into_nodes(self) -> Vec<[u8; HASH_LEN]>
         ensures held { HoldsRows self.key self.rows result.items }

@@ -2,7 +2,7 @@
 ghost use Rattle.std.specs.Prelude.{◌≡◌, ◌+◌, ◌/◌, ◌^◌, ◌<◌, ◌≤◌, IfOk};
 ghost use Rattle.lms_tree.specs.TreeKey.{tree_of};
 ghost use Rattle.lms_params.specs.LmsType.{lms_set_of};
-ghost use Rattle.lms_tree.specs.Bands.{bottom_height as bottom_height_of, CanServe, kept_nodes, lower_rows as lower_rows_of, most_kept, most_kept_of_20};
+ghost use Rattle.lms_tree.specs.Bands.{bottom_height as bottom_height_of, CanServe, kept_nodes, lower_rows as lower_rows_of, most_kept, most_kept_of_20, moved_leaves};
 ghost use Rattle.lms_tree.specs.Kept.{AreNodes, HasShape, ServesLeaf, upper_rows as upper_rows_of};
 
 use crate::band::{Band, Rows};
@@ -72,6 +72,63 @@ impl BandTree {
     {
         let planned = PlannedTree::new(alloc, key, first, last)?;
         Ok(planned.build(rt, begun))
+    }
+
+    /// Moves on to other leaves of the tree, from `first` to `last`, at most 1024. The upper nodes
+    /// stay. Where the first and the last of these leaves are in the same bottom subtrees as those of
+    /// before, nothing is computed; else all of the new ones' bottom subtrees are, and their leaves
+    /// are reported to the `Progress` of `begun`.
+    /// `OutOfMemory` where the one request for memory is refused, before anything is computed.
+    pub fn moved_to(
+        self,
+        rt: &(impl Threads + Sync),
+        alloc: Global,
+        first: u32,
+        last: u32,
+        begun: &Begun<impl Progress>,
+    ) -> Result<Self, OutOfMemory>
+        requires { CanServe self.key first last }
+        ensures { IfOk result (λ tree.
+            tree ≡ record { key = self.key; first = first; last = last }) }
+    {
+        let BandTree {
+            first: _,
+            last: _,
+            upper,
+            lower,
+        } = self;
+        let key = upper.key();
+        let rows = lower_rows(key.lms, first, last);
+        if lower.has_rows(rows) {
+            return Ok(BandTree {
+                first,
+                last,
+                upper,
+                lower,
+            });
+        }
+        let memory = rows.allocate(alloc)?;
+        let lower = Band::build(rt, key, rows, memory, None, begun);
+        Ok(BandTree {
+            first,
+            last,
+            upper,
+            lower,
+        })
+    }
+
+    /// How many leaves `moved_to` computes: none where the first and the last of these leaves are in
+    /// the same bottom subtrees as those of before, else all that the new ones' bottom subtrees have.
+    pub fn leaves_to(&self, first: u32, last: u32) -> u64
+        ensures { result ≡ moved_leaves (tree_of self.now.key).lms.h
+            self.now.first self.now.last first last }
+    {
+        let depth = bottom_height(self.upper.key().lms);
+        let (from, to) = (first >> depth, last >> depth);
+        if from == self.first >> depth && to == self.last >> depth {
+            return 0;
+        }
+        (u64::from(to.saturating_sub(from)) + 1) << depth
     }
 
     /// The number of nodes that are held: those from the root down to the roots of all bottom

@@ -1,4 +1,5 @@
 mod kept;
+mod moves;
 mod nodes;
 mod progress;
 mod vectors;

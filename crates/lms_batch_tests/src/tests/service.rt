@@ -3,12 +3,14 @@ ghost use Rattle.lms_shared_book.specs.Desks.{BlankFits};
 
 mod at_once;
 mod gates;
+mod kept;
 mod memory;
 mod outcome;
 
 use crate::tests::fixtures::{LEVELS, job, public_key};
 use gates::Meeting;
-use lms_batch::{BatchFault, Gate, Job, MOST_WORKERS, OpenGate, SigningService};
+use kept::Means;
+use lms_batch::{BatchFault, Gate, Job, MOST_WORKERS, OpenGate, SigningService, Trees};
 use lms_book::{Book, BookFault, Entry, Left, MemoryStore};
 use lms_fixtures::{book_of, key_of, store_at};
 use lms_params::OutOfMemory;
@@ -39,18 +41,26 @@ fn counts<E: BookLedger, G: BookLedger, B: BookLedger>(desk: &Desk<E, G, B>) -> 
     (desk.entries(), desk.received(), desk.burnt())
 }
 
-/// Asks for a batch of so many of the jobs, by 1 to `MOST_WORKERS` workers.
+/// Asks for a batch of so many of the jobs, by 1 to `MOST_WORKERS` workers, and by trees of its own
+/// where all desks ask at once.
 fn answer_at<E: BookLedger, G: BookLedger, B: BookLedger, W: Gate>(
     rt: &(impl AllocGlobal + Threads + Wait + Sync),
     service: &SigningService<MemoryStore, E, G, B>,
     desk: &mut Desk<E, G, B>,
     asked: &Asked<W>,
     length: usize,
+    means: &mut Means,
 ) -> Answer {
     let length = length.min(asked.jobs.len());
     let workers = asked.workers.clamp(1, MOST_WORKERS);
     let jobs = &asked.jobs[..length];
-    let batch = service.sign_batch(rt, rt.alloc(), desk, jobs, workers, asked.gate);
+    let (alloc, gate) = (rt.alloc(), asked.gate);
+    let batch = if asked.at_once {
+        service.sign_batch(rt, alloc, desk, jobs, workers, gate)
+    } else {
+        let trees = &mut means.trees;
+        service.sign_batch_by(rt, alloc, desk, jobs, workers, gate, &means.sums, trees)
+    };
     Answer {
         batch,
         counts: counts(desk),
@@ -72,10 +82,11 @@ fn answers_at<E: BookLedger, G: BookLedger, B: BookLedger, W: Gate>(
     service: &SigningService<MemoryStore, E, G, B>,
     desk: &mut Desk<E, G, B>,
     asked: &Asked<W>,
+    means: &mut Means,
 ) -> Result<Vec<Answer>, OutOfMemory> {
     let mut answers = no_answers(rt.alloc(), asked.lengths.len())?;
     for length in asked.lengths {
-        answers.push(answer_at(rt, service, desk, asked, *length))?;
+        answers.push(answer_at(rt, service, desk, asked, *length, means))?;
     }
     Ok(answers)
 }
@@ -88,7 +99,8 @@ fn visited<E: BookLedger, G: BookLedger, B: BookLedger, W: Gate>(
     asked: &Asked<W>,
 ) -> (Desk<E, G, B>, Result<Vec<Answer>, OutOfMemory>) {
     let mut desk = desk;
-    let answers = answers_at(rt, service, &mut desk, asked);
+    let mut means = Means::new(Trees::per_batch());
+    let answers = answers_at(rt, service, &mut desk, asked, &mut means);
     (desk, answers)
 }
 
@@ -127,6 +139,7 @@ fn asked_for<
     service: &SigningService<MemoryStore, E, G, B>,
     desks: Vec<Desk<E, G, B>>,
     asked: &Asked<W>,
+    means: &mut Means,
 ) -> Result<(Vec<Desk<E, G, B>>, Vec<Answer>), Fail> {
     if asked.at_once {
         let visits = thread::map_vec(rt, desks, &|desk| visited(rt, service, desk, asked))?;
@@ -134,7 +147,7 @@ fn asked_for<
     }
     let mut desks = desks;
     let desk = desks.first_mut().ok_or("a desk")?;
-    let answers = answers_at(rt, service, desk, asked)?;
+    let answers = answers_at(rt, service, desk, asked, means)?;
     Ok((desks, answers))
 }
 
@@ -149,9 +162,10 @@ fn settled<
     service: SigningService<MemoryStore, E, G, B>,
     desks: Vec<Desk<E, G, B>>,
     asked: &Asked<W>,
+    means: &mut Means,
 ) -> Result<Outcome, Fail> {
     let key = service.key();
-    let (desks, answers) = asked_for(rt, &service, desks, asked)?;
+    let (desks, answers) = asked_for(rt, &service, desks, asked, means)?;
     match service.into_book().settle(desks) {
         Ok(book) => Ok(Outcome { key, answers, book }),
         Err(_) => Err(Fail::from("all desks are there")),
@@ -169,6 +183,7 @@ fn carried_out<
     book: Book<MemoryStore>,
     blanks: Blanks,
     asked: &Asked<W>,
+    means: &mut Means,
 ) -> Result<Outcome, Fail>
     requires same { book ≡ E.book }
     requires entries { BlankFits blanks.entries E.name E.parts 5 }
@@ -180,7 +195,7 @@ fn carried_out<
         answer => answer,
     };
     match shared {
-        Ok((shared, desks)) => settled(rt, SigningService::over(shared), desks, asked),
+        Ok((shared, desks)) => settled(rt, SigningService::over(shared), desks, asked, means),
         Err(_) => Err(Fail::from("memory for desks")),
     }
 }
@@ -190,6 +205,7 @@ fn carry_out<W: Gate>(
     rt: &(impl AllocGlobal + Threads + Wait + Sync),
     store: MemoryStore,
     asked: &Asked<W>,
+    means: &mut Means,
 ) -> Result<Outcome, Fail> {
     let book = book_of(rt.alloc(), store)?;
     let blanks = Blanks {
@@ -197,7 +213,17 @@ fn carry_out<W: Gate>(
         received: Blank::new(5),
         burnt: Blank::new(5),
     };
-    carried_out::<Brand, Brand, Brand, W>(rt, book, blanks, asked)
+    carried_out::<Brand, Brand, Brand, W>(rt, book, blanks, asked, means)
+}
+
+/// The same, by trees of each batch alone.
+fn carry_out_alone<W: Gate>(
+    rt: &(impl AllocGlobal + Threads + Wait + Sync),
+    store: MemoryStore,
+    asked: &Asked<W>,
+) -> Result<Outcome, Fail> {
+    let mut means = Means::new(Trees::per_batch());
+    carry_out(rt, store, asked, &mut means)
 }
 
 /// As many jobs, whose messages are the numbers from 0 on, and whose randomizers begin with them.
@@ -231,7 +257,7 @@ fn signed_from(
         gate: &OpenGate,
         at_once: false,
     };
-    carry_out(rt, store, &asked)
+    carry_out_alone(rt, store, &asked)
 }
 
 /// Whether so many workers sign four jobs.
@@ -283,7 +309,7 @@ fn signed_past_a_failed_write(
         gate: &OpenGate,
         at_once: false,
     };
-    carry_out(rt, store, &asked)
+    carry_out_alone(rt, store, &asked)
 }
 
 /// A batch of four whose write fails burns its indices, and the next one goes on after them.
@@ -336,7 +362,7 @@ fn signed_at<W: Gate>(
         gate,
         at_once: false,
     };
-    carry_out(rt, store, &asked)
+    carry_out_alone(rt, store, &asked)
 }
 
 /// Whether so many workers sign two jobs, where one alone waits in vain for another.

@@ -39,6 +39,18 @@ hexadecimal digits; 1024 lines at most. So for the message `abc`:
 An answer line is the index, one space, and the signature in hexadecimal. The indices count as used before the first signature
 is made. Never sign with an older copy of a state.";
 
+pub(super) const SERVE_NOTE: &str =
+    "Example, where a program opens `jobs`, then `answers`, and writes job lines and reads their answers:
+  mkfifo jobs answers
+  lms_tool serve --state key.state --workers 4 < jobs > answers
+
+Stays until its input ends, and answers job lines as they come. Job lines and answer lines are those of `batch`, in any number.
+Lines that were read whole are a group: their indices count as used, by one write of the state, before the first of them is
+signed, and their answers are printed before more is read. Read answers while you write lines, or both sides may stand still.
+The state is locked all the time, and where another is put in its place nothing more is signed. Trees are kept in memory.
+
+A line that is no job line ends it, after the answers of all lines before it. Never sign with an older copy of a state.";
+
 pub(super) const VERIFY_NOTE: &str = "Example:
   lms_tool verify --public key.pub --message firmware.bin --signature firmware.sig
 

@@ -1,6 +1,6 @@
 //! What the program's usage promises, over clap's definition of it.
 
-ghost use Rattle.lms_cli.specs.UsageArguments.{BatchIsTaken, InfoIsTaken, JoinIsTaken, JoinPublicIsTaken, KeygenIsTaken, PublicIsTaken, SignIsTaken, VerifyIsTaken};
+ghost use Rattle.lms_cli.specs.UsageArguments.{BatchIsTaken, InfoIsTaken, JoinIsTaken, JoinPublicIsTaken, KeygenIsTaken, PublicIsTaken, ServeIsTaken, SignIsTaken, VerifyIsTaken};
 
 /// `keygen --levels=L --seed=S --id=I --state=K --public=P` is taken for any five texts, as
 /// `keygen` with these.
@@ -27,6 +27,11 @@ pub fn sign_is_taken()
 /// `batch --state=K --workers=N` is taken for any two texts, as `batch` with these.
 pub fn batch_is_taken()
     ensures { BatchIsTaken }
+{}
+
+/// `serve --state=K --workers=N` is taken for any two texts, as `serve` with these.
+pub fn serve_is_taken()
+    ensures { ServeIsTaken }
 {}
 
 /// `verify --public=P --message=M --signature=S` is taken for any three names, as `verify` on P, M

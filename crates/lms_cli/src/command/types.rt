@@ -35,6 +35,12 @@ pub enum Command {
         state: String,
         workers: String,
     },
+    /// Sign the job lines of standard input as they come, by the key whose state is in a file, by so
+    /// many workers, a number in decimal.
+    Serve {
+        state: String,
+        workers: String,
+    },
     /// Verify a signature. Each text names a file.
     Verify {
         public: String,

@@ -262,3 +262,28 @@ fn reports_all_leaves(rt: HostRuntime) -> Result<(), Fail> {
     assert!(rt; sums.are(2, 32 + 5 * 32));
     Ok(())
 }
+
+/// Each move computes the trees that are new alone: none, the bottom tree, the lower two, and so
+/// again on the way back.
+#[test]
+fn moves_on_by_what_is_new(rt: HostRuntime) -> Result<(), Fail> {
+    let key = key_of(&[QUICK; 3], 0x11)?;
+    let public = key.public_key(&rt, rt.alloc())?;
+    let sums = Sums::new();
+    assert!(rt; key.capacity() >= 1026);
+    let forest = Forest::cover_watched(&rt, rt.alloc(), key, 990, 1, &sums)?;
+    assert!(rt; sums.are(1, 3 * 32));
+    let forest = forest.moved_to_watched(&rt, 991, 1, &sums)?;
+    assert!(rt; sums.are(2, 3 * 32));
+    let forest = forest.moved_to_watched(&rt, 992, 32, &sums)?;
+    assert!(rt; sums.are(3, 4 * 32));
+    let forest = forest.moved_to_watched(&rt, 1024, 2, &sums)?;
+    assert!(rt; sums.are(4, 6 * 32));
+    assert!(rt; forest.public() == public);
+    let signature = signature_of(&forest, 1025, &RANDOMIZER, b"abc")?;
+    check_accepted(&rt, &public, &signature);
+    let forest = forest.moved_to_watched(&rt, 1023, 2, &sums)?;
+    drop(forest);
+    assert!(rt; sums.are(5, 10 * 32));
+    Ok(())
+}

@@ -1,6 +1,7 @@
 ghost use Rattle.std.specs.Prelude.{◌≡◌, ◌≤◌};
 ghost use Rattle.lms_shared_book.specs.Desks.{BlankFits};
 
+mod kept;
 mod memory;
 mod reading;
 
@@ -24,6 +25,8 @@ use std::thread::Threads;
 enum Scenario {
     /// Batches one after another, some of which fail.
     Batches,
+    /// Four lines that come in pieces, by trees that are kept.
+    Pieces,
     /// Four lines by four workers, where any request for memory may be refused.
     RefusedMemory,
     /// Four lines to a writer that fails after so many writes, or takes nothing, and four more.
@@ -264,6 +267,7 @@ fn carry_on<E: BookLedger, G: BookLedger, B: BookLedger>(
     };
     match scenario {
         Scenario::Batches => sign_batches(rt, &service, desk),
+        Scenario::Pieces => kept::sign_pieces(rt, &service, desk),
         Scenario::RefusedMemory => memory::sign_four(rt, service, desks),
         Scenario::FailedWriter { writes, fails } => {
             fail_to_write(rt, &service, desk, writes, fails)

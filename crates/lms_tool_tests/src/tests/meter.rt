@@ -10,7 +10,7 @@ use lms_meter::{Meter, Wiping};
 use lms_world::{MemoryWorld, Printer, World};
 use std::fmt::Display;
 use std::io;
-use std::io::{Print, Write};
+use std::io::{Print, Read, Write};
 use std::sync::atomic::{AtomicU64, Ordering};
 use std::sync::{Mutex, Wait};
 use std::test::Fail;
@@ -126,7 +126,23 @@ fn on_a_terminal_a_line_goes_before_others_come(rt: HostRuntime) -> Result<(), F
     output.flush()?;
     output.write_all(b"more\n")?;
     assert!(rt; errors.is("\r\x1b[K2 of 4 leaves\r\x1b[K4 of 4 leaves\r\x1b[K"));
-    assert!(rt; output.writer.0.as_slice() == b"index |0\n|!more\n|".as_slice());
+    assert!(rt; output.stream.0.as_slice() == b"index |0\n|!more\n|".as_slice());
+    Ok(())
+}
+
+#[test]
+fn on_a_terminal_a_line_goes_before_a_read(rt: HostRuntime) -> Result<(), Fail> {
+    let clock = SetClock::new();
+    let errors = Kept::new(&rt);
+    let meter = Meter::new(&clock, &errors, true);
+    let mut input = Wiping::new(&meter, b"more".as_slice());
+    meter.begin(4);
+    clock.set(1500);
+    meter.done(4);
+    let mut block = [0; 8];
+    assert!(rt; input.read(&mut block)? == 4);
+    assert!(rt; &block[..4] == b"more".as_slice());
+    assert!(rt; errors.is("\r\x1b[K4 of 4 leaves\r\x1b[K"));
     Ok(())
 }
 
@@ -196,6 +212,6 @@ fn what_can_not_be_printed_is_left_out(rt: HostRuntime) -> Result<(), Fail> {
     clock.set(1500);
     meter.done(4);
     output.write_all(b"index 0\n")?;
-    assert!(rt; output.writer.0.as_slice() == b"index 0\n|".as_slice());
+    assert!(rt; output.stream.0.as_slice() == b"index 0\n|".as_slice());
     Ok(())
 }

@@ -15,7 +15,7 @@ use std::test::Fail;
 use std::thread::Threads;
 
 /// What serves the bottom subtree of a leaf, computed.
-fn kept(
+pub(super) fn kept(
     rt: &(impl Abort + AllocGlobal + Threads + Sync),
     key: TreeKey,
     leaf: u32,

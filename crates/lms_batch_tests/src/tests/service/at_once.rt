@@ -1,6 +1,6 @@
 //! Batches at several desks at once.
 use super::outcome::{Outcome, starts_of};
-use super::{Asked, carry_out, jobs_of};
+use super::{Asked, carry_out_alone, jobs_of};
 use crate::tests::fixtures::{LEVELS, public_key};
 use lms_batch::{Job, OpenGate};
 use lms_book::Entry;
@@ -23,7 +23,7 @@ fn signed_at_once(
         gate: &OpenGate,
         at_once: true,
     };
-    carry_out(rt, store, &asked)
+    carry_out_alone(rt, store, &asked)
 }
 
 /// Whether each of four desks counted two batches of eight in the end.

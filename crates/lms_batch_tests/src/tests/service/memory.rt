@@ -1,7 +1,7 @@
 //! Batches where a request for memory is refused.
 use super::gates::Notes;
 use super::outcome::Outcome;
-use super::{Asked, carry_out, jobs_of};
+use super::{Asked, carry_out_alone, jobs_of};
 use crate::tests::fixtures::CHEAP;
 use crate::tests::slow;
 use lms_batch::{Batch, BatchFault, Job};
@@ -90,7 +90,7 @@ fn signed_four(
         gate: notes,
         at_once: false,
     };
-    carry_out(rt, store, &asked)
+    carry_out_alone(rt, store, &asked)
 }
 
 /// Whether the batch has these signatures, or some of them, or none, and the same was reported to

@@ -33,6 +33,18 @@ returns-in_ok-sign_jobs-in-Batch-clause-logged g c =
     c.in_ok-sign_jobs-in-Batch.ensures.logged in
     rw c.in-Batch.is (refl, logged)
 
+pub returns-in_err-serve_jobs-in-Serve-clause-log_failed : goal.returns-in_err-serve_jobs-in-Serve-clause-log_failed
+returns-in_err-serve_jobs-in-Serve-clause-log_failed g c =
+    let failed = rw (c.deref-in-Serve.ensures, c.deref-in-Serve-2.ensures) at
+    c.in_err-serve_jobs-in-Serve.ensures.log_failed in
+    rw c.in-Serve.is (passed_up _ _ _ c.from_residual-in_err-serve_jobs-in-Serve.ensures.1 failed)
+
+pub returns-in_ok-serve_jobs-in-Serve-clause-logged : goal.returns-in_ok-serve_jobs-in-Serve-clause-logged
+returns-in_ok-serve_jobs-in-Serve-clause-logged g c =
+    let logged = rw (c.deref-in-Serve.ensures, c.deref-in-Serve-2.ensures) at
+    c.in_ok-serve_jobs-in-Serve.ensures.logged in
+    rw c.in-Serve.is (refl, logged)
+
 pub returns-in_ok-describe-in-Info-clause-logged : goal.returns-in_ok-describe-in-Info-clause-logged
 returns-in_ok-describe-in-Info-clause-logged g c =
     let logged = rw c.deref-in-Info.ensures at c.in_ok-describe-in-Info.ensures.logged in

@@ -1,6 +1,6 @@
 use Rattle.std.proofs.Common.{zero, suc, ◌≡◌, ◌∙◌, ◌∷◌, [], ◌+◌, ⊎_elim, ℕ, List, Option, Some, None, ap, inl, inr}
 use Rattle.std.proofs.Common.{refl, sym, arith}
-use Rattle.std.specs.Prelude.{◌⊎◌, Contains}
+use Rattle.std.specs.Prelude.{◌⊎◌, ◌≢◌, Contains}
 use Rattle.lms_hss.specs.declared.key.HssKey.{HssKey as KeyOfCode}
 use Rattle.lms_book.specs.Stops.{StoreView, Texts, after_write}
 use Rattle.lms_world.specs.Events.{Event, PutBack, Taking}
@@ -31,6 +31,10 @@ abbrev how_many : Texts → ℕ
 how_many (Some (text ∷ [])) = 1
 how_many other = 0
 
+-- a run that came to its state
+came : (store : Event) (calls : List Event) → store ∷ calls ≢ []
+came store calls none = cc none
+
 -- a run whose image is stored for certain
 module _ (key : KeyOfCode) (n : ℕ) (taken : Taking) (given : StoreView) (signatures : List Signature) where
   stored : (held : StateTexts) → Contains held (Some (image_after key n))
@@ -60,10 +64,10 @@ tried key taken given = record {
 pub returns : goal.returns
 returns c = λ key taken given first third. (
   Some (image_after key 1) ∷ [],
-  inr (stored key 0 taken given first _ (0, omega arith, refl)),
+  inr (came _ _, stored key 0 taken given first _ (0, omega arith, refl)),
   (
     Some (image_after key 2) ∷ Some (image_after key 1) ∷ [],
-    inr (tried key taken given),
-    (Some (image_after key 3) ∷ [], inr (stored key 2 taken given third _ (0, omega arith, refl)), tt),
+    inr (came _ _, tried key taken given),
+    (Some (image_after key 3) ∷ [], inr (came _ _, stored key 2 taken given third _ (0, omega arith, refl)), tt),
   ),
 )

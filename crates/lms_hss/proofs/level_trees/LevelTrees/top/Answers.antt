@@ -19,13 +19,12 @@ pub returns : goal.returns
 returns g c =
     let key = hss_key_of c.args.key.now in
     let within = c.requires.within in
-    let one : c.push_reserved.new.self.items ≡ c.in_ok-top.field-0 ∷ []
-    = c.push_reserved.ensures.items ∙ ap (λ trees. trees ++ c.in_ok-top.field-0 ∷ []) c.in_ok-trees.ensures.items in
+    let tree = c.in_ok-top_tree.field-0 in
+    let one : c.push_reserved.new.self.items ≡ tree ∷ []
+    = c.push_reserved.ensures.items ∙ ap (λ trees. trees ++ tree ∷ []) c.in_ok-trees.ensures.items in
     record {
       first = sym (top-number key c.args.start (omega (arith, within, c.requires.order)));
       count = omega (arith, ap length one, top-number key c.args.last within);
-      held = holds-one key c.args.start c.args.last c.in_ok-top.field-0 c.push_reserved.new.self.items one within
-          (λ i from to.
-          c.in_ok-top.ensures i (c.leaves-leaves.ensures.from i from (top-number key i (omega (arith, to, within))))
-          (c.leaves-leaves.ensures.to i to (top-number key i (omega (arith, to, within)))));
+      held = holds-one key c.args.start c.args.last tree c.push_reserved.new.self.items one within
+          (λ i from to. c.in_ok-top_tree.ensures i from to (top-number key i (omega (arith, to, within))));
     }

@@ -15,7 +15,8 @@ use Rattle.lms_hss.specs.Levels.{IsAdmitted, levels_of}
 use Rattle.lms_kept.specs.Ways.{AreGenuine, bottom_of, EndsAlong, IsGenuine, IsOnWay, IsWay, Serves, signed_keys, Way}
 use Rattle.lms_hss.proofs.Keys.{key-accepts}
 use Rattle.lms_kept.proofs.SignatureLengths.{of-sets, own-signature, signature-length}
-use Rattle.lms_kept.proofs.Ways.{bottom-same, kept-signature, levels-count, served-subtree, served-same, tree-same}
+use Rattle.lms_hss.proofs.SharedWays.{tree-same}
+use Rattle.lms_kept.proofs.Ways.{bottom-same, kept-signature, levels-count, served-subtree, served-same}
 use Rattle.lms_kept.proofs.kept_trees.KeptTrees.signed.Goals as goal
 use Rattle.lms_kept.proofs.kept_trees.KeptTrees.signed.Goals.{After-leaf_of}
 

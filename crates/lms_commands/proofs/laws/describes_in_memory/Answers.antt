@@ -1,8 +1,0 @@
-use Rattle.lms_commands.proofs.ReadingInMemory.{fails_to_describe_in_memory, describes_in_memory}
-use Rattle.lms_commands.proofs.laws.describes_in_memory.Goals as goal
-
-pub returns-clause-done : goal.returns-clause-done
-returns-clause-done c = describes_in_memory
-
-pub returns-clause-fails : goal.returns-clause-fails
-returns-clause-fails c = fails_to_describe_in_memory

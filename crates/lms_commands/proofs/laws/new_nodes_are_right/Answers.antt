@@ -1,5 +1,0 @@
-use Rattle.lms_commands.proofs.NodesStaying.{new_nodes_are_right}
-use Rattle.lms_commands.proofs.laws.new_nodes_are_right.Goals as goal
-
-pub returns : goal.returns
-returns c = new_nodes_are_right

@@ -1,0 +1,21 @@
+-- What `keygen`, `public` and `info` hand out.
+use Rattle.std.specs.Prelude.{◌≡◌, ◌⊎◌, ◌+◌, ◌<◌, ◌≤◌, ℕ, List, [], ◌∷◌, ◌++◌, if◌then◌else◌}
+use Rattle.lms_spec.specs.Profile.{hss_public_key}
+use Rattle.lms_hss.specs.Keys.{hss_key_of}
+use Rattle.lms_hss.specs.declared.key.HssKey.{HssKey as KeyOfCode}
+use Rattle.lms_key_commands.specs.KeygenLogs.{capacity_line}
+use Rattle.lms_key_commands.specs.InfoLogs.{info_of}
+use Rattle.lms_commands.specs.Logs.{KeyState, WorldCalls}
+use Rattle.lms_commands.specs.Histories.{Prints, written_in}
+
+-- a public key is written to a file, and at most the key's capacity is printed
+abbrev pub HandsKey : WorldCalls → List ℕ → List ℕ → Type 0
+HandsKey whole before printed =
+    (key : KeyOfCode) × (written_in whole ≡ hss_public_key (hss_key_of key) ∷ [])
+    × Prints before printed (capacity_line key)
+
+-- no file is written, and at most what a state says is printed
+abbrev pub HandsState : WorldCalls → List ℕ → List ℕ → Type 0
+HandsState whole before printed =
+    (written_in whole ≡ [])
+    × ((printed ≡ before) ⊎ ((read : KeyState) × Prints before printed (info_of read)))

@@ -1,0 +1,13 @@
+//! What the commands on keys do, from their options' texts to the bytes on their output.
+//!
+//! Files and states are reached through a [`World`](lms_world::World).
+#![tactic(auto)]
+
+mod info;
+mod keygen;
+pub mod laws;
+mod public;
+
+pub use crate::info::describe;
+pub use crate::keygen::{key_from, make_key};
+pub use crate::public::publish_key;

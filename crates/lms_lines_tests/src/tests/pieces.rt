@@ -1,0 +1,269 @@
+//! What no contract says of pieces: that they come as soon as a line's end was read, and are as
+//! large as they may be then.
+ghost use Rattle.std.specs.Prelude.{◌≤◌};
+
+use crate::tests::{line_of_digits, source_of};
+use lms_lines::{JobsFault, Pieces, end_of_lines};
+use std::alloc::Global;
+use std::io::{self, Read};
+use std::test::Fail;
+
+/// The first lines of some bytes: how many bytes and lines they are, where there are at most so
+/// many.
+const ENDS: [(&str, usize, usize, usize); 9] = [
+    ("", 5, 0, 0),
+    ("ab", 5, 0, 0),
+    ("ab\n", 5, 3, 1),
+    ("\n\n\nab", 5, 3, 3),
+    ("a\nb\nc", 0, 0, 0),
+    ("a\nb\nc", 1, 2, 1),
+    ("a\nb\nc", 2, 4, 2),
+    ("a\nb\nc", 3, 4, 2),
+    ("a\nb\nc\n", 3, 6, 3),
+];
+
+#[test]
+fn ends_of_lines_are_found(rt: HostRuntime) {
+    for (text, most, bytes, lines) in ENDS {
+        assert!(rt;
+            end_of_lines(text.as_bytes(), most) == (bytes, lines),
+            "{text:?} {most}"
+        );
+    }
+}
+
+/// An input, how many bytes of it a read gives, the most lines of a piece, and the pieces, with how
+/// many lines each has. The last of them is the input's last.
+type Row = (&'static str, usize, usize, &'static [(&'static str, usize)]);
+
+/// By all at once, a byte at a time, a line and a half, and all but the last byte; every second read
+/// is interrupted.
+const ROWS: [Row; 10] = [
+    ("", 9, 4, &[("", 0)]),
+    ("1\n22\n\n4", 9, 4, &[("1\n22\n\n", 3), ("4", 1)]),
+    ("1\n22\n\n4\n", 9, 4, &[("1\n22\n\n4\n", 4), ("", 0)]),
+    (
+        "1\n22\n\n4\n",
+        9,
+        3,
+        &[("1\n22\n\n", 3), ("4\n", 1), ("", 0)],
+    ),
+    ("1\n22\n3", 9, 1, &[("1\n", 1), ("22\n", 1), ("3", 1)]),
+    ("1\n22\n3", 1, 4, &[("1\n", 1), ("22\n", 1), ("3", 1)]),
+    (
+        "1\n22\n3\n",
+        1,
+        4,
+        &[("1\n", 1), ("22\n", 1), ("3\n", 1), ("", 0)],
+    ),
+    (
+        "1\n2\n3\n4\n",
+        3,
+        4,
+        &[("1\n", 1), ("2\n3\n", 2), ("4\n", 1), ("", 0)],
+    ),
+    (
+        "1\n2\n3\n4\n",
+        3,
+        1,
+        &[("1\n", 1), ("2\n", 1), ("3\n", 1), ("4\n", 1), ("", 0)],
+    ),
+    (
+        "1\n2\n3\n4\n",
+        7,
+        4,
+        &[("1\n2\n3\n", 3), ("4\n", 1), ("", 0)],
+    ),
+];
+
+/// Whether a reader's next piece has these bytes, so many lines, and is the last one or not.
+fn is_next(
+    alloc: Global,
+    pieces: &mut Pieces,
+    reader: &mut impl Read,
+    most: usize,
+    expected: (&[u8], usize, bool),
+) -> bool
+    requires { 1 ≤ most }
+{
+    let (text, lines, is_last) = expected;
+    match pieces.next(alloc, reader, most) {
+        Ok(piece) => {
+            piece.text.as_slice() == text && piece.lines == lines && piece.is_last == is_last
+        }
+        Err(_) => false,
+    }
+}
+
+/// Whether a reader gives these pieces, the last of which is the input's last.
+fn cuts_so(
+    alloc: Global,
+    reader: &mut impl Read,
+    most: usize,
+    expected: &[(&'static str, usize)],
+) -> Result<bool, JobsFault>
+    requires { 1 ≤ most }
+{
+    let mut pieces = Pieces::new(alloc)?;
+    let mut left = expected.len();
+    let mut is_right = true;
+    for (text, lines) in expected {
+        left = left.saturating_sub(1);
+        let piece = (text.as_bytes(), *lines, left == 0);
+        is_right = is_right && is_next(alloc, &mut pieces, reader, most, piece);
+    }
+    Ok(is_right)
+}
+
+#[test]
+fn pieces_come_as_they_are_read(rt: HostRuntime) -> Result<(), Fail> {
+    for (text, step, most, expected) in ROWS {
+        let mut source = source_of(text.as_bytes(), step, 100);
+        assert!(rt;
+            cuts_so(rt.alloc(), &mut source, most.clamp(1, 1024), expected)?,
+            "{text:?} by {step}, {most}"
+        );
+    }
+    Ok(())
+}
+
+/// So many lines of two bytes.
+fn short_lines(alloc: Global, count: usize) -> Result<Vec<u8>, Fail> {
+    let mut text = Vec::new(alloc);
+    for _ in 0..count {
+        text.extend_from_slice(b"7\n")?;
+    }
+    Ok(text)
+}
+
+/// How many lines and bytes a reader's next piece has, and whether it is the last one.
+fn counts_of_next(
+    alloc: Global,
+    pieces: &mut Pieces,
+    reader: &mut impl Read,
+) -> Result<(usize, usize, bool), JobsFault> {
+    let piece = pieces.next(alloc, reader, 1024)?;
+    Ok((piece.lines, piece.text.len(), piece.is_last))
+}
+
+/// Whether so many lines that are read at once are cut after 1024 of them, and what follows is
+/// handed out without another read, which would fail.
+fn cuts_after_most(alloc: Global, lines: usize) -> Result<bool, Fail> {
+    let text = short_lines(alloc, lines)?;
+    let mut source = source_of(&text, 65_536, 1);
+    let mut pieces = Pieces::new(alloc)?;
+    let mut is_right = counts_of_next(alloc, &mut pieces, &mut source) == Ok((1024, 2048, false));
+    if lines > 1024 {
+        let more = lines.saturating_sub(1024);
+        let counts = (more, more.saturating_mul(2), false);
+        is_right = is_right && counts_of_next(alloc, &mut pieces, &mut source) == Ok(counts);
+    }
+    let end = counts_of_next(alloc, &mut pieces, &mut source);
+    Ok(is_right && end == Err(JobsFault::Read))
+}
+
+#[test]
+fn many_lines_are_read_at_once(rt: HostRuntime) -> Result<(), Fail> {
+    for lines in [1024, 1025, 2000] {
+        assert!(rt; cuts_after_most(rt.alloc(), lines)?, "{lines}");
+    }
+    Ok(())
+}
+
+/// How many pieces a text has before a read of it fails, by three bytes a read, and whether nothing
+/// comes in the place of the fault, then and at the next call.
+fn pieces_before_fault(alloc: Global, text: &[u8], reads: usize) -> Result<(usize, bool), Fail> {
+    let mut source = source_of(text, 3, reads);
+    let mut pieces = Pieces::new(alloc)?;
+    for count in 0..9 {
+        let found = counts_of_next(alloc, &mut pieces, &mut source);
+        if found.is_err() {
+            let again = counts_of_next(alloc, &mut pieces, &mut source);
+            let fault = Err(JobsFault::Read);
+            return Ok((count, found == fault && again == fault));
+        }
+    }
+    Ok((9, false))
+}
+
+/// The third read gives no end of a line, but the fourth; the fifth gives a line without one, which
+/// is handed out only where the input ends.
+#[test]
+fn a_failed_read_gives_no_piece(rt: HostRuntime) -> Result<(), Fail> {
+    for (reads, count) in [(0, 0), (1, 1), (2, 2), (3, 2), (4, 3), (5, 3)] {
+        let found = pieces_before_fault(rt.alloc(), b"1\n2\n3\n45678\n9", reads)?;
+        assert!(rt; found == (count, true), "{reads}");
+    }
+    Ok(())
+}
+
+/// Whether the first piece of a text is all of it, one line, and whether the input has ended then.
+fn is_one_line(alloc: Global, text: &[u8], is_last: bool) -> Result<bool, JobsFault> {
+    let mut source = source_of(text, 50_000, 9);
+    let mut pieces = Pieces::new(alloc)?;
+    let piece = (text, 1, is_last);
+    Ok(is_next(alloc, &mut pieces, &mut source, 1024, piece))
+}
+
+/// The first fault of an input.
+fn first_fault(alloc: Global, reader: &mut impl Read) -> Option<JobsFault> {
+    match Pieces::new(alloc) {
+        Ok(mut pieces) => counts_of_next(alloc, &mut pieces, reader).err(),
+        Err(fault) => Some(fault),
+    }
+}
+
+/// How many bytes are left of a text, by so many a read, where its first line is refused.
+fn left_of_refused(alloc: Global, text: &[u8], step: usize) -> Option<usize> {
+    let mut source = source_of(text, step, 200);
+    if first_fault(alloc, &mut source) != Some(JobsFault::BadJob { line: 1 }) {
+        return None;
+    }
+    Some(source.rest.len())
+}
+
+/// A line of 131,137 bytes is handed out, with or without its end; one of a byte more is refused,
+/// where its end was not read yet, and what follows is left.
+#[test]
+fn a_line_that_is_too_long_is_refused(rt: HostRuntime) -> Result<(), Fail> {
+    let alloc = rt.alloc();
+    let mut line = line_of_digits(alloc, 131_072)?;
+    assert!(rt; is_one_line(alloc, &line, false)?);
+    let _end = line.pop();
+    assert!(rt; line.len() == 131_137 && is_one_line(alloc, &line, true)?);
+    line.push(b'7')?;
+    assert!(rt; left_of_refused(alloc, &line, 50_000) == Some(0));
+    for _ in 0..9_000 {
+        line.push(b'7')?;
+    }
+    assert!(rt; left_of_refused(alloc, &line, 1_000) == Some(140_138 - 132_000));
+    assert!(rt; first_fault(alloc, &mut io::repeat(b'7')) == Some(JobsFault::BadJob { line: 1 }));
+    Ok(())
+}
+
+/// How many lines the pieces of four lines have, by a line and a half a read.
+fn count_lines(alloc: Global) -> Result<usize, JobsFault> {
+    let mut source = source_of(b"1\n2\n3\n4\n", 3, 9);
+    let mut pieces = Pieces::new(alloc)?;
+    let mut lines = 0_usize;
+    for _ in 0..9 {
+        let (more, _, is_last) = counts_of_next(alloc, &mut pieces, &mut source)?;
+        lines = lines.saturating_add(more);
+        if is_last {
+            return Ok(lines);
+        }
+    }
+    Ok(0)
+}
+
+/// The merge check refuses each request for memory in turn: that fault is reported, and what begins
+/// anew gets all lines.
+#[test]
+fn pieces_after_refused_memory(rt: HostRuntime) -> Result<(), Fail> {
+    let lines = match count_lines(rt.alloc()) {
+        Err(JobsFault::OutOfMemory) => count_lines(rt.alloc()),
+        answer => answer,
+    };
+    assert!(rt; lines == Ok(4));
+    Ok(())
+}

@@ -1,0 +1,132 @@
+//! Job lines that are signed as they come, by trees that are kept.
+use super::memory::four_answers;
+use super::{CHEAP, Scenario, carry_out, counts};
+use crate::tests::{lines, source_of};
+use lms_batch::{SigningService, Trees};
+use lms_book::MemoryStore;
+use lms_fixtures::Sums;
+use lms_lines::{
+    JobsFault, LinesFault, Pieces, SignedJobs, count_signatures, read_and_sign_by, write_batch,
+};
+use lms_shared_book::{BookLedger, Desk};
+use std::alloc::Global;
+use std::process::Abort;
+use std::sync::Wait;
+use std::test::Fail;
+use std::thread::Threads;
+
+/// The trees by which lines are signed, how many of their leaves are computed, and the answers.
+#[derive(Drop)]
+struct Answers {
+    trees: Trees,
+    sums: Sums,
+    text: Vec<u8>,
+}
+
+/// No answers, and trees that are kept.
+fn no_answers(alloc: Global) -> Answers {
+    Answers {
+        trees: Trees::kept(),
+        sums: Sums::new(),
+        text: Vec::new(alloc),
+    }
+}
+
+/// Signs these lines by two workers.
+fn signed<E: BookLedger, G: BookLedger, B: BookLedger>(
+    rt: &(impl AllocGlobal + Threads + Wait + Sync),
+    service: &SigningService<MemoryStore, E, G, B>,
+    desk: &mut Desk<E, G, B>,
+    text: &[u8],
+    answers: &mut Answers,
+) -> Result<SignedJobs, LinesFault> {
+    let mut rest = text;
+    let trees = &mut answers.trees;
+    let progress = &answers.sums;
+    read_and_sign_by(rt, rt.alloc(), service, &mut rest, desk, 2, progress, trees)
+}
+
+/// Whether so many lines are all signed. Their answers are added.
+fn adds_answers<E: BookLedger, G: BookLedger, B: BookLedger>(
+    rt: &(impl AllocGlobal + Threads + Wait + Sync),
+    service: &SigningService<MemoryStore, E, G, B>,
+    desk: &mut Desk<E, G, B>,
+    text: &[u8],
+    count: usize,
+    answers: &mut Answers,
+) -> Result<bool, Fail> {
+    let jobs = signed(rt, service, desk, text, answers)?;
+    write_batch(&mut answers.text, &jobs.batch)?;
+    Ok(jobs.asked == count && count_signatures(&jobs.batch) == count)
+}
+
+/// Whether all pieces of a text are signed, which comes by a line and a half a read, and how many
+/// pieces it has with a line.
+fn signs_pieces_of<E: BookLedger, G: BookLedger, B: BookLedger>(
+    rt: &(impl AllocGlobal + Threads + Wait + Sync),
+    service: &SigningService<MemoryStore, E, G, B>,
+    desk: &mut Desk<E, G, B>,
+    text: &[u8],
+    answers: &mut Answers,
+) -> Result<(bool, u64), Fail> {
+    let mut source = source_of(text, 105, 9);
+    let mut pieces = Pieces::new(rt.alloc())?;
+    let mut are_signed = true;
+    for count in 0..9 {
+        let piece = pieces.next(rt.alloc(), &mut source, answers.trees.room())?;
+        let (lines, is_last) = (piece.lines, piece.is_last);
+        are_signed = are_signed && adds_answers(rt, service, desk, &piece.text, lines, answers)?;
+        if is_last {
+            return Ok((are_signed, count));
+        }
+    }
+    Ok((false, 0))
+}
+
+/// Whether four lines are signed in three pieces, from index 30 on, as in one batch. The trees of
+/// the first 1024 indices, one above 32, are computed once.
+fn signs_as_one_batch<E: BookLedger, G: BookLedger, B: BookLedger>(
+    rt: &(impl AllocGlobal + Threads + Wait + Sync),
+    service: &SigningService<MemoryStore, E, G, B>,
+    desk: &mut Desk<E, G, B>,
+    answers: &mut Answers,
+) -> Result<bool, Fail> {
+    let text = lines(rt.alloc(), 4)?;
+    let found = signs_pieces_of(rt, service, desk, &text, answers)?;
+    let expected = four_answers(rt, service.key())?;
+    let are_computed = answers.sums.are(1, 33 * 32) && answers.trees.room() == 1024 - 34;
+    Ok(found == (true, 3) && answers.text == expected && are_computed)
+}
+
+/// Whether a line that is no job line is refused, and the trees stay.
+fn refuses<E: BookLedger, G: BookLedger, B: BookLedger>(
+    rt: &(impl AllocGlobal + Threads + Wait + Sync),
+    service: &SigningService<MemoryStore, E, G, B>,
+    desk: &mut Desk<E, G, B>,
+    answers: &mut Answers,
+) -> bool {
+    let fault = LinesFault::Jobs(JobsFault::BadJob { line: 1 });
+    let is_refused = match signed(rt, service, desk, b"\n", answers) {
+        Ok(_) => false,
+        Err(found) => found == fault,
+    };
+    is_refused && answers.sums.are(1, 33 * 32) && answers.trees.room() == 1024 - 34
+}
+
+/// Signs four lines in pieces, and then refuses one.
+pub(super) fn sign_pieces<E: BookLedger, G: BookLedger, B: BookLedger>(
+    rt: &(impl Abort + AllocGlobal + Threads + Wait + Sync),
+    service: &SigningService<MemoryStore, E, G, B>,
+    desk: &mut Desk<E, G, B>,
+) -> Result<(), Fail> {
+    let mut answers = no_answers(rt.alloc());
+    assert!(rt; signs_as_one_batch(rt, service, desk, &mut answers)?);
+    assert!(rt; refuses(rt, service, desk, &mut answers));
+    assert!(rt; counts(desk) == (3, 4, 0));
+    Ok(())
+}
+
+#[test]
+fn lines_are_signed_as_they_come(rt: HostRuntime) -> Result<(), Fail> {
+    carry_out(&rt, &CHEAP, Scenario::Pieces)
+}

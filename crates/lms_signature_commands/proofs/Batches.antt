@@ -1,0 +1,266 @@
+-- What a list of jobs did to a book.
+use Rattle.std.proofs.Common.{◌≡◌, ◌∙◌, inl, inr, ℕ, zero, suc, ◌-◌, ◌≤◌, List, [], ◌∷◌, ◌++◌, drop, take, length}
+use Rattle.std.proofs.Common.{Option, None, Some, Result, Ok, Err, refl, sym, ap, ap₂, subst, arith}
+use Rattle.std.specs.Prelude.{IfSome, min}
+use Rattle.std.specs.Io.KnownBytes.{Appends, Keeps}
+use Rattle.std.proofs.lemmas.List.{append-nil}
+use Rattle.std.proofs.lemmas.List.Sums.{sum_by-cons}
+use Rattle.lms_book.specs.declared.history.Entry.{Entry}
+use Rattle.lms_book.specs.declared.history.Entry.TheVariants.{Given, Burnt}
+use Rattle.lms_book.specs.declared.fault.BookFault.{BookFault}
+use Rattle.lms_book.specs.declared.fault.BookFault.TheVariants as book
+use Rattle.lms_book.specs.Stops.{StoreView}
+use Rattle.lms_book.specs.States.{BookState, LeaseState}
+use Rattle.lms_book.specs.Books.{Reserves, capacity, counter}
+use Rattle.lms_book.specs.History.{given_len, burnt_len}
+use Rattle.lms_shared_book.specs.Desks.{Sums, plus, sums, sums_of, total}
+use Rattle.lms_shared_book.specs.Shared.{IsAfter, IsAfterEntry, IsSettled}
+use Rattle.lms_batch.specs.Answers.{CouldBeReserved, IsAnswerAfter, start_of}
+use Rattle.lms_batch.specs.declared.collector.Batch.{Batch}
+use Rattle.lms_batch.specs.declared.fault.BatchFault.{BatchFault}
+use Rattle.lms_batch.specs.declared.fault.BatchFault.TheVariants as unsigned
+use Rattle.lms_blocks.specs.Writing.{AppendsFront}
+use Rattle.lms_lines.specs.SignedLines.{IsUnsigned, signatures_in}
+use Rattle.lms_lines.specs.declared.fault.JobsFault.TheVariants as jobs
+use Rattle.lms_lines.specs.declared.signing.SignedJobs.{SignedJobs}
+use Rattle.lms_lines.specs.declared.fault.LinesFault.{LinesFault}
+use Rattle.lms_lines.specs.declared.fault.LinesFault.TheVariants as lines
+use Rattle.lms_signature_commands.specs.Batches.{IsUnprinted}
+use Rattle.lms_commands.specs.Faults.{of_lines}
+use Rattle.lms_commands.specs.declared.fault.Fault.{Fault}
+use Rattle.lms_commands.specs.declared.fault.Fault.TheVariants.{Exhausted, OutOfMemoryBurnt, WriteStateBurnt}
+use Rattle.lms_signature_commands.specs.BatchLogs.{AnswersJobs, LogsBatch, LogsJobsUnsigned, LogsUnprinted, UsesAll}
+use Rattle.lms_commands.specs.Logs.{LeavesState, WorldCalls, OpensState, StoresUse, TriesUse, state_of}
+use Rattle.lms_world.specs.Events.{PutBack}
+use Rattle.lms_commands.proofs.Logged.{left_so, stored, tried}
+use Rattle.lms_signature_commands.specs.SharedBooks.{IsRefusedBy, IsSignedByBook, at_one_desk}
+use Rattle.lms_commands.proofs.Signings.{IsJustOpened}
+
+same_sums : (a b : Sums) → a.entries ≡ b.entries → a.received ≡ b.received → a.burnt ≡ b.burnt → a ≡ b
+same_sums a b e r u i = record { entries = e i; received = r i; burnt = u i }
+
+-- the sums of one desk
+pub total_one : (d : Sums) → total (d ∷ []) ≡ d
+total_one d = same_sums _ _ (omega arith) (omega arith) (omega arith)
+
+-- what is added to nothing
+from_none : (d : Sums) → plus (sums 0 0 0) d ≡ d
+from_none d = same_sums _ _ (omega arith) (omega arith) (omega arith)
+
+-- what some jobs count
+from_some : (n : ℕ) → plus (sums 0 0 0) (sums (min 1 (suc n)) (suc n) 0) ≡ sums 1 (suc n) 0
+from_some n =
+    let one : min 1 (suc n) ≡ 1 = omega arith in
+    same_sums _ _ (omega (arith, one)) (omega arith) (omega arith)
+
+-- no entry was made
+no_entry : (start : BookState) (es : List Entry) (left : BookState) → IsAfter start es left
+    → sums_of es ≡ sums 0 0 0 → left ≡ start
+no_entry start [] left is none = is
+no_entry start (e ∷ es) left is none = let count = ap (λ (s : Sums). s.entries) none in absurd (omega (arith, count))
+
+-- one was made, which gave n indices
+one_given : (start : BookState) (n : ℕ) (es : List Entry) (left : BookState) → 1 ≤ n → IsAfter start es left
+    → sums_of es ≡ sums 1 n 0
+    → IsAfterEntry start (Given n) left
+one_given start n [] left some is one = let count = ap (λ (s : Sums). s.entries) one in absurd (omega (arith, count))
+one_given start n (e ∷ x ∷ es) left some is one =
+    let count = ap (λ (s : Sums). s.entries) one in
+    absurd (omega (arith, count))
+one_given start n (Burnt m ∷ []) left some is one =
+    let gave = ap (λ (s : Sums). s.received) one in
+    absurd (omega (arith, gave, some, sum_by-cons given_len (Burnt m) []))
+one_given start n (Given m ∷ []) left some (next, first, same) one =
+    let gave = ap (λ (s : Sums). s.received) one in
+    let is : m ≡ n = omega (arith, gave, sum_by-cons given_len (Given m) []) in
+    subst (λ (k : ℕ). IsAfterEntry start (Given k) left) is
+    (subst (λ (b : BookState). IsAfterEntry start (Given m) b) (sym same) first)
+
+-- or burnt them
+one_burnt : (start : BookState) (n : ℕ) (es : List Entry) (left : BookState) → 1 ≤ n → IsAfter start es left
+    → sums_of es ≡ sums 1 0 n
+    → IsAfterEntry start (Burnt n) left
+one_burnt start n [] left some is one = let count = ap (λ (s : Sums). s.entries) one in absurd (omega (arith, count))
+one_burnt start n (e ∷ x ∷ es) left some is one =
+    let count = ap (λ (s : Sums). s.entries) one in
+    absurd (omega (arith, count))
+one_burnt start n (Given m ∷ []) left some is one =
+    let burnt = ap (λ (s : Sums). s.burnt) one in
+    absurd (omega (arith, burnt, some, sum_by-cons burnt_len (Given m) []))
+one_burnt start n (Burnt m ∷ []) left some (next, first, same) one =
+    let burnt = ap (λ (s : Sums). s.burnt) one in
+    let is : m ≡ n = omega (arith, burnt, sum_by-cons burnt_len (Burnt m) []) in
+    subst (λ (k : ℕ). IsAfterEntry start (Burnt k) left) is
+    (subst (λ (b : BookState). IsAfterEntry start (Burnt m) b) (sym same) first)
+
+-- a reservation at the only desk, the first, finds the book as it was
+finds_start : (start : BookState) (n : ℕ) (answer : Result Batch BatchFault)
+    → CouldBeReserved (at_one_desk start) (sums 0 0 0) n answer
+    → (new : BookState) × (reserved : Result LeaseState BookFault) × Reserves n start reserved new
+    × IsAnswerAfter reserved answer
+finds_start start n answer (old, new, reserved, found, reserves, follows) =
+    let same : old ≡ start = no_entry start found.entries old found.after (found.alone refl) in
+    (new, reserved, subst (λ (b : BookState). Reserves n b reserved new) same reserves.reserves, follows)
+
+-- a batch begins with the book's next index
+starts_at : (start : BookState) (n : ℕ) (batch : Batch) → CouldBeReserved (at_one_desk start) (sums 0 0 0) n (Ok batch)
+    → start_of batch ≡ counter start
+starts_at start n batch could = let found = finds_start start n (Ok batch) could in go found.0 found.1 found.2 found.3
+  where
+    go : (new : BookState) (reserved : Result LeaseState BookFault) → Reserves n start reserved new
+        → IsAnswerAfter reserved (Ok batch)
+        → start_of batch ≡ counter start
+    go new (Ok lease) (enough, is, history, wrote) follows = follows ∙ ap (λ (l : LeaseState). l.start) is
+    go new (Err refused) is follows = absurd follows
+
+-- a refusal is the book's
+refused_so : (start : BookState) (n : ℕ) (fault : BookFault)
+    → CouldBeReserved (at_one_desk start) (sums 0 0 0) n (Err (unsigned.Book fault))
+    → (new : BookState) × Reserves n start (Err fault) new
+refused_so start n fault could =
+    let found = finds_start start n (Err (unsigned.Book fault)) could in
+    go found.0 found.1 found.2 found.3
+  where
+    go : (new : BookState) (reserved : Result LeaseState BookFault) → Reserves n start reserved new
+        → IsAnswerAfter reserved (Err (unsigned.Book fault))
+        → (new : BookState) × Reserves n start (Err fault) new
+    go new (Ok lease) is follows = absurd follows
+    go new (Err refused) is follows = (new, subst (λ (f : BookFault). Reserves n start (Err f) new) (sym follows) is)
+
+-- what a list of jobs did to a book, in terms of the calls that were made
+module _ (start left : BookState) (view : StoreView) (before opened back : WorldCalls)
+    (opens : OpensState start before opened) (is_fresh : IsJustOpened start)
+    (view_is : view ≡ left.store) (back_is : back ≡ PutBack view ∷ opened) where
+  leaves_none : (sum : Sums) → sum ≡ sums 0 0 0 → IsSettled start sum left → LeavesState (state_of start) before back
+  leaves_none sum none settled =
+      let same = no_entry start settled.entries left settled.after (settled.all ∙ none) in
+      left_so start left view before opened back opens is_fresh view_is back_is same
+
+  stores_some : (n : ℕ) → 1 ≤ n → IsSettled start (sums 1 n 0) left → StoresUse n (state_of start) before back
+  stores_some n some settled =
+      let made = (one_given start n settled.entries left some settled.after settled.all).reservation in
+      stored start left view before opened back opens is_fresh view_is back_is n made.0 made.3
+
+  tries_some : (n : ℕ) → 1 ≤ n → IsSettled start (sums 1 0 n) left → TriesUse n (state_of start) before back
+  tries_some n some settled =
+      let made = (one_burnt start n settled.entries left some settled.after settled.all).reservation in
+      tried start left view before opened back opens is_fresh view_is back_is n made.0 made.4
+
+  uses_all : (n : ℕ) (sum : Sums) → sum ≡ plus (sums 0 0 0) (sums (min 1 n) n 0) → IsSettled start sum left
+      → UsesAll n (state_of start) before back
+  uses_all zero sum is settled = leaves_none sum is settled
+  uses_all (suc n) sum is settled =
+      stores_some (suc n) (omega arith) (subst (λ (s : Sums). IsSettled start s left) (is ∙ from_some n) settled)
+
+  pub log_batch : (input rest : Option (List ℕ)) (signed : SignedJobs) → IsSignedByBook start input rest signed left
+      → (signs : LogsBatch input rest signed.batch before back) × (signs.state ≡ state_of start)
+      × (signed.asked ≡ length signs.jobs)
+  log_batch input rest signed (sum, (is, asked), settled) = (
+    record {
+      state = state_of start;
+      jobs = is.jobs;
+      read = is.read;
+      uses = uses_all (length is.jobs) sum is.counted settled;
+      answer = is.answer;
+      next = λ some. starts_at start (length is.jobs) signed.batch (is.reserved some) ∙ is_fresh.used;
+    },
+    refl,
+    asked,
+  )
+
+  log_lines : (input rest : Option (List ℕ)) (fault : LinesFault) (sum : Sums)
+      → IsUnsigned (at_one_desk start) input rest (sums 0 0 0) sum fault
+      → IsSettled start sum left → LogsJobsUnsigned input rest (of_lines fault) (state_of start) before back
+  log_lines input rest (lines.Jobs jobs.Read) sum is settled = inl (inl (inl refl), leaves_none sum is.1 settled)
+  log_lines input rest (lines.Jobs (jobs.BadJob line)) sum is settled =
+      inl (inr (inl (line, refl, is.0)), leaves_none sum is.1 settled)
+  log_lines input rest (lines.Jobs jobs.TooManyJobs) sum is settled =
+      inl (inr (inr (refl, is.0)), leaves_none sum is.1 settled)
+  log_lines input rest (lines.Jobs jobs.OutOfMemory) sum is settled = inl (inl (inr refl), leaves_none sum is.1 settled)
+  log_lines input rest (lines.Batch unsigned.TooMany) sum is settled = absurd (is.few refl)
+  log_lines input rest (lines.Batch (unsigned.Book (book.Exhausted count))) sum is settled =
+      let (full, count_is, same) = (refused_so start (length is.jobs) (book.Exhausted count) is.reserved).1 in
+      let left_is : count ≡ capacity start - start.base = omega (arith, count_is, is_fresh.used) in
+      inr (
+        is.jobs,
+        is.read,
+        is.some,
+        inl (inl (
+          ap (λ (n : ℕ). Exhausted n) left_is,
+          omega (arith, full, is_fresh.used),
+          leaves_none sum is.counted settled,
+        )),
+      )
+  log_lines input rest (lines.Batch (unsigned.Book book.OutOfMemory)) sum is settled =
+      inl (inl (inr refl), leaves_none sum is.counted settled)
+  log_lines input rest (lines.Batch (unsigned.Book (book.Store first len))) sum is settled =
+      let n = length is.jobs in
+      let refused = (refused_so start n (book.Store first len) is.reserved).1 in
+      let tries = tries_some n is.some
+      (subst (λ (s : Sums). IsSettled start s left) (is.counted.1 ∙ from_none _) settled) in
+      let at = ap₂ (λ (a b : ℕ). WriteStateBurnt a b) (refused.1 ∙ is_fresh.used) is.counted.0 in
+      inr (is.jobs, is.read, is.some, inr (inl (at, tries)))
+  log_lines input rest (lines.Batch (unsigned.OutOfMemory burnt)) sum is settled =
+      let n = length is.jobs in
+      let stores = stores_some n is.some
+      (subst (λ (s : Sums). IsSettled start s left) (is.counted.1 ∙ from_none _) settled) in
+      inr (is.jobs, is.read, is.some, inr (inr (ap (λ (m : ℕ). OutOfMemoryBurnt m) is.counted.0, stores)))
+  log_lines input rest lines.Write sum is settled = absurd is
+
+  pub log_refused : (input rest : Option (List ℕ)) (fault : Fault) → IsRefusedBy start input rest fault left
+      → LogsJobsUnsigned input rest fault (state_of start) before back
+  log_refused input rest fault (sum, (lines, same, is), settled) =
+      subst (λ (f : Fault). LogsJobsUnsigned input rest f (state_of start) before back) (sym same)
+      (log_lines input rest lines sum is settled)
+
+-- the only desk of a shared book counts all that was reserved
+pub settled_one : (start book left : BookState) (desks : List Sums) (counted : Sums) → book ≡ start
+    → desks ≡ counted ∷ [] → IsSettled book (total desks) left
+    → IsSettled start counted left
+settled_one start book left desks counted same is settled =
+    subst (λ (s : Sums). IsSettled start s left) (ap total is ∙ total_one counted)
+    (subst (λ (b : BookState). IsSettled b (total desks) left) same settled)
+
+-- what a list of one desk is once its slice was lent
+pub lent_one : (len : ℕ) (items lent : List Sums) (first counted : Sums) → len ≡ 1 → items ≡ first ∷ []
+    → lent ≡ counted ∷ []
+    → take len (lent ++ drop (length lent) items) ≡ counted ∷ []
+lent_one len items lent first counted one was is =
+    ap (λ (n : ℕ). take n (lent ++ drop (length lent) items)) one
+    ∙ ap (λ (ds : List Sums). take 1 (ds ++ drop (length ds) items)) is
+    ∙ ap (λ (ds : List Sums). take 1 (counted ∷ drop 1 ds)) was
+
+flushed : (before mid after : Option (List ℕ)) (text : List ℕ) → Appends before mid text → Keeps mid after
+    → Appends before after text
+flushed None mid after text appends keeps = tt
+flushed (Some x) None after text appends keeps = absurd appends
+flushed (Some x) (Some y) None text appends keeps = absurd keeps
+flushed (Some x) (Some y) (Some z) text appends keeps = keeps ∙ appends
+
+-- what was printed stays when it is passed on
+pub flushed_front : (before mid after : Option (List ℕ)) (text : List ℕ) → Appends before mid text → Keeps mid after
+    → AppendsFront before after text
+flushed_front before mid after text appends keeps =
+    record {
+      front = text;
+      rest = [];
+      whole = sym (append-nil _);
+      appended = flushed before mid after text appends keeps;
+    }
+
+-- of an input of which nothing is said
+pub says_nothing : (input : Option (List ℕ)) → IfSome input (λ text. Unit {0})
+says_nothing None = tt
+says_nothing (Some text) = tt
+
+-- the calls of a batch whose lines are not all printed
+pub log_unprinted : (input rest : Option (List ℕ)) (before printed : List ℕ) (signed : SignedJobs)
+    (old new : WorldCalls)
+    (answers : AnswersJobs input rest before signed.batch old new) → signed.asked ≡ length answers.signs.jobs
+    → (fault : Fault)
+    → IsUnprinted signed.batch signed.asked (Some before) (Some printed) fault
+    → LogsUnprinted input rest before printed fault old new
+log_unprinted input rest before printed signed old new answers asked fault (inl (at, differ, lines)) =
+    inl (signatures_in signed.batch, signed.asked, at, differ, (signed.batch, answers, refl, asked, lines))
+log_unprinted input rest before printed signed old new answers asked fault (inr (at, lines)) =
+    inr (at, (signed.batch, answers, lines))

@@ -1,0 +1,210 @@
+-- The calls of `serve` write no file and no nodes.
+use Rattle.std.proofs.Common.{◌≡◌, ◌∙◌, ℕ, zero, suc, List, [], ◌∷◌, ◌++◌, length, map, Option, Some, None, ap, refl}
+use Rattle.std.proofs.Common.{sym, inl, inr}
+use Rattle.std.proofs.Common.{append-nil}
+use Rattle.std.proofs.lemmas.List.{append_cancel_right}
+use Rattle.lms_book.specs.Stops.{StoreView}
+use Rattle.lms_world.specs.Names.{Bytes}
+use Rattle.lms_world.specs.Events.{Acquired, Event, Locked, Locking, Printing, PutBack, Taken, Taking, Unlocked}
+use Rattle.lms_world.specs.Held.{Answers, Follows, Held}
+use Rattle.lms_world.specs.Outcomes.{files_after, nodes_after}
+use Rattle.lms_world.proofs.Outcomes.{holds_what_is_logged}
+use Rattle.lms_batch.specs.declared.collector.Batch.{Batch}
+use Rattle.lms_signature_commands.specs.BatchLogs.{AnswersJobs, UsesAll}
+use Rattle.lms_commands.specs.Histories.{written_in}
+use Rattle.lms_commands.specs.Logs.{BurnsUnsigned, KeyState, LeavesState, LeavesUnsigned, LogsUnopened, WorldCalls}
+use Rattle.lms_signature_commands.specs.Serving.{AnyState, Due, FailsGroup, FailsToServe, Group, LeavesGroup, LogsGroup}
+use Rattle.lms_signature_commands.specs.Serving.{LogsGroups, LogsServe, LogsServeFailed, ServesNone, UsesGroup}
+use Rattle.lms_signature_commands.specs.Serving.{answered}
+use Rattle.lms_commands.specs.declared.fault.Fault.{Fault}
+
+-- calls more, none of which writes a file or nodes
+pub record Keeps (base log : WorldCalls) : Type 0 where
+  pub added : WorldCalls
+  pub are : log ≡ added ++ base
+  pub files : (files : Answers) → files_after added files ≡ files
+  pub nodes : (nodes : Option (List ℕ)) → nodes_after added nodes ≡ nodes
+  pub unwritten : written_in added ≡ []
+
+pub keeps_none : (base : WorldCalls) → Keeps base base
+keeps_none base = record {
+  added = [];
+  are = refl;
+  files = λ files. refl;
+  nodes = λ nodes. refl;
+  unwritten = refl;
+}
+
+module _ {base old new : WorldCalls} (was : Keeps base old) where
+  more : (event : Event) → new ≡ event ∷ old → new ≡ event ∷ was.added ++ base
+  more event calls = calls ∙ ap (λ (log : WorldCalls). event ∷ log) was.are
+
+  keeps_as : new ≡ old → Keeps base new
+  keeps_as same = record {
+    added = was.added;
+    are = same ∙ was.are;
+    files = was.files;
+    nodes = was.nodes;
+    unwritten = was.unwritten;
+  }
+
+  keeps_store : (taken : Taking) (left : StoreView) → new ≡ PutBack left ∷ Taken (Some taken) ∷ old → Keeps base new
+  keeps_store taken left calls = record {
+    added = PutBack left ∷ Taken (Some taken) ∷ was.added;
+    are = calls ∙ ap (λ (log : WorldCalls). PutBack left ∷ Taken (Some taken) ∷ log) was.are;
+    files = was.files;
+    nodes = was.nodes;
+    unwritten = was.unwritten;
+  }
+
+  keeps_untaken : new ≡ Taken None ∷ old → Keeps base new
+  keeps_untaken calls = record {
+    added = Taken None ∷ was.added;
+    are = more (Taken None) calls;
+    files = was.files;
+    nodes = was.nodes;
+    unwritten = was.unwritten;
+  }
+
+  keeps_printing : (before : List ℕ) → new ≡ Printing before ∷ old → Keeps base new
+  keeps_printing before calls = record {
+    added = Printing before ∷ was.added;
+    are = more (Printing before) calls;
+    files = was.files;
+    nodes = was.nodes;
+    unwritten = was.unwritten;
+  }
+
+  keeps_unlocked : new ≡ Unlocked ∷ old → Keeps base new
+  keeps_unlocked calls = record {
+    added = Unlocked ∷ was.added;
+    are = more Unlocked calls;
+    files = was.files;
+    nodes = was.nodes;
+    unwritten = was.unwritten;
+  }
+
+  keeps_locked : (name : Bytes) (answer : Locking) → new ≡ Locked name answer ∷ old → Keeps base new
+  keeps_locked name answer calls = record {
+    added = Locked name answer ∷ was.added;
+    are = more (Locked name answer) calls;
+    files = was.files;
+    nodes = was.nodes;
+    unwritten = was.unwritten;
+  }
+
+module _ {base old new : WorldCalls} (was : Keeps base old) where
+  leaves : (state : KeyState) → LeavesState state old new → Keeps base new
+  leaves state (taken, read, reads, calls) = keeps_store was taken read calls
+
+  uses : (n : ℕ) (state : KeyState) → UsesAll n state old new → Keeps base new
+  uses zero state is = leaves state is
+  uses (suc n) state (taken, read, reads, within, calls) = keeps_store was taken _ calls
+
+  unopened : (fault : Fault) → LogsUnopened fault old new → Keeps base new
+  unopened fault (inl (at, calls)) = keeps_untaken was calls
+  unopened fault (inr (taken, inl (at, calls))) = keeps_store was taken _ calls
+  unopened fault (inr (taken, inr (inl (at, fails, calls)))) = keeps_store was taken _ calls
+  unopened fault (inr (taken, inr (inr (bad, text, at, may, is, calls)))) = keeps_store was taken _ calls
+
+  spares : (n : ℕ) (fault : Fault) (state : KeyState) → LeavesUnsigned n fault state old new → Keeps base new
+  spares n fault state (inl (at, lacks, is)) = leaves state is
+  spares n fault state (inr (at, is)) = leaves state is
+
+  burns : (n : ℕ) (fault : Fault) (state : KeyState) → BurnsUnsigned n fault state old new → Keeps base new
+  burns n fault state (inl (at, (taken, read, left, reads, within, fails, calls))) = keeps_store was taken left calls
+  burns n fault state (inr (at, (taken, read, reads, within, calls))) = keeps_store was taken _ calls
+
+answers_jobs : {base old new : WorldCalls} (was : Keeps base old) (input rest : Option (List ℕ)) (before : List ℕ)
+    (batch : Batch) → AnswersJobs input rest before batch old new → Keeps base new
+answers_jobs was input rest before batch is =
+    keeps_printing (uses was _ is.signs.state is.signs.uses) before is.prints
+
+left_group : {base old new : WorldCalls} (was : Keeps base old) (text : List ℕ) (fault : Fault) (state : KeyState)
+    → LeavesGroup text fault state old new → Keeps base new
+left_group was text fault state (inl (unread, is)) = leaves was state is
+left_group was text fault state (inr (rest, jobs, reads, some, is)) = spares was (length jobs) fault state is
+
+used_group : {base old new : WorldCalls} (was : Keeps base old) (text : List ℕ) (fault : Fault) (state : KeyState)
+    (before printed : List ℕ) → UsesGroup text fault state before printed old new → Keeps base new
+used_group was text fault state before printed (inl (rest, jobs, reads, some, is, same)) =
+    burns was (length jobs) fault state is
+used_group was text fault state before printed (inr (rest, batch, is, of, lines)) =
+    answers_jobs was (Some text) rest before batch is
+
+fails : {base old new : WorldCalls} (was : Keeps base old) (text : List ℕ) (fault : Fault) (due next : Due)
+    (before printed : List ℕ) → FailsGroup text fault due next before printed old new → Keeps base new
+fails was text fault due next before printed (inl (same, inl (inl (cause, never, at), is))) = unopened was cause never
+fails was text fault due next before printed (inl (same, inl (inr (at, (state, left, other)), is))) =
+    leaves was state left
+fails was text fault due next before printed (inl (same, inr (state, of, left, is))) =
+    left_group was text fault state left
+fails was text fault due next before printed (inr ((state, of, used), is)) =
+    used_group was text fault state before printed used
+
+pub group_keeps : {base old new : WorldCalls} (was : Keeps base old) (text : List ℕ) (fault : Option Fault)
+    (due next : Due) (before printed : List ℕ) → LogsGroup text fault due next before printed old new
+    → Keeps base new
+group_keeps was text None due next before printed (rest, count, (batch, is, _, _, _), of, next_is) =
+    answers_jobs was (Some text) rest before batch is
+group_keeps was text (Some fault) due next before printed is = fails was text fault due next before printed is
+
+pub groups_keep : {base old new : WorldCalls} (was : Keeps base old) (groups : List Group) (due next : Due)
+    (before printed : List ℕ) → LogsGroups groups due next before printed old new → Keeps base new
+groups_keep was [] due next before printed (same, none, is) = keeps_as was none
+groups_keep was (group ∷ earlier) due next before printed (between, mid, later_due, logs, one) =
+    group_keeps (groups_keep was earlier due later_due before between logs) group.text group.fault later_due
+    next between printed
+    one
+
+none_served : {base old new : WorldCalls} (was : Keeps base old) (count : ℕ) (input rest : Option (List ℕ))
+    (held : List ℕ) (fault : Fault) (due : Due) (before printed : List ℕ)
+    → ServesNone count input rest held fault due before printed old new → Keeps base new
+none_served was count input rest held fault due before printed (inl (cause, cuts, is, same, none)) = keeps_as was none
+none_served was count input rest held fault due before printed (inr next) =
+    groups_keep was next.groups due next.next before printed next.logs
+
+pub fails_to_serve : {base old new : WorldCalls} (was : Keeps base old) (input rest : Option (List ℕ)) (fault : Fault)
+    (before printed : List ℕ) → FailsToServe input rest fault before printed old new → Keeps base new
+fails_to_serve was input rest fault before printed (inl (next, is, same)) =
+    fails was [] fault AnyState next before printed is
+fails_to_serve was input rest fault before printed (inr (inl (at, next, is, same))) =
+    group_keeps was [] None AnyState next before printed is
+fails_to_serve was input rest fault before printed (inr (inr (inl some))) =
+    none_served
+    (groups_keep was (map answered some.texts) AnyState some.due before some.between some.answers.logs) _ some.until
+    rest some.held fault some.due some.between printed some.fails
+fails_to_serve was input rest fault before printed (inr (inr (inr (at, (texts, held, next, many, is))))) =
+    groups_keep was (map answered texts) AnyState next before printed is.logs
+
+pub serve_keeps : (state workers : Bytes) (input rest : Option (List ℕ)) (before printed : List ℕ)
+    (old new : WorldCalls) → LogsServe state workers input rest before printed old new → Keeps old new
+serve_keeps state workers input rest before printed old new (last, is, calls, are) =
+    keeps_unlocked (groups_keep (keeps_locked (keeps_none old) state Acquired refl)
+    (map answered (is.last ∷ is.earlier)) AnyState is.next before printed is.logs) calls
+
+pub serve_failed_keeps : (state workers : Bytes) (input rest : Option (List ℕ))
+    (before printed : List ℕ) (fault : Fault)
+    (old new : WorldCalls) → LogsServeFailed state workers input rest before printed fault old new → Keeps old new
+serve_failed_keeps state workers input rest before printed fault old new (inl (at, none, same, are, unread)) =
+    keeps_as (keeps_none old) none
+serve_failed_keeps state workers input rest before printed fault old new
+    (inr (inl (refused, calls, same, are, unread))) =
+    keeps_locked (keeps_none old) state _ calls
+serve_failed_keeps state workers input rest before printed fault old new (inr (inr (last, is, calls, are))) =
+    keeps_unlocked
+    (fails_to_serve (keeps_locked (keeps_none old) state Acquired refl) input rest fault before printed is)
+    calls
+
+pub writes_none : (whole : WorldCalls) → Keeps [] whole → written_in whole ≡ []
+writes_none whole keeps = ap written_in (keeps.are ∙ append-nil keeps.added) ∙ keeps.unwritten
+
+-- of a world in memory, files and nodes stay
+pub stays_unwritten : (old new : Held) (before now : WorldCalls) → Keeps before now
+    → Follows (Some old) before (Some new) now → (new.files ≡ old.files) × (new.nodes ≡ old.nodes)
+stays_unwritten old new before now keeps follows =
+    let holds = holds_what_is_logged old new before now follows in
+    let same = append_cancel_right holds.0 keeps.added before (sym holds.1 ∙ keeps.are) in (
+      holds.2.0 ∙ ap (λ (calls : WorldCalls). files_after calls old.files) same ∙ keeps.files old.files,
+      holds.2.2 ∙ ap (λ (calls : WorldCalls). nodes_after calls old.nodes) same ∙ keeps.nodes old.nodes,
+    )

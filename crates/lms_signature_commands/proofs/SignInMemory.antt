@@ -1,0 +1,130 @@
+-- What `sign` leaves in a world in memory, by its calls.
+use Rattle.std.proofs.Common.{◌≡◌, ◌∙◌, ◌∷◌, [], ◌++◌, ℕ, List, Option, Some, Ok, Err, ap, refl, subst, sym, inl, inr}
+use Rattle.std.proofs.Common.{⊎_elim}
+use Rattle.lms_spec.specs.HashLength.{hash_length}
+use Rattle.lms_book.specs.Stops.{after_write}
+use Rattle.lms_world.specs.Names.{Bytes}
+use Rattle.lms_world.specs.Events.{Acquired, Event, Locked, NodesRead, PutBack, Read, Taken, Writing}
+use Rattle.lms_world.specs.Held.{Answers, Held}
+use Rattle.lms_world.specs.Outcomes.{files_after}
+use Rattle.lms_commands.specs.InMemory.{KeepsNodes}
+use Rattle.lms_texts.specs.Options.{IsHexOf}
+use Rattle.lms_commands.specs.Logs.{WorldCalls, image_using, lock_answer, read_cause}
+use Rattle.lms_signature_commands.specs.SignInMemory.{FailsToSignInMemory, SignsInMemory, SignsMessage}
+use Rattle.lms_signature_commands.specs.SignLogs.{IsRandomizer, WritesSignature}
+use Rattle.lms_commands.proofs.AtState.{AreStill, lock_refused, unopened, unsigned}
+use Rattle.lms_commands.proofs.Telling.{Adds, KeepsOnly, Told, and_kept, and_then, keeps_only, nothing_done}
+use Rattle.lms_commands.proofs.Telling.{read_refused, same_held, told, unlocked, until_printing, was_state}
+use Rattle.lms_commands.proofs.Telling.{written_file}
+
+-- a signature is written to its file, or its write fails
+module _ {message state out : Bytes} {c text : List ℕ} {answer : Writing} {earlier last : WorldCalls}
+    (writes : WritesSignature c text out answer (Locked state Acquired ∷ Read message (Ok text) ∷ earlier) last) where
+  abbrev first : List Event
+  first =
+      PutBack (after_write (image_using 1 writes.signs.state) writes.signs.stores.1)
+      ∷ Taken (Some writes.signs.stores.0) ∷ NodesRead writes.nodes ∷ Locked state Acquired
+      ∷ Read message (Ok text) ∷ []
+
+  abbrev keeps : KeepsOnly writes.signs.trees writes.signs.until_stored writes.until_signed
+  keeps = keeps_only writes.signs.trees writes.signs.keeps
+
+  abbrev all_calls : Adds earlier last
+  all_calls = and_then (and_kept (record { calls = first; are = writes.signs.stores.4 }) keeps) writes.writes
+
+  signs : {random : Bytes} (old new : Held) → IsRandomizer random c → Told all_calls.calls old new
+      → SignsMessage random message old new
+  signs old new randomizer is =
+      let stores = writes.signs.stores in
+      let trees = writes.signs.trees in
+      let tell = keeps.tell first old is.tell.0 in
+      let kept = keeps.nodes first old.nodes in
+      record {
+        c = c;
+        text = text;
+        nodes = writes.nodes;
+        index = writes.index;
+        signature = writes.signature;
+        randomizer = randomizer;
+        given = tell.0.0.0.0.1;
+        free = tell.0.0.0.1;
+        nodes_were = tell.0.0.1;
+        uses = record {
+          state = writes.signs.state;
+          was = was_state writes.signs.state stores.2 tell.0.1.0;
+          next = writes.signs.next;
+          within = stores.3;
+          trees = trees;
+          signed = writes.signs.signed;
+          stored = is.state ∙ keeps.state first old.state;
+          kept = subst (λ (nodes : Option (List ℕ)). KeepsNodes trees old.nodes nodes) (sym is.nodes) kept;
+        };
+      }
+
+  no_other : (old : Held) → files_after (keeps.calls ++ first) old.files ≡ old.files
+  no_other old = keeps.files first old.files
+
+pub signs_in_memory : SignsInMemory
+unfolding signs
+signs_in_memory random message state out before printed old new earlier now
+    (c, text, last, randomizer, (delivers, line), calls) follows =
+    let writes = delivers.writes in
+    let all = and_then (and_then (all_calls writes) delivers.prints) calls in
+    let is = until_printing (unlocked (told old new all follows)) in
+    let files = is.files ∙ ap (λ (files : Answers). (out, Ok writes.signature) ∷ files) (no_other writes old) in
+    (signs writes old new randomizer is, written_file out writes.signature old.files new.files files, line)
+
+pub fails_to_sign_in_memory : FailsToSignInMemory
+unfolding signs
+fails_to_sign_in_memory random message state out before printed fault old new earlier now
+    (inl (bad, calls, same, no_hex)) follows =
+    let stays = nothing_done old new calls follows in
+    (inl (bad, no_hex, stays), λ other. ap (λ (h : Held). h.files) stays)
+fails_to_sign_in_memory random message state out before printed fault old new earlier now
+    (inr (inl (refused, calls, same, hex))) follows =
+    let is = told old new (record { calls = Read message (Err (read_cause fault)) ∷ []; are = calls }) follows in
+    let stays = same_held old new is.files is.state is.may_fail is.in_use is.nodes is.nodes_fault in
+    let why = read_refused fault message old.files refused is.tell.1 in (
+      inr (hex, ⊎_elim (λ memory. inl (memory, stays)) (λ device. inr (inl (device.0, device.1, stays))) why),
+      λ other. is.files,
+    )
+fails_to_sign_in_memory random message state out before printed fault old new earlier now
+    (inr (inr (inl (text, refused, calls, same, hex)))) follows =
+    let first = Locked state (lock_answer fault) ∷ Read message (Ok text) ∷ [] in
+    let is = told old new (record { calls = first; are = calls }) follows in
+    let stays = same_held old new is.files is.state is.may_fail is.in_use is.nodes is.nodes_fault in
+    let never = lock_refused fault state (Read message (Ok text) ∷ []) old new refused is.tell.1 stays in
+    (inr (hex, inr (inr (text, is.tell.0.1, inl never))), λ other. is.files)
+fails_to_sign_in_memory random message state out before printed fault old new earlier now
+    (inr (inr (inr (c, text, last, randomizer, inl (nodes, never, same), calls)))) follows =
+    let base : List Event = NodesRead nodes ∷ Locked state Acquired ∷ Read message (Ok text) ∷ [] in
+    let still : AreStill base =
+    record { files = λ f. refl; state = λ s. refl; nodes = λ n. refl; may_fail = λ a b is. is } in
+    let hex : IsHexOf hash_length random = (c, randomizer.0, randomizer.1) in
+    ⊎_elim
+    (λ unread.
+    let is = unopened base still {before = earlier} refl calls old new follows fault unread in
+    (inr (hex, inr (inr (text, is.0.0.0.1, inr (is.0.0.1, inl is.1)))), λ other. is.1.1.files))
+    (λ at.
+    let is = unsigned base still {before = earlier} refl calls old new follows 1 at.0 fault at.1 in
+    (inr (hex, inr (inr (text, is.0.0.0.1, inr (is.0.0.1, inr (inl is.1.1))))), λ other. is.1.0))
+    never
+fails_to_sign_in_memory random message state out before printed fault old new earlier now
+    (inr (inr (inr (c, text, last, randomizer, inr (at, inl (cause, writes, same)), calls)))) follows =
+    let is = unlocked (told old new (and_then (all_calls writes) calls) follows) in
+    let made = signs writes old new randomizer is in
+    let end = inr (inr (at, (made, inl (is.files ∙ no_other writes old)))) in (
+      inr ((c, randomizer.0, randomizer.1), inr (inr (text, made.given, inr (made.free, end)))),
+      λ other. absurd (other at),
+    )
+fails_to_sign_in_memory random message state out before printed fault old new earlier now
+    (inr (inr (inr (c, text, last, randomizer, inr (at, inr (delivers, line)), calls)))) follows =
+    let writes = delivers.writes in
+    let all = and_then (and_then (all_calls writes) delivers.prints) calls in
+    let is = until_printing (unlocked (told old new all follows)) in
+    let made = signs writes old new randomizer is in
+    let files = is.files ∙ ap (λ (files : Answers). (out, Ok writes.signature) ∷ files) (no_other writes old) in
+    let end = inr (inr (at, (made, inr (written_file out writes.signature old.files new.files files)))) in (
+      inr ((c, randomizer.0, randomizer.1), inr (inr (text, made.given, inr (made.free, end)))),
+      λ other. absurd (other at),
+    )

@@ -1,0 +1,315 @@
+-- What `sign` and `batch` do with their state, and which signatures leave them, by the calls that
+-- they make.
+use Rattle.std.proofs.Common.{◌≡◌, ◌∙◌, ℕ, zero, suc, ◌+◌, ◌≤◌, false, List, [], ◌∷◌, ◌++◌, length, map, Option, Some}
+use Rattle.std.proofs.Common.{None, Ok}
+use Rattle.std.proofs.Common.{Err, ap, refl, subst, sym, inl, inr, ◌⊎◌, arith}
+use Rattle.std.specs.Prelude.{Vec}
+use Rattle.std.specs.Global.{Global}
+use Rattle.std.specs.List.{list_any}
+use Rattle.std.specs.Option.{option_map}
+use Rattle.lms_hss.specs.declared.key.HssKey.{HssKey as KeyOfCode}
+use Rattle.lms_image.specs.Image.{IsImage}
+use Rattle.lms_batch.specs.Batches.{HoldsOnly, batch_of}
+use Rattle.lms_batch.specs.Jobs.{JobText}
+use Rattle.lms_batch.specs.Answers.{IsAnswerTo, start_of}
+use Rattle.lms_batch.specs.declared.collector.Batch.{Batch}
+use Rattle.lms_batch.specs.declared.collector.Batch.TheVariants as batches
+use Rattle.lms_lines.specs.AnswerLines.{answer_line, answer_text, answers}
+use Rattle.lms_blocks.specs.Writing.{AppendsFront}
+use Rattle.lms_world.specs.Names.{Bytes}
+use Rattle.lms_world.specs.Events.{Acquired, Event, Locked, NodesRead, Printing, Read, Unlocked, Writing}
+use Rattle.lms_signature_commands.specs.BatchLogs.{AnswersJobs, LogsAnswers, LogsJobs, LogsJobsFailed, LogsJobsUnsigned}
+use Rattle.lms_signature_commands.specs.BatchLogs.{LogsNoBatch, LogsUnanswered, LogsUnprinted, UsesAll}
+use Rattle.lms_commands.specs.Histories.{AreDelivered, AreInOrder, ArePrinted, AreWritten, IsSignature, IsTurn, Prints}
+use Rattle.lms_commands.specs.Histories.{StoresNothing, Signature, Turn, Uses, hands_out, is_of_store, signature_lines}
+use Rattle.lms_commands.specs.Histories.{store_calls, written_in}
+use Rattle.lms_commands.specs.Logs.{KeyState, WorldCalls}
+use Rattle.lms_signature_commands.specs.SignLogs.{DeliversSignature, index_line, LogsNotSigned, LogsSign}
+use Rattle.lms_signature_commands.specs.SignLogs.{LogsSignFailed}
+use Rattle.lms_signature_commands.specs.SignLogs.{LogsUndelivered, WritesSignature}
+use Rattle.lms_commands.specs.declared.fault.Fault.{Fault}
+use Rattle.lms_commands.proofs.Turns.{Quietly, idle_as, keeping, left_so, no_text, one_more, unopened, unsigned, used}
+use Rattle.lms_commands.proofs.Turns.{whole_text}
+
+-- ---- `sign`
+
+-- the signatures that leave are those that are written
+abbrev pub Delivers : List ℕ → List ℕ → WorldCalls → Type 0
+Delivers before printed whole = (turn : Turn) × (signatures : List Signature) × IsTurn turn signatures whole
+    × AreDelivered signatures whole before printed
+
+module _ (old : WorldCalls) (quiet : list_any hands_out old ≡ false) (none : store_calls old ≡ [])
+    (no_file : written_in old ≡ []) where
+  abbrev signature_of : {random message : List ℕ} {out : Bytes} {answer : Writing} {new : WorldCalls}
+      → WritesSignature random message out answer old new → Signature
+  signature_of writes = record { key = writes.signs.state.key; index = writes.index; bytes = writes.signature }
+
+  writes_one : (random message : List ℕ) (out : Bytes) (answer : Writing) (new : WorldCalls)
+      (writes : WritesSignature random message out answer old new)
+      → (turn : Turn) × IsTurn turn (signature_of writes ∷ []) new × AreWritten (signature_of writes ∷ []) new
+  writes_one random message out written new writes =
+      let signs = writes.signs in
+      let one = signature_of writes in
+      let made : IsSignature one = (random, message, inr (signs.signed.nodes, signs.signed.signed)) in
+      let are : AreInOrder signs.state.key signs.state.index (signs.state.index + 1) (one ∷ []) =
+      (made, refl, omega (arith, signs.next), omega (arith, signs.next), tt) in
+      let stored = used (NodesRead writes.nodes ∷ old) quiet none 1 signs.state signs.until_stored signs.stores
+      (omega arith) (one ∷ []) are in
+      let kept = keeping signs.trees signs.until_stored writes.until_signed signs.keeps stored in (
+        _,
+        one_more new _ refl writes.writes kept.0,
+        ap written_in writes.writes ∙ ap (λ (texts : List (List ℕ)). writes.signature ∷ texts)
+            (kept.1 ∙ (ap written_in signs.stores.4 ∙ no_file)),
+      )
+
+  delivered : (random message : List ℕ) (out : Bytes) (before printed : List ℕ) (new : WorldCalls)
+      (delivers : DeliversSignature random message out before old new)
+      → Prints before printed (index_line delivers.writes) → Delivers before printed new
+  delivered random message out before printed new delivers line =
+      let written = writes_one random message out (Ok tt) delivers.until_written delivers.writes in (
+        written.0,
+        signature_of delivers.writes ∷ [],
+        one_more new _ refl delivers.prints written.1,
+        (ap written_in delivers.prints ∙ written.2, inr (signature_of delivers.writes, refl, line)),
+      )
+
+  not_signed : (new : WorldCalls) (nodes : Option (List ℕ)) (fault : Fault)
+      → LogsNotSigned fault (NodesRead nodes ∷ old) new → Quietly (NodesRead nodes ∷ old) new
+  not_signed new nodes fault (inl never) = (StoresNothing, unopened (NodesRead nodes ∷ old) quiet none new fault never)
+  not_signed new nodes fault (inr (state, never)) =
+      unsigned (NodesRead nodes ∷ old) quiet none 1 state new (omega arith) fault never
+
+  undelivered : (random message : List ℕ) (out : Bytes) (before printed : List ℕ) (fault : Fault) (new : WorldCalls)
+      → LogsUndelivered random message out before printed fault old new → Delivers before printed new
+  undelivered random message out before printed fault new (inl (nodes, never, same)) =
+      let is = not_signed new nodes fault never in (is.0, [], is.1.takes, (is.1.unwritten ∙ no_file, inl same))
+  undelivered random message out before printed fault new (inr (at, inl (cause, is, same))) =
+      let written = writes_one random message out (Err cause) new is in
+      (written.0, signature_of is ∷ [], written.1, (written.2, inl same))
+  undelivered random message out before printed fault new (inr (at, inr (delivers, line))) =
+      delivered random message out before printed new delivers line
+
+-- the lock is handed back
+unlocked : (before printed : List ℕ) (log new : WorldCalls) → new ≡ Unlocked ∷ log → Delivers before printed log
+    → Delivers before printed new
+unlocked before printed log new calls (turn, signatures, is, (written, line)) =
+    (turn, signatures, one_more new Unlocked refl calls is, (ap written_in calls ∙ written, line))
+
+pub sign_turn : (random message state out : Bytes) (before printed : List ℕ) (whole : WorldCalls)
+    → LogsSign random message state out before printed [] whole
+    → Delivers before printed whole
+sign_turn random message state out before printed whole (c, text, last, decoded, (delivers, line), calls) =
+    unlocked before printed last whole calls
+    (delivered (Locked state Acquired ∷ Read message (Ok text) ∷ []) refl refl refl c text out before printed last
+    delivers (whole_text before printed (index_line delivers.writes) line))
+
+nothing_delivered : (before printed : List ℕ) (new calls : WorldCalls) → new ≡ calls → store_calls calls ≡ []
+    → list_any hands_out calls ≡ false → written_in calls ≡ []
+    → printed ≡ before → Delivers before printed new
+nothing_delivered before printed new calls is none quiet no_file same =
+    (StoresNothing, [], idle_as new calls is none quiet, (ap written_in is ∙ no_file, inl same))
+
+pub sign_failed_turn : (random message state out : Bytes) (before printed : List ℕ) (fault : Fault) (whole : WorldCalls)
+    → LogsSignFailed random message state out before printed fault [] whole → Delivers before printed whole
+sign_failed_turn random message state out before printed fault whole (inl (bad, calls, same, no_hex)) =
+    nothing_delivered before printed whole _ calls refl refl refl same
+sign_failed_turn random message state out before printed fault whole (inr (inl (refused, calls, same, hex))) =
+    nothing_delivered before printed whole _ calls refl refl refl same
+sign_failed_turn random message state out before printed fault whole
+    (inr (inr (inl (text, refused, calls, same, hex)))) =
+    nothing_delivered before printed whole _ calls refl refl refl same
+sign_failed_turn random message state out before printed fault whole
+    (inr (inr (inr (c, text, last, decoded, never, calls)))) =
+    unlocked before printed last whole calls
+    (undelivered (Locked state Acquired ∷ Read message (Ok text) ∷ []) refl refl refl c text out before printed
+    fault last never)
+
+-- ---- `batch`
+
+-- a turn uses so many indices of a state that it reads; of none, it stores nothing
+abbrev pub IsUseOf : ℕ → KeyState → Turn → Type 0
+IsUseOf zero state turn = turn ≡ StoresNothing
+IsUseOf (suc n) state turn =
+    (text : List ℕ) × IsImage text state.key state.index state.openings state.burnt
+    × (turn ≡ Uses (suc n) state text)
+
+-- the slots of a batch
+abbrev pub slots_of : Batch → List (Option (List ℕ))
+slots_of (batches.Complete start signatures) = map (λ v. Some v.items) signatures.items
+slots_of (batches.Partial start slots) = map (option_map (λ v. v.items)) slots.items
+
+-- the signatures in slots, at one index after another
+abbrev pub filled : KeyOfCode → ℕ → List (Option (List ℕ)) → List Signature
+filled key index [] = []
+filled key index (None ∷ slots) = filled key (index + 1) slots
+filled key index (Some bytes ∷ slots) =
+    record { key = key; index = index; bytes = bytes } ∷ filled key (index + 1) slots
+
+answer_lines : (key : KeyOfCode) (index : ℕ) (slots : List (Option (List ℕ)))
+    → answers index slots ≡ signature_lines (filled key index slots)
+answer_lines key index [] = refl
+answer_lines key index (None ∷ slots) = answer_lines key (index + 1) slots
+answer_lines key index (Some bytes ∷ slots) =
+    ap (λ (text : List ℕ). answer_line index bytes ++ text) (answer_lines key (index + 1) slots)
+
+pub batch_lines : (key : KeyOfCode) (batch : Batch)
+    → answer_text batch ≡ signature_lines (filled key (start_of batch) (slots_of batch))
+batch_lines key (batches.Complete start signatures) =
+    answer_lines key start (slots_of (batches.Complete start signatures))
+batch_lines key (batches.Partial start slots) = answer_lines key start (slots_of (batches.Partial start slots))
+
+in_slots : (key : KeyOfCode) (start : ℕ) (jobs : List JobText) (slots : List (Option (List ℕ)))
+    → HoldsOnly (batch_of key start jobs) slots
+    → (least end : ℕ) → least ≤ start → end ≡ start + length jobs → AreInOrder key least end (filled key start slots)
+in_slots key start [] [] holds least end from to = tt
+in_slots key start [] (slot ∷ slots) holds least end from to = absurd holds
+in_slots key start (job ∷ jobs) [] holds least end from to = absurd holds
+in_slots key start (job ∷ jobs) (None ∷ slots) holds least end from to =
+    in_slots key (start + 1) jobs slots holds least end (omega (arith, from)) (omega (arith, to))
+in_slots key start (job ∷ jobs) (Some bytes ∷ slots) (is, holds) least end from to = (
+  (job.c, job.message, inl is),
+  refl,
+  from,
+  omega (arith, to),
+  in_slots key (start + 1) jobs slots holds (start + 1) end (omega arith) (omega (arith, to)),
+)
+
+holds_all : (xs : List (List ℕ)) → HoldsOnly xs (map Some xs)
+holds_all [] = tt
+holds_all (x ∷ xs) = (refl, holds_all xs)
+
+some_items : (vs : List (Vec ℕ Global)) → map (λ v. Some v.items) vs ≡ map Some (map (λ v. v.items) vs)
+some_items [] = refl
+some_items (v ∷ vs) = ap (λ (slots : List (Option (List ℕ))). Some v.items ∷ slots) (some_items vs)
+
+holds_batch : (key : KeyOfCode) (jobs : List JobText) (batch : Batch) → IsAnswerTo key (start_of batch) jobs batch
+    → HoldsOnly (batch_of key (start_of batch) jobs) (slots_of batch)
+holds_batch key jobs (batches.Complete start signatures) (slots, (at, are, all, accepted)) =
+    subst (λ (list : List (Option (List ℕ))). HoldsOnly (batch_of key start jobs) list)
+    (sym (some_items signatures.items ∙ ap (map Some) are)) (holds_all (batch_of key start jobs))
+holds_batch key jobs (batches.Partial start vs) (slots, (at, are, holds, empty, accepted)) =
+    subst (λ (list : List (Option (List ℕ))). HoldsOnly (batch_of key start jobs) list) (sym are) holds
+
+-- the signatures that leave are those of which lines are printed
+abbrev pub PrintsAll : List ℕ → List ℕ → WorldCalls → Type 0
+PrintsAll before printed whole = (turn : Turn) × (signatures : List Signature) × IsTurn turn signatures whole
+    × ArePrinted signatures whole before printed
+
+-- a call more, which writes no file
+pub prints_more : (before printed : List ℕ) (log new : WorldCalls) (event : Event) → is_of_store event ≡ false
+    → written_in (event ∷ log) ≡ written_in log → new ≡ event ∷ log
+    → PrintsAll before printed log → PrintsAll before printed new
+prints_more before printed log new event other silent calls (turn, signatures, is, (no_file, lines)) =
+    (turn, signatures, one_more new event other calls is, (ap written_in calls ∙ (silent ∙ no_file), lines))
+
+module _ (old : WorldCalls) (quiet : list_any hands_out old ≡ false) (none : store_calls old ≡ [])
+    (no_file : written_in old ≡ []) (input rest : Option (List ℕ))
+    (before printed : List ℕ) where
+  quietly_all : (new : WorldCalls) → Quietly old new → printed ≡ before → PrintsAll before printed new
+  quietly_all new (turn, is) same = (turn, [], is.takes, (is.unwritten ∙ no_file, no_text before printed [] same))
+
+  signed_all : (batch : Batch) (state : KeyState) (jobs : List JobText) (new : WorldCalls)
+      → IsAnswerTo state.key (start_of batch) jobs batch
+      → (1 ≤ length jobs → start_of batch ≡ state.index) → UsesAll (length jobs) state old new
+      → (turn : Turn) × IsTurn turn (filled state.key (start_of batch) (slots_of batch)) new × (written_in new ≡ [])
+      × IsUseOf (length jobs) state turn
+  signed_all batch state [] new answer next uses =
+      let is = left_so old quiet none state new uses in (
+        StoresNothing,
+        subst (λ (ones : List Signature). IsTurn StoresNothing ones new)
+            (sym (nothing_in _ (holds_batch state.key [] batch answer))) is.takes,
+        is.unwritten ∙ no_file,
+        refl,
+      )
+    where
+      nothing_in : (slots : List (Option (List ℕ))) → HoldsOnly [] slots → filled state.key (start_of batch) slots ≡ []
+      nothing_in [] holds = refl
+      nothing_in (slot ∷ slots) holds = absurd holds
+  signed_all batch state (job ∷ jobs) new answer next uses =
+      let at = next (omega arith) in
+      let are = in_slots state.key (start_of batch) (job ∷ jobs) (slots_of batch)
+      (holds_batch state.key (job ∷ jobs) batch answer) state.index
+      (state.index + length (job ∷ jobs)) (omega (arith, at)) (omega (arith, at)) in
+      let text = uses.2.text in (
+        Uses (length (job ∷ jobs)) state text,
+        used old quiet none (length (job ∷ jobs)) state new uses (omega arith) _ are,
+        ap written_in uses.4 ∙ no_file,
+        (text, uses.2.image, refl),
+      )
+
+  -- what is signed as a batch is a turn, once its lines begin to be printed
+  pub record BatchTurn (n : ℕ) (state : KeyState) (batch : Batch) (new : WorldCalls) : Type 0 where
+    pub turn : Turn
+    pub takes : IsTurn turn (filled state.key (start_of batch) (slots_of batch)) new
+    pub unwritten : written_in new ≡ []
+    pub uses : IsUseOf n state turn
+
+  pub batch_turn : (batch : Batch) (new : WorldCalls) (answers : AnswersJobs input rest before batch old new)
+      → BatchTurn (length answers.signs.jobs) answers.signs.state batch new
+  batch_turn batch new answers =
+      let signs = answers.signs in
+      let is = signed_all batch signs.state signs.jobs answers.until_signed signs.answer signs.next signs.uses in
+      record {
+        turn = is.0;
+        takes = one_more new (Printing before) refl answers.prints is.1;
+        unwritten = ap written_in answers.prints ∙ is.2;
+        uses = is.3;
+      }
+
+  answered : (batch : Batch) (new : WorldCalls) → AnswersJobs input rest before batch old new
+      → AppendsFront (Some before) (Some printed) (answer_text batch)
+      → PrintsAll before printed new
+  answered batch new answers lines =
+      let is = batch_turn batch new answers in (
+        is.turn,
+        _,
+        is.takes,
+        (
+          is.unwritten,
+          subst (λ (text : List ℕ). AppendsFront (Some before) (Some printed) text)
+              (batch_lines answers.signs.state.key batch) lines,
+        ),
+      )
+
+  pub all_answered : (count asked : ℕ) (new : WorldCalls) → LogsAnswers input rest before printed count asked old new
+      → PrintsAll before printed new
+  all_answered count asked new (batch, answers, count_is, asked_is, text) =
+      answered batch new answers (whole_text before printed (answer_text batch) text)
+
+  unprinted : (new : WorldCalls) (fault : Fault) → LogsUnprinted input rest before printed fault old new
+      → PrintsAll before printed new
+  unprinted new fault (inl (count, asked, at, differ, is)) = all_answered count asked new is
+  unprinted new fault (inr (at, is)) = answered is.0 new is.1 is.2
+
+  jobs_unsigned : (state : KeyState) (new : WorldCalls) (fault : Fault)
+      → LogsJobsUnsigned input rest fault state old new → Quietly old new
+  jobs_unsigned state new fault (inl (unread, is)) = (StoresNothing, left_so old quiet none state new is)
+  jobs_unsigned state new fault (inr (jobs, read, some, is)) =
+      unsigned old quiet none (length jobs) state new some fault is
+
+  no_batch : (new : WorldCalls) (fault : Fault) → LogsNoBatch input rest fault old new → Quietly old new
+  no_batch new fault (inl never) = (StoresNothing, unopened old quiet none new fault never.0)
+  no_batch new fault (inr (state, never)) = jobs_unsigned state new fault never
+
+  pub unanswered : (new : WorldCalls) (fault : Fault) → LogsUnanswered input rest before printed fault old new
+      → PrintsAll before printed new
+  unanswered new fault (inl (never, same)) = quietly_all new (no_batch new fault never) same
+  unanswered new fault (inr never) = unprinted new fault never
+
+pub jobs_turn : (state workers : Bytes) (input rest : Option (List ℕ)) (before printed : List ℕ) (whole : WorldCalls)
+    → LogsJobs state workers input rest before printed [] whole
+    → PrintsAll before printed whole
+jobs_turn state workers input rest before printed whole (last, count, is, calls, are) =
+    prints_more before printed last whole Unlocked refl refl calls
+    (all_answered (Locked state Acquired ∷ []) refl refl refl input rest before printed count count last is)
+
+pub jobs_failed_turn : (state workers : Bytes) (input rest : Option (List ℕ)) (before printed : List ℕ) (fault : Fault)
+    (whole : WorldCalls)
+    → LogsJobsFailed state workers input rest before printed fault [] whole → PrintsAll before printed whole
+jobs_failed_turn state workers input rest before printed fault whole (inl (bad, calls, same, are, unread)) =
+    (StoresNothing, [], idle_as whole [] calls refl refl, (ap written_in calls, no_text before printed [] same))
+jobs_failed_turn state workers input rest before printed fault whole (inr (inl (refused, calls, same, are, unread))) =
+    (StoresNothing, [], idle_as whole _ calls refl refl, (ap written_in calls, no_text before printed [] same))
+jobs_failed_turn state workers input rest before printed fault whole (inr (inr (last, never, calls, are))) =
+    prints_more before printed last whole Unlocked refl refl calls
+    (unanswered (Locked state Acquired ∷ []) refl refl refl input rest before printed last fault never)

@@ -1,0 +1,17 @@
+//! What the commands on signatures do, from their options' texts to the bytes on their output.
+//!
+//! Files and states are reached through a [`World`](lms_world::World).
+#![tactic(auto)]
+
+mod batch;
+pub mod laws;
+mod serve;
+mod sign;
+mod verdict;
+mod verify;
+
+pub use crate::batch::sign_jobs;
+pub use crate::serve::serve_jobs;
+pub use crate::sign::{SignRequest, sign_file};
+pub use crate::verdict::Verdict;
+pub use crate::verify::verify_files;

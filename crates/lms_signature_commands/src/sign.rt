@@ -1,0 +1,222 @@
+//! `sign`: a message signed with the next index of a key's state.
+ghost use Rattle.std.specs.Prelude.{◌++◌, ◌≡◌, IfErr, IfOk, OnOk, codes, option_map};
+ghost use Rattle.lms_spec.specs.HashLength.{hash_length};
+ghost use Rattle.lms_kept.specs.Signed.{IsSignedByText};
+ghost use Rattle.lms_book.specs.Books.{counter};
+ghost use Rattle.lms_signature_commands.specs.Signing.{of_signing};
+ghost use Rattle.lms_texts.specs.Descriptions.{number_line};
+ghost use Rattle.lms_texts.specs.Options.{IsHexOf};
+ghost use Rattle.lms_commands.specs.Logs.{FailsToPublish, LogsKeeping, Publishes};
+ghost use Rattle.lms_signature_commands.specs.SignLogs.{index_line, DeliversSignature, IsRandomizer, LogsNotSigned, LogsSign, LogsSignFailed, LogsSigned, LogsUndelivered};
+ghost use Rattle.lms_world.specs.Held.{Follows};
+ghost use Rattle.lms_signature_commands.specs.Signing.{GivesOne, SignsNothing};
+
+use lms_batch::Job;
+use lms_book::{Book, BookFault, StateStore};
+use lms_commands::{
+    Fault, Resources, keep_trees, kept_text, lock_state, open_state, read_file, write_file,
+};
+use lms_hss::Progress;
+use lms_kept::{KeptSignature, sign_by_text};
+use lms_params::{HASH_LEN, OutOfMemory};
+use lms_texts::{print_index, read_bytes};
+use lms_world::{Printer, World};
+use std::alloc::Global;
+use std::io::Write;
+use std::thread::Threads;
+
+/// Why a message was not signed.
+#[derive(Clone, Copy)]
+enum NextFault {
+    /// No index was reserved.
+    Book(BookFault),
+    /// Memory was refused after the reservation: the index is used, and signed nothing.
+    OutOfMemory,
+}
+
+impl From<NextFault> for Fault {
+    ghost from_gives = { λ sign_fault fault. fault ≡ of_signing sign_fault };
+
+    fn from(fault: NextFault) -> Self {
+        match fault {
+            NextFault::Book(fault) => Fault::from(fault),
+            NextFault::OutOfMemory => Fault::OutOfMemoryBurnt { count: 1 },
+        }
+    }
+}
+
+/// What `sign` is asked for: a randomizer of 64 hexadecimal digits, and the names of the key's state
+/// and of the files of the message and the signature.
+#[derive(Clone, Copy)]
+pub struct SignRequest<'a> {
+    pub state: &'a str,
+    pub random: &'a str,
+    pub message: &'a str,
+    pub out: &'a str,
+}
+
+/// Signs the message in a file with the next index of a state's key, under a randomizer of 64
+/// hexadecimal digits, writes the signature to a file and prints the index.
+///
+/// Faults, in this order: `BadRandom`; `ReadInput` where the message can't be read; `StateInUse`
+/// where the state's lock is not available; `ReadState`; `BadState`; `Exhausted`; `WriteStateBurnt`
+/// where the use of the index may not have been stored; `OutOfMemoryBurnt` and `WriteOutput` once
+/// it was. `OutOfMemory` may come anywhere before `WriteStateBurnt`. At the last two the index is
+/// used; after `WriteStateBurnt` the state may still be the older one, which gives the index again.
+/// No file is written before the use of the index was stored.
+///
+/// What is kept of the key's trees beside the state is read before the state is opened, and where
+/// the signature needed other nodes it is kept anew once the use of the index was stored, before
+/// the file is written. Where either can't be done, that is no fault.
+///
+/// `resources.progress` gets how many leaves of the trees that the signature needs are computed.
+pub fn sign_file<W: World, O: Write>(
+    resources: &Resources<impl Threads + Sync, impl Progress>,
+    world: &mut W,
+    request: &SignRequest,
+    output: &mut Printer<O>,
+) -> Result<(), Fault>
+    ensures logged { OnOk result (LogsSign request.now.random.now request.now.message.now
+        request.now.state.now request.now.out.now output.old output.new
+        (W.events world.old) (W.events world.new)) }
+    ensures log_failed { IfErr result (λ fault. LogsSignFailed request.now.random.now
+        request.now.message.now request.now.state.now request.now.out.now output.old output.new fault
+        (W.events world.old) (W.events world.new)) }
+    ensures follows { Follows (W.memory world.old) (W.events world.old)
+        (W.memory world.new) (W.events world.new) }
+{
+    let randomizer = randomizer_from(request.random)?;
+    let message = read_file(resources.alloc, world, request.message)?;
+    let job = Job {
+        c: randomizer,
+        message,
+    };
+    let lock = lock_state(resources.alloc, world, request.state)?;
+    let done = sign_locked(resources, world, &lock, &job, request.out, output);
+    world.unlock(lock);
+    done
+}
+
+/// The same, once the message is read and the lock is acquired.
+fn sign_locked<W: World, O: Write>(
+    resources: &Resources<impl Threads + Sync, impl Progress>,
+    world: &mut W,
+    lock: &W::Lock,
+    job: &Job,
+    out: &str,
+    output: &mut Printer<O>,
+) -> Result<(), Fault>
+    ensures logged { OnOk result ((delivers : DeliversSignature
+        job.now.c job.now.message.items out.now output.old (W.events world.old) (W.events world.new))
+        × (output.new ≡ output.old ++ index_line delivers.writes)) }
+    ensures log_failed { IfErr result (λ fault. LogsUndelivered job.now.c job.now.message.items
+        out.now output.old output.new fault (W.events world.old) (W.events world.new)) }
+    ensures follows { Follows (W.memory world.old) (W.events world.old)
+        (W.memory world.new) (W.events world.new) }
+{
+    let kept = kept_text(resources.alloc, world, lock);
+    let signed = sign_by_state(resources, world, lock, job, kept.as_deref())?;
+    deliver(world, out, &signed, output)
+}
+
+/// The randomizer of a text of 64 hexadecimal digits, else `BadRandom`.
+fn randomizer_from(text: &str) -> Result<[u8; HASH_LEN], Fault>
+    ensures read { IfOk result (IsRandomizer text.now) }
+    ensures refused { IfErr result (λ fault.
+        (fault ≡ Fault.BadRandom) × ¬ IsHexOf hash_length text.now) }
+{
+    Ok(read_bytes(text).ok_or(Fault::BadRandom)?)
+}
+
+/// Writes a signature to a file, and then prints its index. `WriteOutput` where either can't be
+/// done, also where memory for the file was refused, since the index is used.
+fn deliver<W: World, O: Write>(
+    world: &mut W,
+    out: &str,
+    signed: &KeptSignature,
+    output: &mut Printer<O>,
+) -> Result<(), Fault>
+    ensures published { OnOk result (Publishes
+        out.now signed.now.signature.items (number_line (codes "index") signed.now.index)
+        output.old output.new (W.events world.old) (W.events world.new)) }
+    ensures failed { IfErr result (λ fault. (fault ≡ Fault.WriteOutput)
+        × ((cause : Fault) × FailsToPublish
+        out.now signed.now.signature.items (number_line (codes "index") signed.now.index)
+        output.old output.new cause (W.events world.old) (W.events world.new))) }
+    ensures follows { Follows (W.memory world.old) (W.events world.old)
+        (W.memory world.new) (W.events world.new) }
+{
+    match write_file(world, out, &signed.signature) {
+        Ok(()) => {
+            world.begin_printing(output);
+            Ok(print_index(output, signed.index)?)
+        }
+        Err(_) => Err(Fault::WriteOutput),
+    }
+}
+
+/// Signs a message with the next index of the key of a lock's state.
+fn sign_by_state<W: World>(
+    resources: &Resources<impl Threads + Sync, impl Progress>,
+    world: &mut W,
+    lock: &W::Lock,
+    job: &Job,
+    kept: Option<&[u8]>,
+) -> Result<KeptSignature, Fault>
+    ensures logged { IfOk result (λ signed.
+        LogsSigned (option_map (λ text. text.now) kept.entry) job.now.c job.now.message.items
+        signed.index signed.signature.items (W.events world.old) (W.events world.new)) }
+    ensures log_failed { IfErr result (λ fault.
+        LogsNotSigned fault (W.events world.old) (W.events world.new)) }
+    ensures follows { Follows (W.memory world.old) (W.events world.old)
+        (W.memory world.new) (W.events world.new) }
+{
+    let mut book = open_state(resources.alloc, world, lock)?;
+    let signed = sign_next(resources, &mut book, job, kept);
+    world.put_back(lock, book.close());
+    match signed {
+        Ok(signed) => {
+            keep_signers(resources.alloc, world, lock, &signed);
+            Ok(signed)
+        }
+        Err(fault) => Err(Fault::from(fault)),
+    }
+}
+
+/// Keeps the trees that signed, where what was read did not serve the index as it was.
+fn keep_signers<W: World>(alloc: Global, world: &mut W, lock: &W::Lock, signed: &KeptSignature)
+    ensures logged { LogsKeeping signed.now.trees (W.events world.old) (W.events world.new) }
+    ensures follows { Follows (W.memory world.old) (W.events world.old)
+        (W.memory world.new) (W.events world.new) }
+{
+    if let Some(trees) = &signed.trees {
+        keep_trees(alloc, world, lock, trees);
+    }
+}
+
+/// Signs a job with the next index of a book (RFC 8554, 6.2). The use of the index is stored before
+/// the signature is made, by nodes that were kept where they sign what is accepted, and else by trees
+/// that are computed. `Book` where no index was reserved; `OutOfMemory` where memory is refused
+/// after that, and the index stays used. A crash at any moment leaves what it could leave before,
+/// or the image that counts the index.
+fn sign_next<S: StateStore>(
+    resources: &Resources<impl Threads + Sync, impl Progress>,
+    book: &mut Book<S>,
+    job: &Job,
+    kept: Option<&[u8]>,
+) -> Result<KeptSignature, NextFault>
+    ensures index { IfOk result (λ signed. signed.index ≡ counter book.old) }
+    ensures reserved { IfOk result (λ _. GivesOne book.old book.new) }
+    ensures failed { IfErr result (λ fault. SignsNothing book.old fault book.new) }
+    ensures signature { IfOk result (λ signed.
+        IsSignedByText (option_map (λ text. text.now) kept.entry) book.old.key signed.index
+        job.now.c job.now.message.items signed.signature.items signed.trees) }
+{
+    let lease = book.reserve(1).map_err(|fault| NextFault::Book(fault))?;
+    let message = job.message.as_slice();
+    let (rt, alloc) = (resources.rt, resources.alloc);
+    match sign_by_text(rt, alloc, lease, &job.c, message, kept, resources.progress) {
+        Ok(signed) => Ok(signed),
+        Err(OutOfMemory) => Err(NextFault::OutOfMemory),
+    }
+}
