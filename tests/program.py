@@ -15,7 +15,7 @@ import time
 import tty
 
 from tests.harness import TOP, Skipped, Wrong, holds
-from tests.reference import CHAINS, IDENTIFIER, RANDOMIZER, SEED, kept, signature_by, way_of
+from tests.reference import CHAINS, IDENTIFIER, RANDOMIZER, SEED, image, kept, signature_by, way_of
 from tests.seeds import input_of, keeps_secret
 
 EMULATED = os.environ.get("EMULATED")
@@ -209,6 +209,20 @@ def signs(levels, index, way=None, state="key.state", **how):
     put("text.sig", bytes(30000))
     ends(sign(state=state), 0, f"index {index}\n", **how)
     has("text.sig", signature_by(way or way_of(levels, index), b"abc"))
+
+
+def makes_again(levels, index, seed, identifier, randomizer, message, public_key, signature):
+    """The seed and the identifier of a key give its public key, and the index the signature, which is
+    valid."""
+    capacity = 2 ** sum(height for height, _ in levels)
+    spelt = ",".join(f"{height}/{width}" for height, width in levels)
+    ends(keygen(spelt, seed.hex(), identifier.hex()), 0, f"capacity {capacity}\n")
+    has("key.pub", public_key)
+    put("text", message)
+    put("key.state", image(levels, index, seed=seed, identifier=identifier))
+    ends(sign(randomizer=randomizer.hex()), 0, f"index {index}\n")
+    has("text.sig", signature)
+    ends(VERIFY, 0, "valid\n")
 
 
 def keeps(levels, at, held=None):

@@ -8,35 +8,19 @@ import re
 import shutil
 import subprocess
 
-from tests import harness
 from tests.harness import TOP, Wrong, checks, holds
+from tests.merge_check.c_programs import EXAMPLES, INCLUDES, LIBRARY, build, gives, said_by
 from tests.merge_check.crates import KIT, libraries_of, take_left
 from tests.program import PROGRAM, is_plain, join, join_public, keygen, put, read, sign, verify
 
-EXAMPLES = TOP / "examples"
 PUBLIC, MESSAGE, SIGNATURE = EXAMPLES / "release.pub", EXAMPLES / "firmware.bin", EXAMPLES / "firmware.sig"
 TWO_PUBLIC, TWO_SIGNATURE = EXAMPLES / "c/two_levels.pub", EXAMPLES / "c/two_levels.sig"
-LIBRARY = TOP / "crates/lms_c/out/liblms_c.a"
-# Where it is, while one of the others has its place.
+# Where the library is, while one of the others has its place.
 KEPT = "kept.a"
 NAMES = ["llvm", "sse2", "rattle"]
-INCLUDES = [f"-I{TOP}/include", f"-I{EXAMPLES}/c"]
-WARNINGS = ["-Wall", "-Wextra", "-pedantic", "-Werror"]
 EXPORTS = ["T lms_message_head", "T lms_verify", "T lms_verify_hash", "T lms_verify_pieces"]
 # The bytes of stack that docs/C.md asks of a boot loader.
 MOST_STACK = 4096
-
-
-def said_by(*words, **how):
-    """What a command prints to its two streams, which must end well."""
-    return harness.said_by(*words, stderr=subprocess.STDOUT, **how)
-
-
-def gives(verdict, *words):
-    """A program prints this verdict, and ends with its status."""
-    ran = subprocess.run(words, stdin=subprocess.DEVNULL, capture_output=True, text=True, check=False)
-    wanted = (["valid", "invalid"].index(verdict), f"{verdict}\n")
-    holds((ran.returncode, ran.stdout) == wanted, f"{words[0]}: {ran.returncode} {ran.stdout!r} {ran.stderr!r}, not {verdict}")
 
 
 def all_ways(verdict, public, message, signature):
@@ -203,11 +187,6 @@ def build_other(name, *words):
     return said
 
 
-def build(name, source, program):
-    """The program of a library of a name."""
-    said_by("cc", "-std=c99", "-O2", *WARNINGS, *INCLUDES, source, f"{name}.a", "-o", program)
-
-
 def build_installed():
     """By pkg-config, from the folder that lms_c was given, in which it is named without its path:
     flags with blanks would fall apart."""
@@ -330,8 +309,8 @@ def the_verifier_for_c(counter):
     counter.check("it is built by Rattle's own compiler", builds_by_rattle, bounds)
     bound = bounds[0] if bounds else None
     for name in NAMES:
-        counter.check(f"all ways are built, {name}", build, name, TOP / "tests/c/ways.c", f"programs/{name}_ways")
-        counter.check(f"the example is built, {name}", build, name, EXAMPLES / "c/verify.c", f"programs/{name}_verify")
+        counter.check(f"all ways are built, {name}", build, f"{name}.a", TOP / "tests/c/ways.c", f"programs/{name}_ways")
+        counter.check(f"the example is built, {name}", build, f"{name}.a", EXAMPLES / "c/verify.c", f"programs/{name}_verify")
         counter.check(f"it keeps to itself, {name}", keeps_to_itself, f"{name}.a")
         counter.check(f"it links with no C library, {name}", link_bare, f"bare_{name}", f"{name}.a", "cc")
         counter.check(f"it runs with no C library, {name}", judges_bare, f"./bare_{name}")

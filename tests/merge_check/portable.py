@@ -8,6 +8,7 @@ import shutil
 
 from tests.harness import ARGUMENTS, TOP, Skipped, Wrong, checks, holds, said_by
 from tests.merge_check import verifier_functions
+from tests.merge_check.c_programs import LIBRARY
 from tests.merge_check.crates import KIT
 from tests.merge_check.portable_targets import AT_ZERO, BOARDS, FILE, FOLDER, HERE, HOSTED, INCLUDES, MODES, STRICT, Target
 from tests.merge_check.portable_vectors import all_changes, all_vectors, header, some
@@ -15,7 +16,6 @@ from tests.merge_check.wasm_functions import build, compare, has_node, links, wa
 from tests.program import is_plain, put, read
 
 TARGET = "wasm64-unknown-unknown"
-LIBRARY = TOP / "crates/lms_c/out/liblms_c.a"
 CHANGES = int(ARGUMENTS[0]) if ARGUMENTS else 200
 TWO = ["5/4", "5/2,25/4"]
 # What emulators judge, with some changes, since they are slow. (Stack is measured on the first two.)

@@ -4,8 +4,7 @@ program: it makes each public key and each signature byte for byte, and finds it
 import re
 
 from tests.harness import TOP, add_test, holds
-from tests.program import VERIFY, ends, has, keygen, put, sign
-from tests.reference import image
+from tests.program import VERIFY, ends, makes_again, put
 
 FOLDER = TOP / "crates/lms_slow/src/vectors"
 VECTOR = re.compile(r"(?ms)^pub const (\w+): Vector = Vector \{$(.*?)^\};$")
@@ -30,15 +29,8 @@ def vectors():
 
 def is_made_again(levels, index, texts):
     """The key's seed gives its public key, and its index the signature, which alone is valid."""
-    seed, identifier, signature = (bytes.fromhex(texts[name]) for name in ("seed", "id", "signature"))
-    spelt = ",".join(f"{height}/{width}" for height, width in levels)
-    ends(keygen(spelt, texts["seed"], texts["id"]), 0, f"capacity {2 ** sum(height for height, _ in levels)}\n")
-    has("key.pub", bytes.fromhex(texts["public"]))
-    put("text", texts["message"].replace("\\n", "\n").encode())
-    put("key.state", image(levels, index, seed=seed, identifier=identifier))
-    ends(sign(randomizer=texts["randomizer"]), 0, f"index {index}\n")
-    has("text.sig", signature)
-    ends(VERIFY, 0, "valid\n")
+    *secrets, public, signature = (bytes.fromhex(texts[it]) for it in ("seed", "id", "randomizer", "public", "signature"))
+    makes_again(levels, index, *secrets, texts["message"].replace("\\n", "\n").encode(), public, signature)
     for at in (0, len(signature) // 2, len(signature) - 1):
         put("text.sig", signature[:at] + bytes([signature[at] ^ 1]) + signature[at + 1 :])
         ends(VERIFY, 1, "invalid\n")
