@@ -3,6 +3,7 @@ counted."""
 
 import os
 import pathlib
+import re
 import shutil
 import signal
 import subprocess
@@ -39,6 +40,11 @@ def said_by(*words, **how):
     ran = subprocess.run(words, check=False, **how)
     holds(ran.returncode == 0, f"{words[0]} ended with {ran.returncode}\n{ran.stdout[-2000:]}{(ran.stderr or '')[-2000:]}")
     return ran.stdout
+
+
+def blocks_of(document):
+    """The blocks of commands in a document of the repository, one after another."""
+    return re.findall(r"(?ms)^```\n(.*?)^```$", (TOP / document).read_text(encoding="utf-8"))
 
 
 def add_test(name, call, *arguments):

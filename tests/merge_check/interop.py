@@ -7,7 +7,7 @@ import re
 import subprocess
 import textwrap
 
-from tests.harness import TOP, Skipped, add_test, holds, test
+from tests.harness import TOP, Skipped, add_test, blocks_of, holds, test
 from tests.merge_check.peer_programs import PREFIX, has_botan
 from tests.program import put, read
 
@@ -26,7 +26,7 @@ BLOCKS = {
 
 def blocks():
     """The blocks of commands by their names."""
-    found = re.findall(r"(?ms)^```\n(.*?)^```$", (TOP / "docs/INTEROP.md").read_text(encoding="utf-8"))
+    found = blocks_of("docs/INTEROP.md")
     holds(len(found) == len(BLOCKS), f"{len(found)} blocks, and not {len(BLOCKS)}")
     return dict(zip(BLOCKS, found))
 

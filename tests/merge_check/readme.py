@@ -4,25 +4,13 @@ They need openssl and basenc."""
 import os
 import subprocess
 
-from tests.harness import TOP, holds, test
+from tests.harness import TOP, blocks_of, holds, test
 from tests.program import PROGRAM, put
-
-
-def blocks(text):
-    """The blocks of commands that run the program, one after the other."""
-    found, block, is_inside = [], "", False
-    for line in text.splitlines(keepends=True):
-        if line.startswith("```"):
-            found += [block] if "./lms_tool " in block else []
-            block, is_inside = "", not is_inside
-        elif is_inside:
-            block += line
-    return "".join(found)
 
 
 @test
 def each_signature_of_the_rounds_is_valid():
-    put("commands", blocks((TOP / "README.md").read_text(encoding="utf-8")).encode())
+    put("commands", "".join(it for it in blocks_of("README.md") if "./lms_tool " in it).encode())
     os.symlink(PROGRAM, "lms_tool")
     os.symlink(TOP / "examples", "examples")
     os.mkdir("home")

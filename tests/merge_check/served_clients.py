@@ -8,25 +8,30 @@ import shutil
 import socket
 import subprocess
 import sys
+import textwrap
 import time
 
-from tests.harness import TOP, Skipped, holds, test
+from tests.harness import TOP, Skipped, blocks_of, holds, test
 from tests.merge_check.service import ABC, SECONDS, answer
 from tests.program import PROGRAM, SERVE, ends, has, put, run, verify
 from tests.reference import image, public_of
 
 ONE = ((5, 4),)
 EXHAUSTED = "exhausted: 0 left"
-PAGE = TOP / "docs/SERVICE.md"
-HELP = TOP / "crates/lms_cli/src/command/help.rt"
 
 
-def lines_of(file, beginning):
-    """The lines of shell in a file that begin so, up to an empty line or the end of their block. The program
-    in them is the one that is tested."""
-    found = re.search(rf"(?m)^ *{re.escape(beginning)}[^`]*?$(?=\n(?:```|$))", file.read_text(encoding="utf-8"))
-    holds(found, f"{file.name} has no lines that begin with {beginning}")
-    return found[0].replace("lms_tool", PROGRAM)
+def of_the_page(beginning):
+    """The block of docs/SERVICE.md that begins so, with the program that is tested."""
+    found = [it for it in blocks_of("docs/SERVICE.md") if it.startswith(beginning)]
+    holds(len(found) == 1, f"{len(found)} blocks begin with {beginning}")
+    return found[0].rstrip("\n").replace("lms_tool", PROGRAM)
+
+
+def of_the_help():
+    """The example that `serve --help` prints, with the program that is tested."""
+    found = re.search(r"(?m)^Example.*:\n((?:  .*\n)+)", run(["serve", "--help"]).stdout)
+    holds(found, "there is no example")
+    return textwrap.dedent(found[1]).rstrip("\n").replace("lms_tool", PROGRAM)
 
 
 def by_bash(*lines):
@@ -79,7 +84,7 @@ def answers_over_a_socket():
 @test
 def bash_has_it_as_a_coprocess():
     put("key.state", image(ONE, 5))
-    said = by_bash(lines_of(PAGE, "coproc"), 'echo "$index ${#signature}"')
+    said = by_bash(of_the_page("coproc"), 'echo "$index ${#signature}"')
     holds(said == f"5 {len(answer(ONE, 5)) - 3}\n", f"it printed {said!r}")
     has("key.state", image(ONE, 6, 1))
 
@@ -89,7 +94,7 @@ def answers_over_named_pipes():
     put("key.state", image(ONE, 5))
     put("line", ABC)
     client = ["exec 3> jobs 4< answers", "cat line >&3", "head -n 1 <&4", "exec 3>&-", "wait $!"]
-    said = by_bash(f"{lines_of(HELP, 'mkfifo')} &", *client)
+    said = by_bash(f"{of_the_help()} &", *client)
     holds(said == answer(ONE, 5).decode(), f"it printed {said[:100]!r}")
 
 
@@ -99,7 +104,7 @@ def socat_gives_it_to_one_client():
     if not shutil.which("socat"):
         raise Skipped("there is no socat")
     put("key.state", image(ONE, 5))
-    with subprocess.Popen(lines_of(PAGE, "socat"), shell=True, stdin=subprocess.DEVNULL, stderr=subprocess.PIPE) as running:
+    with subprocess.Popen(of_the_page("socat"), shell=True, stdin=subprocess.DEVNULL, stderr=subprocess.PIPE) as running:
         try:
             last = time.monotonic() + SECONDS
             while not os.path.exists("jobs"):
