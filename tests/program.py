@@ -26,6 +26,8 @@ COMPILER = CROSS_COMPILER if EMULATED else ["cc"]
 # Who may not do what the tests want refused, where the user of the tests may do all.
 NOBODY = 65534
 NODES, DRAFT = "key.state.nodes", "key.state.nodes.new"
+# The witness's name beside the state, and where most tests have its file.
+WITNESS, PLACE = "key.state.witness", "other/witness"
 INFO = ["info", "--state", "key.state"]
 BATCH = ["batch", "--state", "key.state", "--workers", "2"]
 SERVE = ["serve", *BATCH[1:]]
@@ -57,6 +59,16 @@ def verify(message="text", signature="text.sig", public="key.pub"):
 def public(state="key.state", name="key.pub"):
     """The arguments of a `public`."""
     return ["public", "--state", state, "--public", name]
+
+
+def witness(counter=0, place=PLACE, state="key.state"):
+    """The arguments of a `witness`."""
+    return ["witness", "--state", state, "--on", place, "--counter", str(counter)]
+
+
+def resume(counter, state="key.state"):
+    """The arguments of a `resume`."""
+    return ["resume", "--state", state, "--counter", str(counter)]
 
 
 # The files that `join` reads, if no others are named.

@@ -181,6 +181,11 @@ def image(levels, *numbers, version=2, types=None, seed=SEED, identifier=IDENTIF
     return sealed(head + seed + identifier + b"".join(number(it, 8) for it in numbers))
 
 
+def witness_of(counter, identifier=IDENTIFIER):
+    """The witness of a key of which all indices below this one are used."""
+    return b"HSS key %s has used all indices below %d\n" % (identifier.hex().encode(), counter)
+
+
 def kept_parts(index, way, version=1):
     """What kept nodes have before their check value, part by part, by the way of an index."""
     parts = [b"HSSN", number(version, 4), number(index, 8)]

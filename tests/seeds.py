@@ -85,15 +85,17 @@ def keeps_secret(arguments, printed, folder=".", seeds=(), record=None, given_in
         contents = text.encode(errors="replace") if isinstance(text, str) else text or b""
         holds(not any(tells(contents, it) for it in seeds), f"{words[:1]}: the seed is printed")
     folders = {os.path.realpath(folder)}
-    for option, name in [("--state", STATE), *((it, given(words, it)) for it in ("--state", "--public", "--out"))]:
+    for option, name in [("--state", STATE), *((it, given(words, it)) for it in ("--state", "--public", "--out", "--on"))]:
         if name:
             path = os.path.realpath(os.path.join(folder, name))
-            folders |= {os.path.dirname(path)} if os.path.isdir(os.path.dirname(path)) else set()
+            folders.add(os.path.dirname(path))
             if option == "--state":
                 STATES.update((path, f"{path}.new"))
+                # (Its witness may be in another folder.)
+                folders.add(os.path.dirname(os.path.realpath(f"{path}.witness")))
     others = {os.path.realpath(os.path.join(folder, record))} if record else set()
     others |= STATES | INPUTS
-    for path in (os.path.join(it, name) for it in folders for name in os.listdir(it)):
+    for path in (os.path.join(it, name) for it in folders if os.path.isdir(it) for name in os.listdir(it)):
         if path not in others:
             contents = contents_of(path)
             holds(not any(tells(contents, it) for it in seeds), f"{words[:1]}: the seed is in {path}")

@@ -1,7 +1,7 @@
 /* ways PUBLIC MESSAGE SIGNATURE [head|none]: verifies in all ways of calling, in pieces and blocks
  * of 1, 55 and 64 bytes and of the whole, with empty ones between them. Prints the verdict, or says
  * which way differs from lms_verify. Ends with 6 where key and signature have a head and the last
- * argument is `none`, or have none and it is `head`. */
+ * argument is `none`, or have none and it is `head`. It is C as well as C++. */
 #include "lms.h"
 #include "sha256.h"
 #include <stdio.h>
@@ -18,7 +18,7 @@ static struct text read_file(const char *name) {
     struct text text = {0, 0};
     FILE *file = fopen(name, "rb");
     for (size_t got = 1; file && got > 0; text.len += got) {
-        uint8_t *bytes = realloc(text.bytes, text.len + 4096);
+        uint8_t *bytes = (uint8_t *)realloc(text.bytes, text.len + 4096);
         if (!bytes) exit(2);
         text.bytes = bytes;
         got = fread(bytes + text.len, 1, 4096, file);
@@ -35,7 +35,7 @@ static struct text read_file(const char *name) {
 static bool by_pieces(struct text key, struct text message, struct text signature, size_t size) {
     static const uint8_t nothing = 0;
     size_t count = 0;
-    struct lms_piece *pieces = malloc((2 * message.len + 2) * sizeof *pieces);
+    struct lms_piece *pieces = (struct lms_piece *)malloc((2 * message.len + 2) * sizeof *pieces);
     if (!pieces) exit(2);
     for (size_t at = 0; at < message.len; at += size) {
         struct lms_piece empty = {&nothing, 0};

@@ -16,6 +16,8 @@ from tests.harness import TOP, Skipped
 BROWSERS = ["chromium", "chromium-browser", "google-chrome", "google-chrome-stable"]
 OPTIONS = ["--headless=new", "--no-sandbox", "--disable-gpu", "--no-first-run", "--hide-scrollbars", "--window-size=800,1000"]
 SECONDS = 120
+# Whether a verdict is shown.
+IS_SHOWN = "document.getElementById('verdict').textContent !== ''"
 
 # Drops so many files of these bytes.
 DROP = """(() => {
@@ -90,12 +92,12 @@ class Browser:
                     raise RuntimeError(f"{method}: {answer['error']}")
                 return answer["result"]
 
-    def open(self, url):
-        """Opens a page, and waits until it is complete."""
+    def open(self, page):
+        """Opens the page in this file anew, and waits until it is complete."""
         self.session = None
         target = self.call("Target.createTarget", url="about:blank")["targetId"]
         self.session = self.call("Target.attachToTarget", targetId=target, flatten=True)["sessionId"]
-        self.call("Page.navigate", url=url)
+        self.call("Page.navigate", url=pathlib.Path(page).resolve().as_uri())
         self.wait_for("document.readyState === 'complete' && document.querySelectorAll('input').length === 3")
 
     def value(self, text):
@@ -128,7 +130,7 @@ class Browser:
         """The verdict and the outcome beside it, once Enter is pressed on the button, as from a
         keyboard."""
         self.press()
-        self.wait_for("document.getElementById('verdict').textContent !== ''")
+        self.wait_for(IS_SHOWN)
         return self.shown(), self.value("document.getElementById('outcome').textContent")
 
     def verdict_on(self, public, message, signature):
@@ -163,7 +165,7 @@ def opened(program, page):
     ending lets it be."""
     browser = Browser(program, os.path.abspath("profile"))
     try:
-        browser.open(pathlib.Path(page).resolve().as_uri())
+        browser.open(page)
         yield browser
     finally:
         browser.end()

@@ -1,6 +1,7 @@
 """The verifier, called from C, by the library that lms_c builds and by those that docs/C.md names
-beside it: the example, every way of calling, a program with no C library, and the same for aarch64
-and for browsers. What needs a tool that is not there is skipped."""
+beside it: the example, every way of calling, also from C++, what the header hands on, a program with
+no C library, and the same for aarch64 and for browsers. What needs a tool that is not there is
+skipped."""
 
 import os
 import pathlib
@@ -9,8 +10,9 @@ import shutil
 import subprocess
 
 from tests.harness import TOP, Wrong, checks, holds
-from tests.merge_check.c_programs import EXAMPLES, INCLUDES, LIBRARY, build, gives, said_by
+from tests.merge_check.c_programs import C, CPLUSPLUS, EXAMPLES, INCLUDES, LIBRARY, build, build_by, gives, said_by
 from tests.merge_check.crates import KIT, libraries_of, take_left
+from tests.merge_check.portable_vectors import LONGEST, signed
 from tests.program import PROGRAM, is_plain, join, join_public, keygen, put, read, sign, verify
 
 PUBLIC, MESSAGE, SIGNATURE = EXAMPLES / "release.pub", EXAMPLES / "firmware.bin", EXAMPLES / "firmware.sig"
@@ -21,6 +23,8 @@ NAMES = ["llvm", "sse2", "rattle"]
 EXPORTS = ["T lms_message_head", "T lms_verify", "T lms_verify_hash", "T lms_verify_pieces"]
 # The bytes of stack that docs/C.md asks of a boot loader.
 MOST_STACK = 4096
+# The bytes of the head of a message's hash, by its parts, and those of a hash.
+HEAD_LEN, HASH_LEN = 16 + 4 + 2 + 32, 32
 
 
 def all_ways(verdict, public, message, signature):
@@ -93,6 +97,27 @@ def judges_heads(counter):
     judges_place("another signed key", TWO_PUBLIC, TWO_SIGNATURE, 4 + 1292 + 40, "none")
     judges_place("another path of the lower level", TWO_PUBLIC, TWO_SIGNATURE, 2643, "head")
     counter.check("a signature of two levels under a key of one", all_heads, "invalid", PUBLIC, MESSAGE, TWO_SIGNATURE, "none")
+
+
+def hands_on(compiler, longest):
+    """The header's names hand on what they are given, and its lengths are those of keys, of the
+    longest signature, of heads and of hashes."""
+    build_by(compiler, TOP / "tests/c/header.c", "header")
+    said = said_by("./header")
+    lengths = [len(longest[0]), len(longest[2]), HEAD_LEN, HASH_LEN]
+    holds(said.split() == list(map(str, lengths)), f"it says: {said}, and the lengths are {lengths}")
+
+
+def judges_longest(counter):
+    """The longest signature, and what the header hands on, in C and in C++."""
+    longest = signed(LONGEST, [2**25 - 1] * len(LONGEST), read(MESSAGE))
+    put("longest.pub", longest[0])
+    put("longest.sig", longest[2])
+    put("longer.sig", longest[2] + b"x")
+    counter.check("what the header hands on", hands_on, C, longest)
+    counter.check("what the header hands on in C++", hands_on, CPLUSPLUS, longest)
+    counter.check("the longest signature", all_heads, "valid", "longest.pub", MESSAGE, "longest.sig", "head")
+    counter.check("a longer one", all_heads, "invalid", "longest.pub", MESSAGE, "longer.sig", "none")
 
 
 def make_key(name, levels, seed, identifier):
@@ -314,6 +339,7 @@ def the_verifier_for_c(counter):
         counter.check(f"it keeps to itself, {name}", keeps_to_itself, f"{name}.a")
         counter.check(f"it links with no C library, {name}", link_bare, f"bare_{name}", f"{name}.a", "cc")
         counter.check(f"it runs with no C library, {name}", judges_bare, f"./bare_{name}")
+    counter.check("all ways are built in C++", build_by, CPLUSPLUS, TOP / "tests/c/ways.c", "programs/cplusplus_ways", "llvm.a")
     if shutil.which("pkg-config"):
         counter.check("the example is built from the folder that was named", build_installed)
     else:
@@ -326,6 +352,7 @@ def the_verifier_for_c(counter):
         counter.check("the stack is within the compiler's bound", stays_within, "rattle", bound)
         counter.check("the compiler's bound is within what docs/C.md states", is_at_most, bound, MOST_STACK)
     counter.check("the example says what fails", example_fails, os.path.abspath("programs/llvm_verify"))
+    judges_longest(counter)
     judges_heads(counter)
     refuses_others(counter)
     if os.access(PROGRAM, os.X_OK):

@@ -1,14 +1,17 @@
 """Programs in C over a verifier, the library that lms_c builds or the C file, and what they say of files."""
 
+import shutil
 import subprocess
 
 from tests import harness
-from tests.harness import TOP, holds
+from tests.harness import TOP, Skipped, holds
 
 EXAMPLES = TOP / "examples"
 LIBRARY = TOP / "crates/lms_c/out/liblms_c.a"
 INCLUDES = [f"-I{TOP}/include", f"-I{EXAMPLES}/c"]
 WARNINGS = ["-Wall", "-Wextra", "-pedantic", "-Werror"]
+# Compilers that take a source as one of the language, whatever its name.
+C, CPLUSPLUS = ["cc", "-std=c99", "-x", "c"], ["g++", "-std=c++11", "-x", "c++"]
 
 
 def said_by(*words, **how):
@@ -25,4 +28,11 @@ def gives(verdict, *words):
 
 def build(verifier, source, program, *flags):
     """A program of this source, with a verifier."""
-    said_by("cc", "-std=c99", "-O2", *WARNINGS, *flags, *INCLUDES, source, verifier, "-o", program)
+    build_by(C, source, program, *flags, verifier)
+
+
+def build_by(compiler, source, program, *more):
+    """The same by one of these compilers, of which that for C has to be there."""
+    if compiler is CPLUSPLUS and not shutil.which("g++"):
+        raise Skipped("there is no g++")
+    said_by(*compiler, "-O2", *WARNINGS, *INCLUDES, source, "-x", "none", *more, "-o", program)

@@ -6,10 +6,10 @@ import subprocess
 
 from tests.harness import TOP, Skipped, add_test, holds, test
 from tests.program import (
-    BATCH, EMULATED, INFO, PROGRAM, SERVE, ends, fails, has, index_in, job_lines, join, join_public, keygen, preload, public, put, read, run,
-    sign, verify,
+    BATCH, EMULATED, INFO, PROGRAM, SERVE, WITNESS, ends, fails, has, index_in, job_lines, join, join_public, keygen, preload, public, put,
+    read, resume, run, sign, verify, witness,
 )
-from tests.reference import SEED, image, joined, public_of, signature_of
+from tests.reference import SEED, image, joined, public_of, signature_of, witness_of
 
 LEVELS = ((5, 8),)
 SETS = ["", "0", "1", "2", "01", "02", "12", "012"]
@@ -131,8 +131,25 @@ def answers_two(closed, words, at):
         files_are(4 + 2 * at, 3 + at, *(f"{index}.sig" for index in range(4 + 2 * at)))
 
 
+def is_watched(closed):
+    """`witness`, a `sign` beside it, and `resume` where the state of before that is put back."""
+    ends(keygen(), 0, "capacity 32\n")
+    state = read("key.state")
+    prints(closed, witness(0, WITNESS), 0, f"{witness_of(0).decode()}{os.path.realpath(WITNESS)}\n")
+    has(WITNESS, witness_of(0))
+    prints(closed, sign(out="0.sig"), 0, "index 0\n")
+    put("key.state", state)
+    expect(closed, run_closed(closed, sign(out="1.sig")), 3, errors="error: state is older than its witness\n")
+    has("key.state", state)
+    prints(closed, resume(1), 0, "indices 0 to 0 burnt; right only if the witness is the newest\n")
+    has(WITNESS, witness_of(1))
+    os.remove(WITNESS)
+    files_are(1, 1, "0.sig")
+
+
 for numbers in SETS:
     add_test(f"closed streams: {' '.join(numbers) or 'none'}", works_without, numbers)
+    add_test(f"a witness with closed streams: {' '.join(numbers) or 'none'}", is_watched, numbers)
     add_test(f"a seed with closed streams: {' '.join(numbers) or 'none'}", makes_a_key_of_an_input, numbers)
 
 
@@ -148,7 +165,8 @@ def lacks_dev_null(closed):
     put("key.state", image(LEVELS, 5))
     files = {name: (read(name), os.stat(name).st_mtime_ns) for name in os.listdir()}
     new = keygen(state="other", public="other.pub")
-    for arguments in (new, public(), sign(), INFO, BATCH, SERVE, verify("text", "text", "text"), join(), join_public(), ["--help"], ["none"]):
+    others = [public(), sign(), INFO, BATCH, SERVE, verify("text", "text", "text"), join(), join_public(), witness(5, "witness"), resume(6)]
+    for arguments in (new, *others, ["--help"], ["none"]):
         ran = run([*words, PROGRAM, *arguments], program="unshare")
         found = (ran.returncode, ran.stdout, ran.stderr)
         wanted = (6, "", "" if "2" in closed else "error: cannot read input\n")

@@ -1,11 +1,15 @@
 """The program killed at each of its operations on files and streams in turn, or with this operation
-failing, alone or with all after it.
+failing, alone or with all after it, or, beside a witness, with all on its medium alone from there on.
 
 This is done to a `keygen`, to a `public`, to a `sign` by trees that it computes and keeps, to one by
 kept trees, to a `batch` of three jobs, and to a `serve` of them, of which its reads bring two and then one.
 Then a `sign` and a `batch` follow. No index may be given twice, the next one is what the old state counts or
 what a new one does, the new signature must be valid, and no draft of a file may be left. Once the second group
-of a `serve` is counted, the answers of the first are whole."""
+of a `serve` is counted, the answers of the first are whole.
+
+It is done to `sign`, `batch` and `serve` beside a witness, too, and to a `witness` and a `resume`. The witness
+is whole then, says no more than the state counts, and that all indices are used that were given. Where the state
+or the witness alone is put back as it was, in a copy, a `sign` is refused or gives another index."""
 
 import concurrent.futures
 import os
@@ -15,7 +19,8 @@ import signal
 
 from tests.harness import add_test, holds
 from tests.merge_check.service import messages_of_groups
-from tests.program import BATCH, SERVE, ends, index_in, job_lines, keygen, preload, public, run, sign, verify
+from tests.program import BATCH, PLACE, SERVE, WITNESS, ends, index_in, job_lines, keygen, preload, public, resume, run, sign, verify, witness
+from tests.reference import witness_of
 
 LEVELS = ((5, 2),)
 # How many operations each command has; if the program changes, these change with it. Each opens
@@ -25,8 +30,11 @@ LEVELS = ((5, 2),)
 # none, flush their file and its folder (4). `sign` reads the message (4), the kept nodes (4, or 1
 # where there are none) and the state (3). `batch` reads the state (3) and the lines (3, the last of which
 # brings none), and prints each answer by 8 writes. `serve` reads the state before the first of these reads and
-# after each (12), and stores it twice.
-OPERATIONS = {"keygen": 26, "public": 15, "sign by trees": 28, "sign by kept trees": 26, "batch": 41, "serve": 57}
+# after each (12), and stores it twice. All but `public` look for a witness before they read the state (1).
+# Where there is one it is read (4), a draft of the next one is made (9), and takes its place (5) or is removed
+# (1). `witness` makes one (12) and prints by 3 writes; `resume` reads one and stores the state.
+OPERATIONS = {"keygen": 27, "public": 15, "sign by trees": 29, "sign by kept trees": 27, "batch": 42, "serve": 61}
+OPERATIONS |= {"sign beside a witness": 45, "batch beside a witness": 60, "serve beside a witness": 125, "witness": 23, "resume": 20}
 # What each command is run with, which of the made files it finds, and the next index before it, after it, and
 # between two groups.
 KEYGEN, MADE_FILES = keygen("5/2"), ["key.pub", "key.state", "key.state.nodes"]
@@ -37,9 +45,19 @@ COMMANDS = {
     "sign by kept trees": (sign(out="first.sig"), MADE_FILES, [1, 2]),
     "batch": (BATCH, MADE_FILES, [1, 4]),
     "serve": (SERVE, MADE_FILES, [1, 3, 4]),
+    "sign beside a witness": (sign(out="first.sig"), MADE_FILES, [1, 2]),
+    "batch beside a witness": (BATCH, MADE_FILES, [1, 4]),
+    "serve beside a witness": (SERVE, MADE_FILES, [1, 3, 4]),
+    "witness": (witness(1), MADE_FILES, [1]),
+    "resume": (resume(3), MADE_FILES, [3]),
 }
+# What the witness says that a command finds, if any.
+SAYS = {"sign beside a witness": 1, "batch beside a witness": 1, "serve beside a witness": 1, "resume": 3}
+OLDER = b"error: state is older than its witness\n"
 # How the command ends where it meets the operation.
-STATUSES = {"killed": [-signal.SIGKILL], "failed": [3, 5, 6], "failed alone": [0, 3, 5, 6]}
+STATUSES = {"killed": [-signal.SIGKILL], "failed": [3, 5, 6], "failed alone": [0, 3, 5, 6], "with its medium pulled out": [0, 3]}
+# What is on the medium, and what leads there.
+MEDIUM = {"BELOW": "/other", "LINK": WITNESS}
 FILES = ["key.pub", "key.state", "key.state.lock", "key.state.nodes"]
 # What its reads bring together.
 GROUPS = [2, 1]
@@ -62,10 +80,14 @@ class Crash:
     def __init__(self, what, how, number):
         self.what, self.how, self.number = what, how, number
         self.arguments, found, self.next = COMMANDS[what]
+        self.command, self.says = self.arguments[0], SAYS.get(what)
         self.folder = pathlib.Path(how, str(number)).resolve()
-        self.folder.mkdir(parents=True)
+        (self.folder / PLACE).parent.mkdir(parents=True)
         for name in found:
             shutil.copy(MADE / name, self.folder)
+        if self.says:
+            (self.folder / PLACE).write_bytes(witness_of(self.says))
+            (self.folder / WITNESS).symlink_to(PLACE)
         shutil.copy("text", self.folder)
         (self.folder / "lines").write_bytes(LINES)
 
@@ -86,19 +108,23 @@ class Crash:
         """Whether a file is as it was made."""
         return self.bytes_of(name) == (MADE / name).read_bytes()
 
-    def run(self, arguments, **how):
-        """Runs the program here."""
+    def run(self, arguments, folder=None, **how):
+        """Runs the program here, or in another folder."""
         with open(self.folder / "lines", "rb") as lines:
-            return run(arguments, cwd=self.folder, stdin=lines, text=False, **how)
+            return run(arguments, cwd=folder or self.folder, stdin=lines, text=False, **how)
 
     def begin(self):
         """Runs the command. Whether it has an operation of this number."""
         met = self.folder / "met"
         last = self.number if self.how == "failed alone" else 10**6
         settings = {"STOP": self.number} if self.how == "killed" else {"FAIL": self.number, "LAST": last}
+        settings |= MEDIUM if self.how == "with its medium pulled out" else {}
         ran = self.run(self.arguments, env=preload("stop", MET=met, **settings))
         self.status, self.printed, self.is_met = ran.returncode, ran.stdout, met.exists()
-        self.holds(ran.returncode in (STATUSES[self.how] if self.is_met else [0]), f"ended with {ran.returncode}: {ran.stderr}")
+        # (The last operation of a `serve` beside a witness removes a draft, without a fault.)
+        is_last = self.what == "serve beside a witness" and self.number == OPERATIONS[self.what] and self.how != "killed"
+        wanted = STATUSES[self.how] if self.is_met and not is_last else [0]
+        self.holds(ran.returncode in wanted, f"ended with {ran.returncode}: {ran.stderr}")
         self.holds(ran.returncode or self.is_whole(), "ended well, and did not do all")
         self.nodes_are_in_turn()
 
@@ -108,8 +134,10 @@ class Crash:
             return self.is_as_made("key.pub")
         if self.what == "public":
             return self.bytes_of("again.pub") == (MADE / "key.pub").read_bytes()
-        if self.what in ("batch", "serve"):
+        if self.command in ("batch", "serve"):
             return len(indices_in(self.printed)) == sum(GROUPS)
+        if self.command in ("witness", "resume"):
+            return self.printed.count(b"\n") == (2 if self.command == "witness" else 1) and self.is_there(WITNESS)
         return self.run(verify(signature="first.sig")).returncode == 0
 
     def nodes_are_in_turn(self):
@@ -133,9 +161,33 @@ class Crash:
             self.holds(self.is_as_made("key.pub"), "another public key")
         shutil.copy(MADE / "key.pub", self.folder)
 
+    def resume_again(self):
+        """Takes up the state that a `resume` left as it was."""
+        if self.is_as_made("key.state"):
+            self.holds(self.run(self.arguments).returncode == 0, "the next resume fails")
+
+    def witness_is_in_turn(self):
+        """The witness is whole. It says no more than the state counts, and no less than was given."""
+        counter, said = int.from_bytes(self.bytes_of("key.state")[-56:-48], "big"), self.bytes_of(PLACE)
+        numbers = [it for it in range(max(self.given(), default=-1) + 1, counter + 1) if said == witness_of(it)]
+        self.holds(numbers, f"the state counts {counter}, and the witness says {said}")
+
+    def put_back(self, name, contents):
+        """The state or the witness alone is put back as it was, in a copy: a `sign` is refused, by an older state,
+        or gives an index that was not given."""
+        copy = self.folder.with_name(f"{self.number}.copy")
+        shutil.copytree(self.folder, copy, symlinks=True)
+        (copy / name).write_bytes(contents)
+        ran = self.run(sign(out="again.sig"), copy)
+        if (ran.returncode, ran.stderr) != (3, OLDER) or name != "key.state":
+            self.holds(ran.returncode == 0, f"with an older {name} the next sign fails: {ran.stderr}")
+            index = index_in((copy / "again.sig").read_bytes(), LEVELS)
+            self.holds(index not in self.given(), f"with an older {name} index {index} is given twice")
+        shutil.rmtree(copy)
+
     def given(self):
         """The indices that the command gave: of a file that is cut, what there is."""
-        if self.what in ("batch", "serve"):
+        if self.command in ("batch", "serve"):
             return indices_in(self.printed)
         index = index_in(self.bytes_of("first.sig"), LEVELS)
         return [] if index is None else [index]
@@ -149,10 +201,12 @@ class Crash:
         self.holds(ran.stdout == b"index %d\n" % index, "another index is printed")
         self.holds(index in self.next, f"the next index is {index}")
         self.holds(self.status or index == self.next[-1], f"the next index is {index} after a good end")
-        is_second = self.what == "serve" and index == self.next[-1]
+        is_second = self.command == "serve" and index == self.next[-1]
         self.holds(not is_second or self.printed.count(b"\n") >= GROUPS[0], "answers are lost, and more indices are used")
-        files = sorted(it.name for it in self.folder.glob("key.*"))
+        files = sorted(it.name for it in self.folder.glob("key.*") if it.name != WITNESS)
         self.holds(files == FILES, f"the files are {files}")
+        beside = os.listdir(self.folder / "other")
+        self.holds(beside in ([], ["witness"]) and (beside or not self.says), f"the files of the witness are {beside}")
         ran = self.run(BATCH)
         self.holds(ran.returncode == 0, f"the next batch fails: {ran.stderr}")
         third = indices_in(ran.stdout)
@@ -167,6 +221,12 @@ class Crash:
         self.begin()
         if self.what == "keygen":
             self.make_again()
+        if self.what == "resume":
+            self.resume_again()
+        if self.says:
+            self.witness_is_in_turn()
+            self.put_back("key.state", (MADE / "key.state").read_bytes())
+            self.put_back(PLACE, witness_of(1))
         index = self.sign_again()
         shutil.rmtree(self.folder)
         return index, self.is_met
@@ -202,5 +262,5 @@ def crashes(what, how):
 
 
 for command in COMMANDS:
-    for way in STATUSES:
+    for way in STATUSES if command.endswith("beside a witness") else list(STATUSES)[:3]:
         add_test(f"{command}, {way} at each of {OPERATIONS[command]} operations", crashes, command, way)

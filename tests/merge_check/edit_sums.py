@@ -39,9 +39,14 @@ def statements(text):
     return text if is_in_body else "\n".join(kept)
 
 
+def edits_in(name):
+    """The file of a crate's wrong bodies."""
+    return TOP / "crates" / name / "wrong-bodies.edits"
+
+
 def sum_of(name):
     """The sum of a crate."""
-    parts = [(it, it.read_text(encoding="utf-8")) for it in files_of(name, *PARTS, "wrong-bodies")]
+    parts = [(it, it.read_text(encoding="utf-8")) for it in [*files_of(name, *PARTS), edits_in(name)]]
     for low in libraries_of(name):
         texts = [(it, it.read_text(encoding="utf-8")) for it in files_of(low, "src", "specs")]
         parts += [(it, statements(text) if it.suffix == ".rt" else text) for it, text in texts]
@@ -59,7 +64,7 @@ def note(sums):
     """Notes the sums of these crates, or takes one away that is None. Whether that changes the
     file."""
     before = noted()
-    kept = {name: it for name, it in {**before, **sums}.items() if it and (TOP / "crates" / name / "wrong-bodies").is_dir()}
+    kept = {name: it for name, it in {**before, **sums}.items() if it and edits_in(name).exists()}
     if kept != before:
         SUMS.write_text("".join(f"{name} {kept[name]}\n" for name in sorted(kept)), encoding="utf-8")
     return kept != before

@@ -1,9 +1,11 @@
 """Each text of help, each kind of mistake in arguments, and options in another order and with `=`:
 what the program prints, and nothing else."""
 
+import os
+
 from tests.harness import add_test, test
-from tests.program import ends
-from tests.reference import RANDOMIZER, SEED
+from tests.program import ends, put
+from tests.reference import RANDOMIZER, SEED, witness_of
 
 LEVELS = (
     "Height/width of each level, top first, as 10/8,10/8: 1 to 8 levels; heights 5, 10, 15, 20 or 25, together at most 60; "
@@ -22,6 +24,8 @@ Commands:
   sign         Signs a message
   batch        Signs the job lines of standard input
   serve        Signs job lines of standard input as they come
+  witness      Makes a state's witness, by which an older state is refused
+  resume       Burns the indices by which a state is older than its witness
   verify       Prints whether a signature is valid
   join         Joins a signature with a top key's endorsement of its key
   join-public  Writes the public key of joined signatures
@@ -148,6 +152,45 @@ The state is locked all the time, and where another is put in its place nothing 
 A line that is no job line ends it, after the answers of all lines before it. Never sign with an older copy of a state.
 """
 
+WITNESS_HELP = """\
+Makes a state's witness, by which an older state is refused
+
+Usage: lms_tool witness --state <FILE> --on <FILE> --counter <N>
+
+Options:
+      --state <FILE>  The key's state
+      --on <FILE>     The witness, a new file, on another medium than the state
+      --counter <N>   How many indices are used, by the key's record; 0 for a new key
+  -h, --help          Print help
+
+Example:
+  lms_tool witness --state key.state --on /media/other/key.witness --counter 0
+
+Writes to a new file a line that says below which index all are used, and makes a link `key.state.witness` to it beside the
+state. From then on `sign`, `batch` and `serve` go by that name: they refuse a state that counts fewer indices, as an older
+one does, and have the witness say which are used before a signature leaves. It has no secret.
+
+Keep it on another medium, outside of backups: where both come back, nothing sees it. Never remove it to get on.
+"""
+
+RESUME_HELP = """\
+Burns the indices by which a state is older than its witness
+
+Usage: lms_tool resume --state <FILE> --counter <N>
+
+Options:
+      --state <FILE>  The key's state
+      --counter <N>   How many indices are used, by the key's record
+  -h, --help          Print help
+
+Example:
+  lms_tool resume --state key.state --counter 7
+
+For a state that is refused since it is older than its witness, as one from a backup: burns the indices up to the witness's
+number, which has to be the counter, and signing goes on after them. Right only if the witness is the newest: if an older one
+came back, too, indices sign twice.
+"""
+
 VERIFY_HELP = """\
 Prints whether a signature is valid
 
@@ -224,6 +267,8 @@ TEXTS = [
     (SIGN_HELP, ["sign --help"]),
     (BATCH_HELP, ["batch --help"]),
     (SERVE_HELP, ["serve --help", "help serve"]),
+    (WITNESS_HELP, ["witness --help", "help witness"]),
+    (RESUME_HELP, ["resume --help", "help resume"]),
     (VERIFY_HELP, ["verify --help", "verify -h", "help verify"]),
     (JOIN_HELP, ["join --help"]),
     (JOIN_PUBLIC_HELP, ["join-public --help", "help join-public"]),
@@ -232,13 +277,18 @@ TEXTS = [
 
 MORE = "For more information, try '--help'.\n"
 USAGE = f"Usage: lms_tool <COMMAND>\n\n{MORE}"
+JOIN_WORDS = "join --public k --endorsement e --signer p --signature s --out o"
+JOIN_USAGE = (
+    "Usage: lms_tool join --public <FILE> --endorsement <FILE> --signer <FILE> --signature <FILE> --out <FILE>"
+    f"\n\n{MORE}"
+)
 VERIFY_USAGE = f"Usage: lms_tool verify --public <FILE> --message <FILE> --signature <FILE>\n\n{MORE}"
 
 # Arguments that are a mistake, what is said of them, and how to go on.
 MISTAKES = [
     (
         "",
-        "'lms_tool' requires a subcommand but one was not provided\n  [subcommands: keygen, info, public, sign, batch, serve, verify, join, join-public, help]",
+        "'lms_tool' requires a subcommand but one was not provided\n  [subcommands: keygen, info, public, sign, batch, serve, witness, resume, verify, join, join-public, help]",
         USAGE,
     ),
     ("stray", "unrecognized subcommand 'stray'", USAGE),
@@ -258,6 +308,10 @@ MISTAKES = [
     ),
     ("verify --public k --public k", "the argument '--public <FILE>' cannot be used multiple times", VERIFY_USAGE),
     ("verify --public", "a value is required for '--public <FILE>' but none was supplied", MORE),
+    # After all that a command may have.
+    (f"{JOIN_WORDS} --out", "a value is required for '--out <FILE>' but none was supplied", MORE),
+    (f"{JOIN_WORDS} --out o", "the argument '--out <FILE>' cannot be used multiple times", JOIN_USAGE),
+    (f"{JOIN_WORDS} -- stray", "unexpected argument 'stray' found", JOIN_USAGE),
 ]
 
 
@@ -286,4 +340,7 @@ def takes_options_in_any_order_and_with_equals_signs():
     shows("public --public=key.pub --state key.state", "capacity 32\n")
     shows("batch --workers=1 --state key.state", "")
     shows("serve --workers=1 --state key.state", "")
+    shows("witness --counter=1 --on=key.state.witness --state key.state", f"{witness_of(1).decode()}{os.path.realpath('key.state.witness')}\n")
+    put("key.state.witness", witness_of(3))
+    shows("resume --counter 3 --state=key.state", "indices 1 to 2 burnt; right only if the witness is the newest\n")
     shows("verify --signature text.sig --message=text --public key.pub", "valid\n")

@@ -1,5 +1,6 @@
 """The program beside kept nodes: right ones, wrong ones, none, and what else is in their place."""
 
+import functools
 import os
 import resource
 import socket
@@ -75,7 +76,8 @@ def goes_on(levels, indices, at):
 def signs_by_kept_trees():
     """Over the ends of trees of each level, to the last index. Nodes are written only where an
     index goes through other ones."""
-    for levels in [LEVELS, ((5, 8), (5, 8)), ((10, 1), QUICK), (QUICK, (10, 1)), (QUICK, (5, 2), QUICK)]:
+    many = [(QUICK,) * count for count in range(4, 9)]
+    for levels in [LEVELS, ((5, 8), (5, 8)), ((10, 1), QUICK), (QUICK, (10, 1)), (QUICK, (5, 2), QUICK), *many]:
         capacity, at = 2 ** sum(height for height, _ in levels), None
         put("key.pub", public_of(levels))
         for first in (30, 1022, capacity - 2):
@@ -136,10 +138,6 @@ def signs_by_what_was_kept():
         meets(kept(levels, index, held), levels=levels, index=1057, at=at)
 
 
-def limited():
-    resource.setrlimit(resource.RLIMIT_AS, (2**30, 2**30))
-
-
 def make_long(name, size):
     put(name, b"")
     os.truncate(name, size)
@@ -152,18 +150,15 @@ def make_socket(name):
 
 @test
 def meets_what_is_no_file_of_nodes():
-    """What else is in their place is not opened, and a long file is not read. A plain file takes
-    its place."""
+    """What else is in their place is not opened, nor a long file read. A plain file takes its place."""
     put("others", kept(LEVELS, 33))
     for make in [
         os.mkfifo,
         make_socket,
-        lambda name: os.symlink("nowhere", name),
-        lambda name: os.symlink("/dev/zero", name),
-        lambda name: os.symlink("others", name),
+        *(functools.partial(os.symlink, target) for target in ("nowhere", "/dev/zero", "others")),
         lambda name: make_long(name, 2**40),
     ]:
-        meets(None, make, preexec_fn=limited)
+        meets(None, make, preexec_fn=lambda: resource.setrlimit(resource.RLIMIT_AS, (2**30, 2**30)))
     holds(not os.path.lexists("nowhere"), "a file was made where a link led")
     begins_at(LEVELS, 34)
     make_long(NODES, 2**31)
@@ -231,13 +226,16 @@ def meets_a_full_file_system():
 
 @test
 def meets_a_name_too_long_for_nodes():
-    """The longest name of a state that leaves space for the name of its lock. No file of nodes can
-    be beside it."""
-    name = "k" * (os.pathconf(".", "PC_NAME_MAX") - len(".lock"))
+    """The longest name of a state that leaves space for its witness's: no draft of nodes can be beside
+    it. With a longer one nothing is signed."""
+    name = "k" * (os.pathconf(".", "PC_NAME_MAX") - len(".witness"))
     put(name, image(LEVELS, 31))
     for index in (31, 32):
         signs(LEVELS, index, state=name)
     holds(sorted(os.listdir()) == [name, f"{name}.lock", "text", "text.sig"], "something else was written")
+    os.rename(name, f"{name}k")
+    fails(sign(state=f"{name}k"), 3, "cannot read witness")
+    has(f"{name}k", image(LEVELS, 33, 2))
 
 
 @test

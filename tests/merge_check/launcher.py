@@ -1,47 +1,19 @@
 """The script `lms_tool` in a folder of its own, over stand-ins for `rt`, for the programs that it
-builds and for the C compiler that links one of them: which program runs, with arguments, input and status passed through, when and how
-one is built, what an interruption leaves, and that no argument is told or kept."""
+builds and for the C compiler that links one of them: which program runs, with arguments, input and
+status passed through and all else as it was for the script, when and how one is built, what an
+interruption leaves, and that no argument is told or kept."""
 
 import os
 import pathlib
 import re
 import signal
-import subprocess
 
 from tests.harness import add_test, test
-from tests.merge_check.stand_ins import ARM, COMMON, FAST, PROVED, StandIns
+from tests.merge_check import launcher_aarch64, launcher_surroundings
+from tests.merge_check.stand_ins import COMMON, SIGNALS, StandIns, builds, is_given_up, is_program, runs, runs_again
 
-# What may end the script.
-SIGNALS = [signal.SIGHUP, signal.SIGINT, signal.SIGPIPE, signal.SIGTERM]
 # A seed, as it may be an argument.
 SECRET = "5eedc0ffee" * 6 + "5eed"
-# Arguments of which one has a space and one is empty.
-SOME = ["sign", "a b", ""]
-
-
-def runs(it, name):
-    """The script runs the program of this name."""
-    it.start(*SOME)
-    it.ran(name, *SOME)
-
-
-def runs_again(it, name):
-    """The next start builds nothing."""
-    it.forget()
-    runs(it, name)
-    it.is_quiet()
-
-
-def builds(it, *arguments):
-    """The argument `build` builds, and runs nothing."""
-    it.start("build", *arguments)
-    it.holds(it.status == 0 and not it.output, "not just built")
-
-
-def is_program(it, file, name):
-    """The program of this name is in this file."""
-    ran = subprocess.run([file, "a"], stdin=subprocess.DEVNULL, stdout=subprocess.PIPE, text=True, check=False)
-    it.holds(ran.stdout == f"{name}\na\n", f"not the program {name}")
 
 
 def fails_once_it_is_built(it):
@@ -103,8 +75,19 @@ def is_newer(newer):
         runs_again(it, "fast")
 
 
+def is_of_the_future(newer):
+    """A source with a time in the future is newer than what was built since, too."""
+    with StandIns() as it:
+        it.age(newer, -1)
+        for _ in range(2):
+            it.forget()
+            runs(it, "fast")
+            it.asked_to_build(it.build)
+
+
 for source in ("crates/lms_tool/src/file", "crates/lms_lines/specs/file", "crates/lms_spec/proofs/file", "crates.txt"):
     add_test(f"{source} is newer", is_newer, source)
+    add_test(f"{source} has a time in the future", is_of_the_future, source)
 
 
 def nothing_is_built(has_avx2):
@@ -189,148 +172,6 @@ def build_both_and_a_program_for_avx2_that_cannot_be_built():
         it.holds(it.status == 70 and not it.output, "not given up")
 
 
-# The files that the toolchain makes of the common program.
-FILES = ["", ".o", ".stamp"]
-
-
-def files_of_common(it):
-    """What is there of them, each with its bytes and its time."""
-    found = [f"{it.common}{end}" for end in FILES if os.path.exists(f"{it.common}{end}")]
-    return {name: (it.has(name), os.stat(name).st_mtime_ns) for name in found}
-
-
-def has_files_of_common(it, is_built):
-    """All of them are there, or none. What is there."""
-    for end in FILES[1:] if is_built else []:
-        it.write(f"{it.common}{end}", f"of the common program: {end}")
-    return files_of_common(it)
-
-
-def the_arguments_build_aarch64(is_built):
-    """`build aarch64` builds that program once, and leaves the others as they were."""
-    with StandIns(is_built) as it:
-        files = has_files_of_common(it, is_built)
-        builds(it, "aarch64")
-        it.asked_to_build(ARM)
-        is_program(it, it.arm, "arm")
-        it.holds(it.has("linked") == "object\n", "another object file was linked")
-        it.holds(f" {it.top}/runtime/aarch64/heap.c " in it.has("words"), f"not with the C functions: {it.has('words')}")
-        it.holds(files_of_common(it) == files, "the common program has other files")
-        it.holds(os.path.exists(it.fast) == is_built, "the program for AVX2 was built, or is gone")
-        it.forget()
-        builds(it, "aarch64")
-        it.is_quiet()
-
-
-for is_there in (True, False):
-    add_test(f"the arguments build aarch64, {'all' if is_there else 'nothing'} is built", the_arguments_build_aarch64, is_there)
-
-
-@test
-def the_program_for_aarch64_is_older():
-    """Than a source, or than one of the C functions."""
-    with StandIns() as it:
-        for newer in ("crates/lms_spec/src/file", "runtime/aarch64/heap.c"):
-            builds(it, "aarch64")
-            it.age(it.arm, 1)
-            it.age(newer, 0)
-            it.forget()
-            builds(it, "aarch64")
-            it.asked_to_build(ARM)
-            it.age(newer, 2)
-
-
-@test
-def the_arguments_build_all():
-    """And again, where one of the three is missing."""
-    with StandIns(False) as it:
-        builds(it, "all")
-        it.asked_to_build(FAST, COMMON, ARM)
-        for file, name in [(it.fast, "fast"), (it.common, "common"), (it.arm, "arm")]:
-            is_program(it, file, name)
-        it.forget()
-        builds(it, "all")
-        it.is_quiet()
-        for file, asked in [(it.common, COMMON), (it.arm, ARM)]:
-            os.remove(file)
-            it.forget()
-            builds(it, "all")
-            it.asked_to_build(asked)
-
-
-@test
-def no_compiler_for_aarch64():
-    """Nothing is proved then, but where the program is there."""
-    with StandIns(False) as it:
-        named = ["env", "CC_AARCH64=no-compiler --of-mine"]
-        for words in ("aarch64", "all"):
-            it.start("build", words, by=named)
-            it.holds(it.status == 70 and not it.output and not it.has("builds"), "not given up")
-            it.reports("there is no no-compiler on the PATH to link the program for aarch64; CC_AARCH64 may name another C compiler for it")
-        builds(it, "aarch64")
-        it.forget()
-        it.start("build", "aarch64", by=named)
-        it.holds(it.status == 0, "a program that is there is refused")
-        it.is_quiet()
-
-
-@test
-def another_compiler_for_aarch64():
-    with StandIns() as it:
-        it.links(name="another-compiler")
-        it.start("build", "aarch64", by=["env", "CC_AARCH64=another-compiler --of-mine"])
-        it.holds(it.status == 0 and it.has("words").startswith("--of-mine "), "it was not asked")
-        is_program(it, it.arm, "arm")
-
-
-def is_not_built(it, files, said):
-    """The program for aarch64 is not there, and those of the common one are as they were."""
-    is_given_up(it, said)
-    left = os.listdir(os.path.dirname(it.arm)) if os.path.isdir(os.path.dirname(it.arm)) else []
-    it.holds(not left and files_of_common(it) == files, f"there is {left}, or other files of the common program")
-
-
-def a_program_for_aarch64_that_cannot_be_proved(makes):
-    """The toolchain does this in place of all that it should."""
-    with StandIns() as it:
-        files = has_files_of_common(it, True)
-        it.on("run", f"cd out\n{makes}\nexit 1\n")
-        it.start("build", "aarch64")
-        is_not_built(it, files, "a line of rt run")
-
-
-for what, making in [
-    ("it is not proved", "echo object >lms_tool.o"),
-    ("it is proved for another target", f"echo object >lms_tool.o; echo '{PROVED}' | sed s/aarch64/x86_64/"),
-    ("there is no object file", f"echo '{PROVED}'"),
-    ("another program is there by the common one's name", "echo another >lms_tool"),
-]:
-    add_test(f"a program for aarch64 that can't be built: {what}", a_program_for_aarch64_that_cannot_be_proved, making)
-
-
-@test
-def a_program_for_aarch64_that_cannot_be_linked():
-    with StandIns() as it:
-        files = has_files_of_common(it, True)
-        it.links('echo "undefined reference"\nexit 1\n')
-        it.start("build", "aarch64")
-        is_not_built(it, files, "undefined reference")
-
-
-@test
-def interrupted_while_the_program_for_aarch64_is_made():
-    """While it is proved, and while it is linked."""
-    with StandIns() as it:
-        files, makes = has_files_of_common(it, True), it.has("on_run")
-        for on_run, link in [(makes.replace("exit 1", 'echo $$ >"$number"\nexec sleep 60'), ""), (makes, 'echo $$ >"$number"\nsleep 1\n')]:
-            it.on("run", f'number="{it.top}/number"\n{on_run}')
-            it.links(f'number="{it.top}/number"\n{link}')
-            for number in SIGNALS:
-                it.interrupt(number, "build", "aarch64")
-                left = os.listdir(os.path.dirname(it.arm)) if os.path.isdir(os.path.dirname(it.arm)) else []
-                it.holds(not left and files_of_common(it) == files, f"after {number} there is {left}, or other files of the common program")
-
-
 @test
 def a_source_that_changes_while_it_is_built():
     with StandIns(False) as it:
@@ -340,17 +181,6 @@ def a_source_that_changes_while_it_is_built():
         it.forget()
         runs(it, "fast")
         it.asked_to_build(it.build)
-
-
-@test
-def a_source_that_changes_while_the_program_for_aarch64_is_built():
-    with StandIns() as it:
-        changes = f'sleep 0.1\ntouch "{it.top}/crates/lms_spec/src/file"\nsleep 0.1\n'
-        it.on("run", changes + it.has("on_run"))
-        for _ in range(2):
-            it.forget()
-            builds(it, "aarch64")
-            it.asked_to_build(ARM)
 
 
 @test
@@ -373,14 +203,6 @@ def a_program_for_avx2_that_ends_with_127_once_it_is_built():
         runs_again(it, "common")
         builds(it)
         it.is_quiet()
-
-
-def is_given_up(it, said):
-    """The program can't be built, and the last that the toolchain said is this."""
-    it.holds(it.status == 70 and not it.output, "something ran")
-    lines = it.errors.splitlines()
-    it.holds(said in lines, "what the toolchain said is not reported")
-    it.holds(lines[-1] == "lms_tool: the program could not be built", "not said")
 
 
 def programs_that_cannot_be_built(argument):
@@ -525,3 +347,7 @@ def standard_error_is_closed():
         it.start("sign", by=["sh", "-c", 'exec "$0" "$@" 2>&-'])
         it.ran("fast", "sign")
         it.asked_to_build(it.build)
+
+
+for row in (*launcher_aarch64.CHECKS, *launcher_surroundings.CHECKS):
+    add_test(*row)

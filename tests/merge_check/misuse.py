@@ -27,8 +27,6 @@ ERROR = re.compile(r"(?m)^(.+?):\d+:\d+: error\[([\w-]+)\]: (.*)$")
 NO_CODE = re.compile(r"(?s)//[^\n]*|/\*.*?\*/|\"(?:\\.|[^\"\\])*\"|'(?:\\.|[^'\\])'")
 CLAUSE = re.compile(r"\b(?:requires|ensures)\b[^{};]*(?=\{)")
 FUNCTION = re.compile(r"\bfn (\w+)")
-# An array's type, whose semicolon ends nothing.
-ARRAY = re.compile(r"(\[[^][{};]*);([^][{};]*\])")
 AGAIN = re.compile(r"\b(for|while|loop)\b|(\|)[^|]*\|(?: ->.*)?$")
 
 
@@ -102,7 +100,7 @@ class Copy:
                 wanted.append(name)
                 below += lines[name].partition(":")[2].split()
         for name in wanted:
-            others = shutil.ignore_patterns("out", "must-fail", "wrong-bodies")
+            others = shutil.ignore_patterns("out", "must-fail", "wrong-bodies.edits")
             shutil.copytree(TOP / "crates" / name, folder / "crates" / name, ignore=others)
         for name in ("never_built", "misuse"):
             (folder / "crates" / name / "src").mkdir(parents=True)
@@ -253,11 +251,15 @@ def the_places_that_reserve():
     are_as_listed(places_of(misuse_signing.RESERVES), misuse_signing.RESERVATIONS)
 
 
+def product_crates():
+    """The crates of the product."""
+    return sorted(it.name for it in (TOP / "crates").iterdir() if not misuse_signing.OTHERS.search(it.name))
+
+
 def places_of(calls):
     """The places of the product that make one of these calls: each with its crate, its function, the loops
     and closures around it and the code from brace or semicolon to brace or semicolon."""
-    crates = sorted(it.name for it in (TOP / "crates").iterdir() if not misuse_signing.OTHERS.search(it.name))
-    bodies = ((crate, without_clauses(code)) for crate, code in sources(crates))
+    bodies = ((crate, without_clauses(code)) for crate, code in sources(product_crates()))
     return collections.Counter(
         f"{crate}: {around(code, it.start())}: {head_at(code, it.start())[0]}" for crate, code in bodies for it in calls.finditer(code)
     )
@@ -275,9 +277,7 @@ def without_clauses(code):
 
 def around(code, at):
     """The function that a place is in, and which loops and closures it is in there."""
-    heads, start, before = [], 0, code[:at]
-    while (changed := ARRAY.sub(r"\1,\2", before)) != before:
-        before = changed
+    heads, start, before = [], 0, without_array_ends(code[:at])
     for it in re.finditer("[;{}]", before):
         if it[0] == "{":
             heads.append(plain(before[start : it.start()]))
@@ -292,14 +292,48 @@ def around(code, at):
     return " ".join([names[inner], *again])
 
 
+def without_array_ends(code):
+    """The code with commas in place of the semicolons in brackets, which end nothing."""
+    depth, found = 0, []
+    for it in code:
+        depth += {"[": 1, "]": -1}.get(it, 0)
+        found.append("," if it == ";" and depth else it)
+    return "".join(found)
+
+
+@test
+def the_places_that_walk():
+    """No other place of the product walks chains, or derives what is secret."""
+    are_as_listed(places_of(misuse_signing.WALKS), misuse_signing.WALKING)
+
+
+@test
+def the_places_that_name_a_seed():
+    """No other place of the product has a key's seed, so that none gives it away."""
+    are_as_listed(places_of(misuse_secrets.SEED), misuse_secrets.SEEDS)
+
+
+def types_of(crates, found_in):
+    """The types that are found in the code of each of these crates, with its name."""
+    code = collections.defaultdict(str)
+    for crate, text in sources(crates):
+        code[crate] += text
+    return [f"{it} of {crate}" for crate, text in code.items() for it in found_in(text)]
+
+
 @test
 def what_can_be_printed():
     """No type of any crate that can be printed has a seed in it."""
-    found = collections.defaultdict(str)
-    for crate, code in sources(sorted(it.name for it in (TOP / "crates").iterdir())):
-        found[crate] += code
-    printed = [f"{it} of {crate}" for crate, code in found.items() for it in misuse_secrets.printed_with_a_seed(code)]
+    crates = sorted(it.name for it in (TOP / "crates").iterdir())
+    printed = types_of(crates, misuse_secrets.printed_with_a_seed)
     holds(not printed, f"with a seed in them these can be printed: {', '.join(printed)}")
+
+
+@test
+def what_can_be_printed_and_has_bytes():
+    """No other type of the product that can be printed has bytes in it, which might be a seed's."""
+    printed = types_of(product_crates(), misuse_secrets.printed_with_bytes)
+    holds(set(printed) == misuse_secrets.WITH_BYTES, f"these can be printed: {', '.join(printed)}")
 
 
 @test

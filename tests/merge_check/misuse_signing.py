@@ -8,6 +8,10 @@ import re
 CALLS = r"(?<!fn )\b(?:sign_(?:in|into|key_into|by_text|at|anew|by_nodes|with)|append_signature|write_head)\b|(?:\.|::)\s*(?:sign\b(?!\s*::)|signed\b(?=\s*\())"
 SIGNS = re.compile(rf"{CALLS}|\bReceipt\b\s*\{{")
 RESERVES = re.compile(r"\bBook\b(?:::<[^>]*>)?\s*::\s*open\b|\.\s*reserve\s*\(")
+# What walks chains, or derives what is secret.
+WALKS = re.compile(
+    r"(?<!fn )\b(?:walk|walk_all|walk_lanes|walk_some|lane_values|hash_after|hash_chains|hash_ends|chain|secret|nodes_secret)\s*\("
+)
 # These crates are no part of the product.
 OTHERS = re.compile(r"_tests$|^bench_|fixtures$|^lms_slow$|^lms_example$")
 PLACES = """
@@ -26,7 +30,8 @@ PLACES = """
     lms_kept: child: self.sign_key_into(q, &randomizer(&above, q), &tree.public_bytes(), &mut signed)
     lms_kept: outside: KeptSignature, sign_by_text
     lms_kept: sign: Ok(self.sign_in(memory, g, c, msg))
-    lms_kept: sign_anew: let Some(signature) = trees.sign_in(memory, index, c, msg) else
+    lms_kept: sign: let Some(signature) = trees.sign_in(memory, index, c, msg) else
+    lms_kept: sign_anew: Ok(planned.sign(rt, c, msg, progress))
     lms_kept: sign_at: Some(signed) => Ok(signed), None => sign_anew(rt, alloc, key, index, c, msg, progress),
     lms_kept: sign_at: match sign_by_nodes(rt, alloc, &key, index, c, msg, text, progress)?
     lms_kept: sign_at: return sign_anew(rt, alloc, key, index, c, msg, progress)
@@ -49,7 +54,25 @@ RESERVATIONS = """
     lms_batch: sign_batch_by: let lease = match self.book.reserve(rt, desk, count)
     lms_commands: open_state: match Book::open(alloc, store)
     lms_kept: moved_to: levels.reserve(key.levels.as_slice().len() - levels.len())?
+    lms_key_commands: burn_piece: match book.reserve(left.min(PIECE))
     lms_shared_book: reserve: match self.book.reserve(n)
     lms_shared_book: reserve: self.counted.lock(rt).reserve(desk, n)
     lms_signature_commands: sign_next: let lease = book.reserve(1).map_err(|fault| NextFault::Book(fault))?
+    """
+WALKING = """
+    lms_hss: derived: secret(&parent.seed, OtsId
+    lms_kept: check_value: hasher.update(nodes_secret(&key.tree_key(0, 0)))
+    lms_lanes: ends_of: walk( &head, u32x8::splat(u32::from(first)), u32x8::splat(u32::from(steps)), steps, start, )
+    lms_lanes: hash_chains: let end = walk( &head, widened(firsts), widened(steps), most(steps), &value_words(values), )
+    lms_ots: chain for: value = hash_after(&head, j as u8, &value)
+    lms_ots: eight_public_hashes: hash_ends(&fronts, D_PBLC, t.p() as u16, 0xff, last_digit(t) + 1, seed)
+    lms_ots: ends_hash for: hasher.update(chain(id, i as u16, u16::from(digits[i]), last, &values[i]))
+    lms_ots: ends_hash: walk_all(t, id, digits, &steps_from(t, digits), values, &mut ends)
+    lms_ots: lane_values: walk_lanes( id, &chains, &[0xff
+    lms_ots: public_hash for: let ends = lane_values(id, first as u16, last, seed)
+    lms_ots: secret: hash_after(&chain_head(id, i), 0xff, seed)
+    lms_ots: sign_into: walk_all( t, id, &[0xff
+    lms_ots: walk_all for: let values = walk_some(id, &chains, firsts, steps, starts)
+    lms_ots: walk_lanes: hash_chains(&heads, firsts, steps, starts)
+    lms_ots: walk_some: walk_lanes(id, chains, &lane_firsts, &lane_steps, &lane_starts)
     """

@@ -1,6 +1,7 @@
 """The files of `--out` and `--public`: states that they name stay as they are, all else is written,
 also what can't be flushed."""
 
+import itertools
 import os
 import subprocess
 import tempfile
@@ -25,10 +26,11 @@ def writers(name):
 
 @test
 def writes_over_no_state_of_its_own():
-    """By its name, by another way to it, by a symbolic link, and by a hard link, which has the older
-    image then."""
+    """By its name, by other ways to it, also by long ones, by a symbolic link, and by a hard link, which
+    has the older image then."""
     os.mkdir("folder")
-    for name in ("key.state", "folder/../key.state", os.path.abspath("key.state"), "soft", "hard"):
+    ways = ["key.state", "folder/../key.state", "./" * 100 + "key.state"]
+    for name in [*ways, *(f"{os.getcwd()}/{way}" for way in ways), "soft", "hard"]:
         for words, numbers in writers(name):
             put("key.state", image(ONE, 5))
             if name == "soft":
@@ -54,6 +56,24 @@ def writes_over_no_state_of_another_key():
             fails(words, *REFUSED)
             has("other", text)
             has("key.state", image(ONE, *numbers))
+
+
+@test
+def writes_over_no_state_that_it_is_handed():
+    """By the names that the system has for an open file, one of its own state's and one of another key's."""
+    states = [("key.state", image(ONE, 5)), ("other", OTHERS[0])]
+    for (state, text), name, at in itertools.product(states, ["/dev/fd/{}", "/proc/self/fd/{}", "/dev/stdin"], range(3)):
+        put("key.state", image(ONE, 5))
+        put(state, text)
+        with open(state, "rb") as file:
+            named = name.format(file.fileno())
+            words, numbers = [*writers(named), (keygen(state="new.state", public=named), (5, 0))][at]
+            fails(words, *REFUSED, stdin=file, pass_fds=[file.fileno()])
+            file.seek(0)
+            holds(file.read() == text, f"{words[0]} wrote to {named}, which leads to {state}")
+        has("key.state", image(ONE, *numbers))
+        if os.path.exists("new.state"):
+            os.remove("new.state")
 
 
 @test

@@ -18,10 +18,12 @@ from tests.harness import TOP, holds, said_by
 VERSION = (TOP / "VERSION").read_text(encoding="utf-8").strip()
 NAME, DEBIAN = f"lms_tool-{VERSION}-x86_64", f"lms-tool_{VERSION}_amd64.deb"
 ARM_NAME, ARM_DEBIAN = f"lms_tool-{VERSION}-aarch64", f"lms-tool_{VERSION}_arm64.deb"
-COMMANDS = ["keygen", "sign", "batch", "serve", "verify", "info", "public", "join", "join-public"]
+COMMANDS = ["keygen", "witness", "sign", "batch", "serve", "verify", "info", "public", "resume", "join", "join-public"]
 COMMON, FAST = "crates/lms_tool/out/lms_tool", "crates/lms_tool/out/avx2/lms_tool"
 LIBRARY, PAGE = "crates/lms_c/out/liblms_c.a", "examples/web/out/lms_verify.html"
 OUTPUTS = [COMMON, FAST, LIBRARY, PAGE]
+# What the page is made of beside the library's sources.
+PAGE_SOURCES = ["examples/web/index.html", "examples/web/build"]
 # Without which nothing is packed for aarch64.
 ARM = "crates/lms_tool/out/aarch64/lms_tool"
 LEVELS = ["x86-64-v2", "x86-64-v3"]
@@ -36,6 +38,8 @@ EXAMPLES += [f"serve/{name}" for name in ("client.py", "lms-queue.service")]
 PAGES = {command: f"share/man/man1/lms_tool{'-' * bool(command)}{command}.1.gz" for command in ("", *COMMANDS)}
 # The time of all files in packages, 2001-09-09, 01:46:40, and their maintainer.
 SECONDS, MAINTAINER = 1000000000, "No One <no-one@debian.org>"
+# What scripts may take from the environment.
+TAKEN = {"PATH", "SOURCE_DATE_EPOCH", "MAINTAINER"}
 # What the launcher asks of a processor before it takes the program for AVX2.
 FLAGS = ["avx", "avx2", "bmi1", "bmi2", "f16c", "fma", "abm", "movbe"]
 
@@ -47,16 +51,23 @@ def copy_sources(folder, outputs):
     for name in ("docs", "include", "examples/c", "examples/serve", "portable", "runtime"):
         shutil.copytree(TOP / name, f"{folder}/{name}", ignore=shutil.ignore_patterns("__pycache__"))
     plain = [it.relative_to(TOP) for it in (TOP / "examples").glob("*.*")]
-    sources = ["release", "VERSION", "README.md", "crates.txt", "examples/web/index.html", *plain]
+    sources = ["release", "VERSION", "README.md", "crates.txt", *PAGE_SOURCES, *plain]
     for name, file in {**{name: TOP / name for name in sources}, **outputs}.items():
         os.makedirs(os.path.dirname(f"{folder}/{name}"), exist_ok=True)
         shutil.copy2(file, f"{folder}/{name}")
 
 
+def misleading(script, text):
+    """Each word of a script as a variable of the environment that says this, but for what it may take from
+    there."""
+    words = set(re.findall(r"[A-Za-z_]\w*", pathlib.Path(script).read_text(encoding="utf-8")))
+    return {word: text for word in words - TAKEN}
+
+
 def pack_twice(make):
     """Packs what was built, from two folders with sources that `make` makes: that gives the same
-    bytes, whatever was set. The copies are in no repository. The first packages are in packed/,
-    made of here/."""
+    bytes, whatever was set, also by the name of any word of the script. The copies are in no
+    repository. The first packages are in packed/, made of here/."""
     make("here")
     make("a folder elsewhere")
     for file in pathlib.Path("a folder elsewhere/docs").iterdir():
@@ -69,7 +80,10 @@ def pack_twice(make):
     other = {"TZ": "Asia/Tokyo", "LC_ALL": "C.UTF-8", "TMPDIR": os.path.abspath("temporary")}
     more = {"TAR_OPTIONS": "--mtime=now", "DPKG_DEB_COMPRESSOR_LEVEL": "1"}
     masked = ["sh", "-c", 'umask 077 && exec "$0" "$@"']
-    said_by(*masked, "a folder elsewhere/release", "--built", "packed again", env={**both, **other, **more})
+    pathlib.Path("other").write_text("not of the sources\n")
+    words = misleading("here/release", os.path.abspath("other"))
+    said_by(*masked, "a folder elsewhere/release", "--built", "packed again", env={**both, **words, **other, **more})
+    os.remove("other")
     for file in sorted({*os.listdir("packed"), *os.listdir("packed again")}):
         holds(pathlib.Path("packed", file).read_bytes() == pathlib.Path("packed again", file).read_bytes(), f"{file} has other bytes")
     holds(not os.listdir("temporary"), "temporary files are left")

@@ -10,16 +10,31 @@ import time
 
 from tests.harness import TOP, Skipped, add_test, holds, said_by, test
 from tests.merge_check.packages import (
-    ARM, ARM_DEBIAN, ARM_NAME, DEBIAN, FAST, FLAGS, LEVELS, NAME, OUTPUTS, PAGE, SECONDS, are_right, copy_sources, pack_twice,
+    ARM, ARM_DEBIAN, ARM_NAME, COMMON, DEBIAN, FAST, FLAGS, LEVELS, NAME, OUTPUTS, PAGE, PAGE_SOURCES, SECONDS,
+    are_right, copy_sources, misleading, pack_twice,
 )
 
 SOURCES = ["crates/lms_c/src/file", "crates/lms_c/specs/file", "crates/lms_c/proofs/a folder/file", "crates.txt"]
+# The folders of which packages are made, or what is in them.
+FOLDERS = [
+    "crates", "crates/lms_c", "crates/lms_c/src", "crates/lms_c/src/out", "crates/lms_c/specs", "crates/lms_c/proofs",
+    "docs", "examples", "examples/c", "examples/serve", "examples/web", "include", "portable", "runtime",
+    "runtime/aarch64",
+]
+# Files of which no package is made: notes, what was built, and what tests of crates leave.
+HARMLESS = ["notes", "tests/notes", "crates/lms_c/out/rlib/notes", "examples/web/out/notes"]
+HARMLESS += ["crates/lms_c/file_store_1/notes", "crates/lms_c/disk_world_1/notes"]
+# What git is told to ignore.
+IGNORED = "out/\ncrates/*/file_store_*/\ncrates/*/disk_world_*/\n__pycache__/\nignored*\n"
 # What `release` asks for where it is to build, in this order, with a C compiler for aarch64 or without.
 ASKED = ["lms_tool build all", "lms_c", "lms_c --portable", "examples/web/build"]
 ASKED_WITHOUT = ["lms_tool build both", *ASKED[1:]]
 # Whether there is such a compiler: the words that name it.
 COMPILER, NO_COMPILER = {"CC_AARCH64": "sh --of-mine"}, {"CC_AARCH64": "no-compiler --of-mine"}
 AUTHOR = "Some One <some-one@debian.org>"
+WHO = [word for key, text in zip(("name", "email"), AUTHOR[:-1].split(" <")) for word in ("-c", f"user.{key}={text}")]
+# Files of the commit by which packages are made.
+OWN = ["VERSION", "README.md", "crates.txt", "lms_c", "lms_tool", "release", "docs/C.md", "include/lms.h"]
 # What stands in for `./lms_tool`, `./lms_c` and `examples/web/build`: each notes what it is asked,
 # and makes its outputs of those in ../made. The file `fails` names one that can't.
 MAKER = """\
@@ -98,12 +113,12 @@ def run(words, **more):
     return ran.returncode, ran.stderr
 
 
-def starts_by(launcher, level, name):
+def starts_by(launcher, level, name, variables=None):
     """A launcher becomes the program of this name, with its arguments and its status, and prints
-    nothing itself."""
+    nothing itself, where these variables of the environment are set."""
     home = os.path.abspath("home")
     folders = {"PATH": f"{os.path.abspath('other')}:{os.environ['PATH']}", "HOME": home, "TMPDIR": home}
-    how = {"env": folders, "stdout": subprocess.PIPE, "stderr": subprocess.PIPE, "text": True}
+    how = {"env": {**(variables or {}), **folders}, "stdout": subprocess.PIPE, "stderr": subprocess.PIPE, "text": True}
     with subprocess.Popen([launcher, "a b", "", "-c"], **how) as running:
         found = (*running.communicate(), running.returncode)
     holds(found == (f"{name}\n{running.pid}\na b\n\n-c\n", "", 3), f"{level}: {found}")
@@ -111,7 +126,9 @@ def starts_by(launcher, level, name):
 
 def becomes_the_program(package):
     """The launcher in a package becomes the program for the processor, whose /proc/cpuinfo is read
-    by a stand-in for sed here. It leaves no file."""
+    by a stand-in for sed here, also where each word of it is a variable of the environment that names
+    the other level. It leaves no file."""
+    launcher = os.path.abspath(f"{package}/bin/lms_tool")
     files = sorted(pathlib.Path(package).rglob("*"))
     for folder in ("other", "home"):
         os.makedirs(folder, exist_ok=True)
@@ -120,7 +137,8 @@ def becomes_the_program(package):
         pathlib.Path("other/sed").write_text(f'#!/bin/sh\necho "{flags}"\n')
         os.chmod("other/sed", 0o755)
         level, name = (LEVELS[0], "common") if missing else (LEVELS[1], "fast")
-        starts_by(os.path.abspath(f"{package}/bin/lms_tool"), level, name)
+        starts_by(launcher, level, name)
+        starts_by(launcher, level, name, misleading(launcher, LEVELS[missing is not None]))
     holds(sorted(pathlib.Path(package).rglob("*")) == files and not os.listdir("home"), "a file is left")
 
 
@@ -154,7 +172,7 @@ def packs_without_a_program_for_aarch64():
     packs_without_arm(f"{here}/{ARM} is not built")
     os.makedirs(os.path.dirname(f"here/{ARM}"))
     shutil.copy("made/arm", f"here/{ARM}")
-    for source in (SOURCES[0], "runtime/aarch64/heap.c"):
+    for source in (SOURCES[0], "runtime/aarch64/heap.c", "runtime/aarch64/rattle.h"):
         age(f"here/{ARM}", 2)
         age(f"here/{source}", 1)
         for output in OUTPUTS:
@@ -179,10 +197,10 @@ def refuses_what_is_not_built():
         os.rename("away", f"here/{output}")
 
 
-def refuses_older(source, output):
-    """An output that alone is older than a source."""
+def refuses_older(source, output, hours=1):
+    """An output that is older than a source, which was last changed so many hours ago."""
     age(f"here/{output}", 2)
-    age(f"here/{source}", 1)
+    age(f"here/{source}", hours)
     here = os.path.abspath("here")
     refuses_built(f"{here}/{source} is newer than {here}/{output}")
     age(f"here/{output}", 0)
@@ -196,20 +214,20 @@ def refuses_what_is_older_than_a_source():
         refuses_older(SOURCES[0], output)
     for source in SOURCES[1:]:
         refuses_older(source, FAST)
-    refuses_older("examples/web/index.html", PAGE)
+        refuses_older(source, COMMON, -1)
+    for source in PAGE_SOURCES:
+        refuses_older(source, PAGE)
 
 
 def commit(folder):
     """Makes a repository of a folder, with one commit."""
-    pathlib.Path(folder, ".gitignore").write_text("out/\n")
+    pathlib.Path(folder, ".gitignore").write_text(IGNORED)
     for name, makes in MAKES.items():
         here = "$(dirname -- \"$0\")" + "/.." * name.count("/")
         file = pathlib.Path(folder, name)
         file.write_text(MAKER % (here, name, makes))
         file.chmod(0o755)
-    name, _, address = AUTHOR.partition(" <")
-    who = ["-c", f"user.name={name}", "-c", f"user.email={address[:-1]}"]
-    for words in (["init", "-q"], ["add", "-A"], [*who, "commit", "-q", "-m", "all"]):
+    for words in (["init", "-q"], ["add", "-A"], [*WHO, "commit", "-q", "-m", "all"]):
         found = run(["git", "-C", folder, *words], GIT_COMMITTER_DATE=f"{SECONDS} +0000", GIT_AUTHOR_DATE=f"{SECONDS - 99} +0000")
         holds(found[0] == 0, f"git {words}: {found}")
     for file in ("asked", "fails"):
@@ -223,11 +241,13 @@ def asked():
 
 @test
 def packs_the_commit():
-    """All is made first, and the packages have the commit's time and author. Of files that the
-    commit does not have only those among the crates are refused."""
+    """All is made first, and the packages have the commit's time and author. Of files that the commit
+    does not have only those are refused that could get into a package."""
     make_sources("here")
     commit("here")
-    pathlib.Path("here/notes").write_text("not of the commit\n")
+    for name in HARMLESS:
+        os.makedirs(os.path.dirname(f"here/{name}"), exist_ok=True)
+        change(f"here/{name}")
     found = run(["sh", "-c", 'umask 077 && exec "$0" "$@"', "here/release", "packed"], **COMPILER)
     holds(found == (0, ""), f"{found}")
     holds(asked() == ASKED, f"asked for {asked()}")
@@ -258,6 +278,12 @@ def stage(name):
     holds(run(["git", "-C", "here", "add", "-A"])[0] == 0, "git add")
 
 
+def change_unseen(mark):
+    """Changes a file after git was told by a mark not to look for that."""
+    holds(run(["git", "-C", "here", "update-index", mark, "docs/C.md"])[0] == 0, "git update-index")
+    change("here/docs/C.md")
+
+
 # What makes the sources others than those of the commit.
 CHANGES = {
     "a source": lambda: change("here/crates/lms_c/specs/file"),
@@ -266,7 +292,8 @@ CHANGES = {
     "a change that is staged": lambda: stage("here/README.md"),
     "a file that is gone": lambda: os.remove("here/examples/firmware.sig"),
     "a mode": lambda: os.chmod("here/crates.txt", 0o755),
-    "a new source": lambda: change("here/crates/lms_c/src/more.rt"),
+    "a change that git assumes is none": lambda: change_unseen("--assume-unchanged"),
+    "a change that git skips": lambda: change_unseen("--skip-worktree"),
     "no repository": lambda: shutil.rmtree("here/.git"),
 }
 
@@ -285,6 +312,47 @@ def refuses_changed(what):
 
 for changed in CHANGES:
     add_test(f"refuses sources that are not those of the commit: {changed}", refuses_changed, changed)
+
+
+def refuses_other(name):
+    """A file that the commit does not have, and that could get into a package, is named, and nothing is made."""
+    pathlib.Path("here", name).parent.mkdir(parents=True, exist_ok=True)
+    change(f"here/{name}")
+    found = run(["here/release", "packed"], SOURCE_DATE_EPOCH="1", MAINTAINER=AUTHOR)
+    wanted = f"release: the commit does not have {name}, which could get into a package\n"
+    holds(found == (70, wanted), f"{found}, not: {wanted}")
+    holds(not asked() and not os.path.exists("packed"), f"asked for {asked()}")
+    os.remove(f"here/{name}")
+
+
+def refuses_others(*names):
+    """A file of each of these names, whatever it is ignored by, in each folder that packages are made of."""
+    make_sources("here")
+    commit("here")
+    pathlib.Path("here/.git/info").mkdir(exist_ok=True)
+    pathlib.Path("here/.git/info/exclude").write_text("excluded*\n")
+    for name in (f"{folder}/{name}" for folder in FOLDERS for name in names):
+        refuses_other(name)
+
+
+IGNORED_FILES = ["ignored.c", "excluded.h", "__pycache__/more.pyc"]
+add_test("refuses new files that the commit does not have", refuses_others, "more.c")
+add_test("refuses ignored files that the commit does not have", refuses_others, *IGNORED_FILES)
+
+
+@test
+def refuses_files_that_the_commit_does_not_have_in_place_of_its_own():
+    """Those that are packed by their names, and what they are built by, where the commit lacks them."""
+    make_sources("here")
+    commit("here")
+    for name in OWN:
+        holds(run(["git", "-C", "here", "rm", "-q", "--cached", name])[0] == 0, f"git rm {name}")
+        holds(run(["git", "-C", "here", *WHO, "commit", "-q", "-m", "without"])[0] == 0, f"git commit without {name}")
+        found = run(["here/release", "packed"], SOURCE_DATE_EPOCH="1", MAINTAINER=AUTHOR)
+        wanted = f"release: the commit does not have {name}, which could get into a package\n"
+        holds(found == (70, wanted), f"{found}, not: {wanted}")
+        holds(run(["git", "-C", "here", "add", name])[0] == 0, f"git add {name}")
+    holds(not asked() and not os.path.exists("packed"), f"asked for {asked()}")
 
 
 @test

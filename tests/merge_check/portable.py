@@ -10,7 +10,7 @@ from tests.harness import ARGUMENTS, TOP, Skipped, Wrong, checks, holds, said_by
 from tests.merge_check import verifier_functions
 from tests.merge_check.c_programs import LIBRARY
 from tests.merge_check.crates import KIT
-from tests.merge_check.portable_targets import AT_ZERO, BOARDS, FILE, FOLDER, HERE, HOSTED, INCLUDES, MODES, STRICT, Target
+from tests.merge_check.portable_targets import AT_ZERO, BOARDS, CHECKED, FILE, FOLDER, HERE, HOSTED, INCLUDES, MODES, STRICT, Target, keeps_bounds
 from tests.merge_check.portable_vectors import all_changes, all_vectors, header, some
 from tests.merge_check.wasm_functions import build, compare, has_node, links, wasm_module
 from tests.program import is_plain, put, read
@@ -208,7 +208,7 @@ def fails_closed(counter):
     less = [f"#define STACK_BYTES {size}\n", f"#define STACK_BYTES {size - 16}\n"]
     given = ["    m->given[k].len = len;\n", "    m->given[k].len = len - (len > 0);\n"]
     busy = ["    m->stack_pointer = STACK_TOP(m);\n", "    m->stack_pointer = STACK_TOP(m);\n    m->in_call = 1;\n"]
-    for mode in ("checked", "the caller checked"):
+    for mode in CHECKED:
         counter.check(f"16 bytes of stack less, {mode}", traps, mode, *less, ["1111 0000", "0011 1100"])
     counter.check("a byte less of the caller's, the caller checked", traps, "the caller checked", *given, ["0000 1111"] * 2)
     for mode in MODES:
@@ -255,6 +255,9 @@ def the_file(counter):
     counter.check("it is not checked and direct at once", is_not_of_two_ways)
     counter.check("it keeps to itself", keeps_to_itself)
     counter.check("its stack", takes_stack)
+    for target in [HERE, *HOSTED]:
+        for mode in CHECKED:
+            counter.check(f"its bounds, {target.name}, {mode}", keeps_bounds, target, mode, FILE.read_text(encoding="utf-8"))
 
 
 @checks

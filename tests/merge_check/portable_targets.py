@@ -5,10 +5,12 @@ import subprocess
 
 from tests.harness import TOP, Skipped, holds, said_by
 from tests.merge_check.wasm_functions import FOLDER, INCLUDES, STRICT
+from tests.program import put
 
 FILE = TOP / "portable/lms_verify.c"
 # How the file is compiled, by what has to be defined for it.
 MODES = {"checked": [], "the caller checked": ["-DLMS_CHECK_CALLER"], "direct": ["-DLMS_DIRECT"]}
+CHECKED = ["checked", "the caller checked"]
 SECONDS = 120
 FREESTANDING = ["-ffreestanding", "-nostdlib", "-fno-tree-loop-distribute-patterns", "-Wl,--gc-sections", "-Wl,--build-id=none"]
 
@@ -64,6 +66,15 @@ class Board(Target):
         ran = subprocess.run([*self.emulator, *words, "-kernel", "program"], check=False, timeout=SECONDS, **how)
         holds(ran.returncode == 0, f"it ended with {ran.returncode}\n{ran.stdout[-500:]}")
         return ran.stdout
+
+
+def keeps_bounds(target, mode, text):
+    """What the C file of this text has for memory reaches all that it may, and nothing else."""
+    target.skip_where_missing()
+    put("machine.c", text.encode())
+    words = ["-std=c11", "-O1", *MODES[mode], *INCLUDES, FOLDER / "memory.c", FOLDER / "hosted.c", "-o", "program"]
+    said_by(*target.compiler, *words)
+    target.run()
 
 
 HERE = Target("x86-64", ["cc"], ["gcc"])

@@ -11,10 +11,13 @@ from tests.reference import CHAINS, HEIGHTS, RANDOMIZER, Tree, digest, joined, n
 
 EXAMPLES = TOP / "examples"
 LENGTHS = [0, 1, 54, 55, 56, 63, 64, 65, 119, 120, 128, 200]
+# The levels that have the longest signature.
+LONGEST = [(25, 1)] * 8
 LEVELS = [
     [(5, 2), (25, 4)],
     [(10, 2), (15, 4), (5, 1)],
     [(5, 4), (10, 2), (5, 1), (15, 2), (5, 4), (20, 2), (25, 1), (5, 8)],
+    LONGEST,
 ]
 # Of longer signatures there is no copy on the smallest board.
 LONGEST_CHANGED = 9000

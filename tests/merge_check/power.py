@@ -4,14 +4,15 @@ import os
 import random
 
 from tests.harness import Wrong, holds
-from tests.merge_check.weak_disk import Disk, fault_of, found_in, lay, operations, printed
+from tests.merge_check.weak_disk import Disk, fault_of, found_in, lay, operations, printed, witness_in
 
-STATE = "key.state"
+# The state's file, and that of its witness, if it has one.
+STATE, PLACE = "key.state", "medium/witness"
 
 
 def beside(folder):
-    """The state's file in a folder and those beside it."""
-    return {name: it for name, it in found_in(folder).items() if name.startswith(STATE)}
+    """The state's file in a folder and those beside it, and the witness's."""
+    return {name: it for name, it in found_in(folder).items() if name.startswith((STATE, PLACE))}
 
 
 class Power:
@@ -45,7 +46,7 @@ class Power:
     def after(self, done):
         """The files after these operations; and of each that changes something how many are done by
         then, and what it is."""
-        disk, moments = Disk(self.folder, self.found, STATE, self.ignored), [(0, "no operation")]
+        disk, moments = Disk(self.folder, self.found, STATE, self.ignored, PLACE), [(0, "no operation")]
         for number, operation in enumerate(done, 1):
             what = disk.do(*operation, f"#{number}")
             if what:
@@ -60,10 +61,12 @@ class Power:
         holds(printed(done) == self.life.output, f"{self.life.name}: not all that was printed is recorded")
 
     def fault(self, disk, left):
-        """What is wrong with the state that is left, if anything."""
+        """What is wrong with the state that is left, or with its witness, if anything."""
         # (Whether each index that was given is counted is seen by the key.)
         least = 1 if disk.has_left and len(disk.states) > 1 else 0
-        return fault_of(left.get(STATE, (0, None))[1], disk.states, least)
+        witness, fault = witness_in(left, STATE)
+        fault = fault or fault_of(witness, disk.witnesses, min(least, len(disk.witnesses) - 1), "witness")
+        return fault_of(left.get(STATE, (0, None))[1], disk.states, least) or fault
 
     def leave(self, files):
         """Puts these in the place of all that is there."""

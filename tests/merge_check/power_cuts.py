@@ -1,5 +1,5 @@
-"""Power is lost after each operation of `keygen`, `sign`, `batch`, `serve`, `public` and `join-public` on
-files, by a model of a weak file system, and the program goes on.
+"""Power is lost after each operation of `keygen`, `sign`, `batch`, `serve`, `public`, `join-public`, `witness`
+and `resume` on files, by a model of a weak file system, and the program goes on.
 
 `record.c`, which is loaded before the program, records what it does to files, folders and streams.
 After each operation that changes something, every state of the files is made that a loss of power
@@ -21,11 +21,17 @@ The state's file must be old and whole, or absent before a `keygen` stored it, o
 new once a byte of a public key, of a signature or of standard output was written. A `serve` stores
 one for each group: it must be that of a group, or a newer one, once a byte of the group's answers
 was written. Once `keygen` or `public` has printed its line, or `join-public` has ended, its public
-key must be whole; it may be absent or cut before. From some of the states the program goes on, as
-if what is left were flushed: `info` prints what the state says, or `keygen` makes it where it is
-absent, and `sign` gives its next index, which was not given before, with the right signature. In
-this `keygen` and this `sign` power is lost again, after each operation, and the state's file is
-compared.
+key must be whole, also in another folder, to which a link may lead; it may be absent or cut before.
+From some of the states the program goes on, as if what is left were flushed: `info` prints what the
+state says, or `keygen` makes it where it is absent, and `sign` gives its next index, which was not
+given before, with the right signature. In this `keygen` and this `sign` power is lost again, after
+each operation, and the state's file is compared.
+
+A key has a witness on another disk. It must be the old one or the new one, whole, and the new one once a byte
+of a signature or of an answer was written; once `witness` printed a line it must be there. So the state and the
+witness each count all indices that may have been given. Where one of the two disks is put back to what it was
+at first, the other one being as the loss left it, `sign` refuses the older state, or gives an index that was not
+given. Where both are put back together it gives an index again: against that there is nothing.
 
 Where there are more than 4000 states of a moment, some 4000 are drawn, by a fixed seed. The program
 goes on from 25 states of each run, from the first moment to the last, and with `--all` from all
@@ -46,21 +52,15 @@ import concurrent.futures
 import functools
 import itertools
 import os
-import tempfile
-import time
 
 from tests.harness import ARGUMENTS, Wrong, add_test, holds
-from tests.merge_check.service import messages_of_groups
-from tests.merge_check.weak_disk import Disk, differs_by, fault_of, found_in, lay, operations, printed
-from tests.program import TO_JOIN, ends, has, job_lines, join_public, keygen, preload, public, put, read, run, sign, without_counts
-from tests.reference import image, joined, kept, parts_to_join, public_of, signature_of
-from tests.seeds import tells
+from tests.merge_check.recorded_runs import ELSEWHERE, MOST_LINES, PARTS, Key
+from tests.merge_check.weak_disk import Link, differs_by, witness_in
+from tests.program import PLACE, TO_JOIN
+from tests.reference import image, kept
 
 ONE, TWO = ((5, 8),), ((5, 4), (5, 4))
-# What the public keys are of that are joined.
-PARTS = parts_to_join(((5, 1),), ((5, 1),))
-MESSAGE = b"abc"
-MOST_CASES, MOST_LINES = 25, 20
+MOST_CASES = 25
 
 
 def asked():
@@ -71,212 +71,43 @@ def asked():
     return parser.parse_args(ARGUMENTS)
 
 
-class Run:
-    """A recorded run of the program: the files that it found and what it did; the state before it,
-    if there was one, and each one that it stores; the index that is next by each of these; and the name and
-    the bytes of the public key that it writes, if it does. Of a run that stores several the answers to what
-    is stored first are the first of what it prints, up to one of the `ends`, and so on."""
-
-    def __init__(self, key, name, states, indices, public_key=None, ends_of_answers=()):
-        self.key, self.name, self.states, self.indices, self.ends = key, name, states, indices, ends_of_answers
-        self.public_key = public_key
-
-    def record(self, folder, arguments, jobs=b""):
-        """Runs the program, and records all that it does to files in the folder. What it
-        printed."""
-        self.folder, self.found, log, lines = folder, found_in(folder), f"{folder}.record", f"{folder}.jobs"
-        put(lines, jobs)
-        began = time.monotonic()
-        with open(lines, "rb") as given:
-            ran = run(arguments, cwd=folder, stdin=given, text=False, env=preload("record", RECORD=log))
-        self.done = list(operations(read(log)))
-        os.remove(log)
-        os.remove(lines)
-        unknown = [data for word, _, _, data in self.done if word == "unknown"]
-        said = f"{self.name} ended with {ran.returncode}: {ran.stderr}; calls that are not known: {unknown}"
-        holds((ran.returncode, without_counts(ran.stderr.decode(), began), unknown) == (0, "", []), said)
-        holds(printed(self.done) == ran.stdout, f"{self.name}: not all that was printed is recorded")
-        self.keeps_secret()
-        disk = self.disk()
-        for number, operation in enumerate(self.done, 1):
-            disk.do(*operation, number)
-        there = {name: contents for name, (_, contents) in found_in(folder).items()}
-        recorded = {name: disk.file(name).contents for name in disk.names if disk.file(name)}
-        holds(recorded == there, f"{self.name}: not all that was done to files is recorded")
-        holds(there.get(self.key.state) == self.states[-1], f"{self.name}: it left another state")
-        return ran.stdout
-
-    def least(self, disk):
-        """How many of its states are too old, by what it gave away."""
-        return 1 + sum(disk.printed > it for it in self.ends) if disk.has_left else 0
-
-    def keeps_secret(self):
-        """Of all files and streams the seed is written to the state's draft alone."""
-        names, disk = {}, self.disk()
-        for word, number, _, data in self.done:
-            if word == "open":
-                names[number] = disk.name(data)
-            elif word == "write" and tells(data):
-                name = names.get(number, f"stream {number}")
-                holds(name == f"{self.key.state}.new", f"{self.name}: the seed is written to {name}")
-
-    def disk(self, ignored=None):
-        """The files that it found."""
-        return Disk(self.folder, self.found, self.key.state, ignored)
-
-    def cuts(self, disk):
-        """Loses power at each moment. Of each loss: what it leaves, the index below which all may
-        have been given, what is wrong, and a call that says where that was, until the next loss."""
-        for number, operation in enumerate([None, *self.done]):
-            at = f"{self.name} #{number}"
-            moment = disk.do(*operation, at) if operation else at
-            for left, lost in disk.losses() if moment else ():
-                fault = fault_of(left.get(self.key.state, (0, None))[1], self.states, self.least(disk))
-                if self.public_key and (disk.printed or number == len(self.done)):
-                    fault = fault or self.public_fault(left)
-                yield left, self.indices[self.least(disk)], fault, lambda: f"{self.key.name}, after {moment}; lost: {disk.said(lost)}"
-
-    def public_fault(self, left):
-        """What is wrong with the public key, if anything, once this run has printed or ended."""
-        name, contents = self.public_key
-        found = left.get(name, (0, None))[1]
-        if found == contents:
-            return None
-        return ("older", "no public key") if found is None else ("torn", f"{len(found)} bytes that are not the public key")
-
-    def faults(self):
-        """Lines on the first faults that are found, where all was flushed before this run."""
-        found = (f"{where()}; found: {fault[1]}" for _, _, fault, where in self.cuts(self.disk()) if fault)
-        return list(itertools.islice(found, MOST_LINES))
-
-
-class Key:
-    """A key in a folder, and the runs on it, one after another, where a number is a `batch` of so
-    many jobs, and a list is a `serve` of groups of so many. Where a state has another name, by which
-    the program finds it, that is a link to it."""
-
-    def __init__(self, name, levels, steps, state="key.state", option=None, files=None):
-        self.name, self.levels, self.steps, self.state, self.option = name, levels, steps, state, option or state
-        self.files = {"text": MESSAGE, **(files or {})}
-        # The counter and the openings of each state image.
-        self.numbers = {}
-
-    def levels_text(self):
-        """The levels as the program prints them."""
-        return ",".join(f"{height}/{width}" for height, width in self.levels)
-
-    def capacity(self):
-        """How many indices the key has."""
-        return 2 ** sum(height for height, _ in self.levels)
-
-    def lay(self, folder, files):
-        """Puts files into a folder, with the name by which the program finds the state."""
-        lay(folder, files)
-        os.makedirs(os.path.dirname(f"{folder}/{self.state}"), exist_ok=True)
-        if self.option != self.state:
-            os.symlink(self.state, f"{folder}/{self.option}")
-
-    def image(self, counter, openings, version=2):
-        """A state image of the key, whose numbers are noted."""
-        contents = image(self.levels, counter, openings, version=version)
-        self.numbers[contents] = counter, openings
-        return contents
-
-    def makes(self, folder):
-        """Runs `keygen`."""
-        made = Run(self, "keygen", [None, self.image(0, 0)], [0, 0], ("key.pub", public_of(self.levels)))
-        said = made.record(folder, keygen(self.levels_text(), state=self.option))
-        holds(said == b"capacity %d\n" % self.capacity(), "keygen printed something else")
-        has(f"{folder}/key.pub", public_of(self.levels))
-        return made
-
-    def signs(self, folder, before):
-        """Runs `sign` on a state."""
-        counter, openings = self.numbers[before]
-        made = Run(self, f"sign {counter}", [before, self.image(counter + 1, openings + 1)], [counter, counter + 1])
-        holds(made.record(folder, sign(state=self.option)) == b"index %d\n" % counter, f"sign {counter} printed something else")
-        has(f"{folder}/text.sig", signature_of(self.levels, counter, MESSAGE))
-        return made
-
-    def answers(self, folder, before, command, counts):
-        """Runs `batch` or `serve` on a state, with groups of so many jobs."""
-        counter, openings = self.numbers[before]
-        messages, states, indices, said, ends_of_answers = messages_of_groups(*counts), [before], [counter], b"", []
-        for at, count in enumerate(counts, 1):
-            for index in range(indices[-1], indices[-1] + count):
-                said += b"%d %s\n" % (index, signature_of(self.levels, index, messages[index - counter]).hex().encode())
-            ends_of_answers.append(len(said))
-            indices.append(indices[-1] + count)
-            states.append(self.image(indices[-1], openings + at))
-        made = Run(self, f"{command} {counter} to {indices[-1] - 1}", states, indices, ends_of_answers=ends_of_answers[:-1])
-        printed_now = made.record(folder, [command, "--state", self.option, "--workers", "2"], job_lines(*messages))
-        holds(printed_now == said, f"{made.name} printed something else")
-        return made
-
-    def publishes(self, folder, before, step):
-        """Runs `public` or `join-public` beside a state, which stays. The file that it writes was not there."""
-        words, name, contents, line = {
-            "public": (public(self.option, "again.pub"), "again.pub", public_of(self.levels), b"capacity %d\n" % self.capacity()),
-            "join-public": (join_public(), "joined.pub", joined(*PARTS)[0], b""),
-        }[step]
-        made = Run(self, step, [before] * 2, self.numbers[before][:1] * 2, (name, contents))
-        holds(made.record(folder, words) == line, f"{step} printed something else")
-        has(f"{folder}/{name}", contents)
-        return made
-
-    @functools.lru_cache(maxsize=None)
-    def runs(self):
-        """All runs, one after another, once they are made."""
-        folder = os.path.realpath(tempfile.mkdtemp())
-        self.lay(folder, {name: (name, contents) for name, contents in self.files.items()})
-        before, made = self.files.get(self.state), []
-        for step in self.steps:
-            if step == "keygen":
-                made.append(self.makes(folder))
-            elif step in ("public", "join-public"):
-                made.append(self.publishes(folder, before, step))
-            elif step == "sign":
-                made.append(self.signs(folder, before))
-            else:
-                made.append(self.answers(folder, before, *(("serve", step) if isinstance(step, list) else ("batch", [step]))))
-            before = made[-1].states[-1]
-        return made
-
-    def goes_on(self, left, least):
-        """Goes on from what a loss of power left, where all indices below one may have been given.
-        Lines on what is wrong where power is lost again; what is wrong before is raised."""
-        with tempfile.TemporaryDirectory() as folder:
-            self.lay(folder, left)
-            before, made = left.get(self.state, (0, None))[1], []
-            if before is None:
-                self.describes(folder, 3, "", "error: cannot read state\n")
-                made.append(self.makes(folder))
-                before = made[0].states[-1]
-            counter, openings = self.numbers.get(before, (0, 0))
-            capacity = self.capacity()
-            numbers = f"counter {counter}\ncapacity {capacity}\nleft {capacity - counter}\nopenings {openings}\nburnt 0\n"
-            self.describes(folder, 0, f"levels {self.levels_text()}\n{numbers}")
-            holds(before in self.numbers, "info describes a state that is none")
-            made.append(self.signs(folder, before))
-            holds(counter >= least, f"index {counter} is given again")
-            holds(f"{self.state}.new" not in found_in(folder), "a draft of the state is left")
-            return [f"with power back, {line}" for it in made for line in it.faults()]
-
-    def describes(self, folder, status, output, errors=""):
-        """`info` ends so."""
-        ends(["info", "--state", self.option], status, output, errors, cwd=folder)
-
-
-PLAIN = Key("5/8", ONE, ["keygen", "sign", "sign", 3, [2, 1], "public", "join-public"], files=dict(zip(TO_JOIN[::2], PARTS[::2])))
+KEYS_TO_JOIN = dict(zip(TO_JOIN[::2], PARTS[::2]))
+PUBLISHED = [("public", "again.pub"), ("join-public", "joined.pub")]
+PLAIN = Key("5/8", ONE, ["keygen", "sign", "sign", 3, [2, 1], *PUBLISHED], files=KEYS_TO_JOIN)
 # (Indices 31 and 32 go through two trees.)
-APART = Key("5/4,5/4 in another folder", TWO, ["keygen", "sign", "sign", 29, "sign", "sign", 2, [1, 1, 1]], "keys/key.state")
+APART = Key(
+    "5/4,5/4 in another folder", TWO, ["keygen", "sign", "sign", 29, "sign", "sign", 2, [1, 1, 1]], "keys/key.state",
+    public_key=f"{{folder}}/{ELSEWHERE}{'k' * 201}",
+)
 # Version 1 wrote this state, and a crash left drafts beside it.
 OLD = image(TWO, 31, version=1)
 CRASHED = Key("5/4,5/4 by a link", TWO, ["sign", "sign", 2, [2, 1]], "keys/state", "key.state", {
     "keys/state": OLD, "keys/state.new": OLD[:50], "keys/state.nodes": kept(TWO, 0), "keys/state.nodes.new": kept(TWO, 0)[:100], "text.sig": bytes(30000),
 })
 CRASHED.numbers[OLD] = 31, 0
-KEYS = [PLAIN, APART, CRASHED]
+WATCHED = Key(
+    "5/4 beside a witness", ((5, 4),), ["keygen", "witness", "sign", "sign", 3, [2, 1], "resume", "sign"],
+    files={"key.link": Link(f"{ELSEWHERE}key.pub".encode())}, place=PLACE, public_key="key.link",
+)
+
+
+def names_for(command):
+    """Names by which a command writes public keys into another folder: short ones, and those of over 40 and
+    of over 200 bytes; whole paths, and links."""
+    for size in (1, 41, 201):
+        name = f"{command}-{'k' * size}"
+        yield from (f"{ELSEWHERE}{name}", f"{{folder}}/{ELSEWHERE}{name}.pub", f"{name}.link")
+
+
+GIVEN = [(command, name) for command in ("public", "join-public") for name in names_for(command)]
+LINKED = {name: Link(f"{ELSEWHERE}{name}ed".encode()) for _, name in GIVEN if name.endswith(".link")}
+PUBLIC = Key(
+    "5/8 with public keys elsewhere", ONE, ["keygen", *GIVEN], files={**KEYS_TO_JOIN, **LINKED}, public_key=f"{ELSEWHERE}key.pub"
+)
+KEYS = {
+    "in one folder": PLAIN, "in another folder": APART, "by a link": CRASHED, "beside a witness": WATCHED,
+    "with public keys elsewhere": PUBLIC,
+}
 
 
 def say(lines, count):
@@ -297,15 +128,15 @@ def cuts(key):
     disk = key.runs()[0].disk()
     for made in key.runs():
         # (Without flushes all that the runs before left is lost, and so each run has a disk of its
-        # own then.)
-        disk = made.disk(ignored) if ignored else disk
+        # own then, as has one before which a state is put back.)
+        disk = made.disk(ignored) if ignored or made.name == "resume" else disk
         disk.begin()
         found = {}
         for left, least, fault, where in made.cuts(disk):
             total += fault is not None
             if fault and len(lines) < MOST_LINES:
                 lines.append(f"{where()}; found: {fault[1]}")
-            elif not fault and (by := (least, differs_by(left, key.state))) not in found:
+            elif not fault and (by := (least, differs_by(left, disk.beside))) not in found:
                 found[by] = left, least, where()
         cases.append(list(found.values()))
     return total, lines, cases
@@ -360,17 +191,19 @@ def first_found(made, ignored, word):
 def finds(ignored, word):
     """Such faults are found of each run, and the program does not go on well from the first, where
     the run stores a state."""
-    for key in KEYS:
+    for key in KEYS.values():
         for made in key.runs():
             first = first_found(made, ignored, word)
-            # (A key without a state is made again, since no index of it was given.)
-            if made.states[0] != made.states[-1] and key.state in first[0]:
+            # (A key without a state is made again, since no index of it was given. A state that is older than its
+            # witness still is taken up again.)
+            is_older = made.name == "resume" and word == "older"
+            if made.states[0] != made.states[-1] and key.state in first[0] and not is_older:
                 is_refused(key, *first)
 
 
 def finds_public_keys():
     """A fault is found of each run that writes a public key where that file alone is not flushed."""
-    for made in (made for key in KEYS for made in key.runs() if made.public_key):
+    for made in (made for key in KEYS.values() for made in key.runs() if made.public_key):
         first_found(made, made.public_key[0], "torn")
 
 
@@ -383,10 +216,31 @@ def is_refused(key, left, least, where):
     raise Wrong(f"it goes on well: {where}")
 
 
-for at, one in zip(["in one folder", "in another folder", "by a link"], KEYS):
+def puts_back(key):
+    """Of the runs on a key with a witness what is left is on two disks. One is put back: no index is given twice.
+    Both are put back: where indices were given one is given again."""
+    # (Before a `resume` the state's disk is put back already.)
+    cases = [case for found in cuts(key)[2] for case in spread(found) if witness_in(case[0], key.state)[0] and key.counts(*case[:2])]
+    with concurrent.futures.ThreadPoolExecutor(len(os.sched_getaffinity(0))) as pool:
+        again = sum(pool.map(lambda case: puts_back_in(key, *case), cases))
+    holds(again, "no index is given again in any case")
+
+
+def puts_back_in(key, left, least, where):
+    """The same, of one case. Whether an index is given again where both are put back."""
+    for name, is_first in itertools.product((key.state, key.place), (True, False)):
+        index = key.signs_after(left, [name], is_first)
+        holds(index is None or index >= least, f"{where}; with an older {name} index {index} is given again")
+    index = key.signs_after(left, [key.state, key.place], True)
+    holds(index == 0, f"{where}; with both put back index {index} is given")
+    return least > 0
+
+
+for at, one in KEYS.items():
     add_test(f"loses power {at}", loses_power, one)
-for at, one in zip(["in one folder", "in another folder", "by a link"], KEYS):
+for at, one in KEYS.items():
     add_test(f"goes on {at}", goes_on, one)
+add_test("puts back one of two disks", puts_back, WATCHED)
 if not asked().ignore:
     add_test("finds flushes of files that do nothing", finds, "files", "torn")
     add_test("finds flushes of folders that do nothing", finds, "folders", "older")

@@ -23,6 +23,8 @@ ONE, TWO, THREE = (((5, 1),) * count for count in (1, 2, 3))
 # What clears a line, how many leaves are computed at once, and how often a count may be shown on a
 # terminal and elsewhere, in nanoseconds.
 WIPED, AT_ONCE, SHOWN, PRINTED = "\r\x1b[K", 8, 5 * 10**8, 10**10
+# The first counts of a tall tree.
+BEGINNING = [*range(AT_ONCE, 1025, AT_ONCE), *range(2048, 6145, 1024)]
 # A count is told too early where the work before it takes less than this part of what it takes else.
 EARLY = 0.4
 
@@ -179,6 +181,18 @@ def shows_a_count_twice_a_second():
 
 
 @test
+def shows_no_count_by_a_clock_that_does_not_go_on():
+    """It can't be read, stands at zero or at a later time, or goes back."""
+    for tick, stands in [(SHOWN, {"CLOCK": seconds}) for seconds in (-1, 0, 1000)] + [(-SHOWN, {})]:
+        found = on_terminal(keygen("5/1"), env=machine(tick, **stands))
+        holds(found == (0, "capacity 32\n", ""), f"on a terminal, by {tick} {stands}: {found}")
+        os.remove("key.state")
+        ran = run(keygen("5/1"), env=machine(20 * tick, **stands))
+        holds((ran.returncode, ran.stdout, ran.stderr) == (0, "capacity 32\n", ""), f"elsewhere, by {tick} {stands}: {ran}")
+        os.remove("key.state")
+
+
+@test
 def shows_a_line_where_errors_go():
     """What the other stream is does not matter."""
     found = on_terminal(keygen("5/1"), ["stderr"], env=machine(SHOWN))
@@ -217,6 +231,26 @@ def taken_between_looks():
     return [after - before for before, after in zip(looks, looks[1:])]
 
 
+def begins_to_tell(arguments, leaves):
+    """The program tells the first of so many leaves, as each count is due: eights of the bottom subtree that
+    is kept, and then whole ones. It is killed then."""
+    how = {"stdin": subprocess.DEVNULL, "stdout": subprocess.DEVNULL, "stderr": subprocess.PIPE, "text": True, "env": machine(PRINTED)}
+    with subprocess.Popen([PROGRAM, *arguments], **how) as running:
+        try:
+            lines = [running.stderr.readline() for _ in BEGINNING]
+        finally:
+            running.kill()
+    holds(lines == [f"{at} of {leaves} leaves\n" for at in BEGINNING], f"of {leaves} leaves it told {lines[:3]} .. {lines[-7:]}")
+
+
+@test
+def tells_each_leaf_of_the_tallest_trees():
+    for text, leaves in [("20/1", 2**20), ("25/1", 2**25)]:
+        begins_to_tell(keygen(text, state=f"{leaves}.state"), leaves)
+    put("key.state", image(((25, 1), (25, 1)), 0))
+    begins_to_tell(sign(), 2**26)
+
+
 @test
 def tells_no_leaf_before_it_is_computed():
     """From the beginning to the first count it takes no less of a processor than from one count to the
@@ -226,13 +260,6 @@ def tells_no_leaf_before_it_is_computed():
     taken = taken_between_looks()
     holds(len(taken) == 1024 // AT_ONCE, f"{len(taken)} counts")
     holds(taken[0] > EARLY * statistics.median(taken), "the first leaves were told before they were computed")
-    how = {"stdin": subprocess.DEVNULL, "stdout": subprocess.DEVNULL, "stderr": subprocess.PIPE, "text": True, "env": machine(PRINTED)}
-    with subprocess.Popen([PROGRAM, *keygen("15/1", state="tall.state")], **how) as running:
-        try:
-            lines = [running.stderr.readline() for _ in range(1024 // AT_ONCE + 5)]
-        finally:
-            running.kill()
-    told = [*range(AT_ONCE, 1025, AT_ONCE), *range(2048, 6145, 1024)]
-    holds(lines == [f"{at} of 32768 leaves\n" for at in told], f"it told {lines[-7:]}")
-    taken = taken_between_looks()[len(told) - 5 : len(told)]
+    begins_to_tell(keygen("15/1", state="tall.state"), 2**15)
+    taken = taken_between_looks()[len(BEGINNING) - 5 : len(BEGINNING)]
     holds(taken[0] > EARLY * statistics.median(taken), "the leaves of a bottom subtree were told before they were computed")

@@ -5,6 +5,10 @@ another one on the same state. A read of some `serve`s brings a line or a few, s
 groups. Before some the kept nodes are removed, cut or changed, or older ones
 or another key's are put in their place.
 
+Some keys have a witness in another folder. Before some of their lives an older witness is put back, which is no
+fault, and before some an older state: such a life gives nothing, leaves that as it is, and is refused where
+nothing else ends it. Then the newest state takes its place again, or a `resume` takes the older one up.
+
 Every index that a life gave, by what it printed or by what is in a signature's file, is compared
 with all others of the key and with the counter that is stored. Each tenth signature is verified,
 and each of a life before which the nodes were changed or power was lost.
@@ -22,165 +26,24 @@ happened is printed, too: `[--seed S] [--lives N | --seconds N] [--ignore files 
 folders]`."""
 
 import argparse
-import collections
 import concurrent.futures
 import hashlib
 import os
 import pathlib
 import random
 import shutil
-import subprocess
 import tempfile
-import threading
 import time
 
 from tests.harness import ARGUMENTS, Wrong, holds, test
-from tests.merge_check.power import Power
-from tests.program import PROGRAM, index_in, job_lines, keygen, preload, put, run, sign, verify, without_counts
-from tests.reference import CHAINS
-from tests.seeds import keeps_secret
+from tests.merge_check.lives import MESSAGE, OLDER, Life, Totals
+from tests.merge_check.power import PLACE, Power
+from tests.program import keygen, preload, put, resume, run, sign, verify, witness
+from tests.reference import CHAINS, witness_of
 
 LEVELS = ["5/1"] * 5 + ["5/2"] * 3 + ["5/4", "5/8"] + ["5/1,5/1"] * 5 + ["5/2,5/1"] * 2 + ["5/1,5/4,5/1", "5/8,5/8"]
-MESSAGE = b"a message"
-# How many bytes a job line has.
-LINE = len(job_lines(MESSAGE))
 # What may become of the kept nodes before a life.
 MISHAPS = ["removed", "emptied", "cut", "changed", "older", "another key's"]
-
-
-class Totals:
-    """What has happened so far, counted by all threads."""
-
-    def __init__(self, lives, end, ignored):
-        self.lock, self.lives, self.end, self.ignored = threading.Lock(), lives, end, ignored
-        self.counts, self.endings = collections.Counter(), collections.Counter()
-
-    def count(self, what, more=1):
-        """Counts so many more of these, and answers how many there are."""
-        with self.lock:
-            self.counts[what] += more
-            return self.counts[what]
-
-    def begins(self):
-        """Whether there is to be another life, which is counted."""
-        return time.monotonic() < self.end and self.count("lives") <= self.lives
-
-    def ended(self, what):
-        """Counts how a life ended."""
-        with self.lock:
-            self.endings[what] += 1
-
-
-class Life:
-    """One run of the program on a key's state."""
-
-    def __init__(self, key, number):
-        dice = key.dice
-        self.key, self.name = key, f"{key.folder}/{number}"
-        self.command = dice.choices(["sign", "batch", "serve"], [50, 25, 25])[0]
-        self.jobs = 1 if self.command == "sign" else dice.choice([0, 1, 1, 2, 2, 3, 3, 4, 6, 9, 33])
-        self.workers = dice.choice([1, 2, 2, 3, 4])
-        self.fault = dice.choices(["none", "stop", "fail", "refuse", "kill", "full"], [30, 20, 22, 8, 15, 5])[0]
-        self.settings = {}
-        operations = {"sign": 34, "batch": 60, "serve": 150}[self.command]
-        if self.fault == "stop":
-            self.settings = {"STOP": dice.randint(1, operations)}
-        elif self.fault == "fail":
-            first = dice.randint(1, operations)
-            self.settings = {"FAIL": first, "LAST": first + dice.choice([0, 0, 0, 1, 2, 5, 1000])}
-            if dice.random() < 0.5:
-                self.settings["LATE"] = 1
-        elif self.fault == "refuse":
-            self.settings = {"REFUSE": dice.randint(1, 160)}
-        if self.command == "serve" and self.fault != "refuse" and dice.random() < 0.7:
-            self.settings["TAKE"] = dice.choice([LINE, LINE, 2 * LINE, 2 * LINE + 1, 5 * LINE])
-        # (It computes the trees of all indices that are near.)
-        self.patience = dice.choice([1, 3, 10]) if self.command == "serve" else 1
-        self.moment, self.power, self.record = dice.random() * 1.2, None, None
-
-    def arguments(self):
-        """What the program is asked for."""
-        state = f"{self.key.folder}/key.state"
-        if self.command != "sign":
-            return [self.command, "--state", state, "--workers", str(self.workers)]
-        to = "/dev/full" if self.fault == "full" and self.moment < 0.6 else f"{self.name}.sig"
-        return sign(f"{self.key.folder}/text", to, state=state)
-
-    def start(self):
-        """Starts the program."""
-        libraries = ["refuse" if self.fault == "refuse" else "stop"] if self.settings else []
-        settings = dict(self.settings)
-        if self.power:
-            # (After the other one it sees what is done of an operation that fails.)
-            libraries.append("record")
-            settings["RECORD"] = self.record = f"{self.name}.record"
-        put(f"{self.name}.in", job_lines(*[MESSAGE] * self.jobs))
-        to = "/dev/full" if self.fault == "full" and self.moment >= 0.6 else f"{self.name}.out"
-        with open(f"{self.name}.in", "rb") as given, open(to, "wb") as output, open(f"{self.name}.err", "wb") as errors:
-            how = {"stdin": given, "stdout": output, "stderr": errors, "env": preload(*libraries, **settings)}
-            self.began = time.monotonic()
-            self.process = subprocess.Popen([PROGRAM, *self.arguments()], **how)
-
-    def wait(self):
-        """Waits for its end, or for the moment at which it is killed."""
-        try:
-            moment = self.moment * self.key.seconds * self.patience
-            self.status = self.process.wait(moment if self.fault == "kill" else 600)
-        except subprocess.TimeoutExpired:
-            self.process.kill()
-            self.status = self.process.wait()
-            holds(self.fault == "kill", f"{self.name}: it did not end")
-        self.output, self.signature = self.read("out"), self.read("sig")
-        self.errors = without_counts(self.read("err").decode(), self.began)
-        keeps_secret(self.arguments(), (self.output, self.errors), self.key.folder, self.key.seeds, self.record)
-        holds(self.status in (0, 1, 3, 4, 5, 6, -9), f"{self.name}: it ended with {self.status}: {self.errors}")
-
-    def read(self, ending):
-        """The bytes of one of its files, or none where it does not exist."""
-        path = pathlib.Path(f"{self.name}.{ending}")
-        return path.read_bytes() if path.exists() else b""
-
-    def answers(self):
-        """The indices that were given, each with its signature as far as that was written."""
-        if self.command == "sign":
-            printed = self.output.removeprefix(b"index ").removesuffix(b"\n") if self.output.endswith(b"\n") else b""
-            found = index_in(self.signature, self.key.levels)
-            if printed and found is not None and int(printed) != found:
-                raise Wrong(f"{self.name}: index {printed.decode()} was printed, and {found} used")
-            index = int(printed) if printed else found
-            return [] if index is None else [(index, self.signature)]
-        lines = [it.partition(b" ") for it in self.output.splitlines() if b" " in it]
-        answers = [(int(index), bytes.fromhex(digits[: len(digits) // 2 * 2].decode())) for index, _, digits in lines]
-        for index, signature in answers:
-            holds(index_in(signature, self.key.levels) in (None, index), f"{self.name}: an answer with index {index} uses another one")
-        return answers
-
-    def check_end(self, before, answers, is_alone):
-        """A life that ended well gave all that was asked for, and one without a fault ended well,
-        or said why it could not."""
-        whole = [index for index, signature in answers if len(signature) == self.key.length]
-        ended = f"it ended with {self.status}: {self.errors}"
-        if self.status == 0 and (len(whole) != self.jobs or len(answers) != self.jobs):
-            raise Wrong(f"{self.name}: {len(whole)} of {self.jobs} signatures at a good end")
-        if self.fault != "none":
-            return
-        left = self.key.capacity - before
-        # (A `serve` gives the first lines what is left.)
-        first = min(self.jobs, left) if self.jobs <= left or self.command == "serve" else 0
-        if is_alone:
-            holds(whole == list(range(before, before + first)), f"{self.name}: it gave {whole} from {before} on, and {ended}")
-        if is_alone and self.jobs > left:
-            is_right = (self.status, self.errors) == (4, f"error: exhausted: {left - first} left\n")
-            holds(is_right, f"{self.name}: {self.jobs} of {left} indices, and {ended}")
-        if not is_alone and self.status != 0:
-            holds(self.errors == "error: state in use\n" or "exhausted" in self.errors, f"{self.name}: beside another one {ended}")
-
-    def how(self):
-        """How it ended, in a word."""
-        if self.power:
-            return f"lost power with the {'new' if self.power.is_state_new else 'old'} state"
-        reason = "in use" if "in use" in self.errors else "exhausted" if "exhausted" in self.errors else "failed"
-        return {0: "done", -9: "killed"}.get(self.status, reason)
 
 
 class Key:
@@ -194,11 +57,16 @@ class Key:
         sizes = [12 + 32 * (CHAINS[width][1] + 1 + height) for height, width in self.levels]
         self.length = 4 + sum(sizes) + 56 * (len(sizes) - 1)
         self.given, self.older, self.seeds, self.has_lost_power = {}, [], [], False
+        # (Those of before, each with its counter.)
+        self.states, self.is_watched, self.has_older = [], self.dice.random() < 0.5, False
         os.mkdir(self.folder)
         put(f"{self.folder}/text", MESSAGE)
         begun = time.monotonic()
         self.make("key")
         self.seconds = 2 * (time.monotonic() - begun)
+        if self.is_watched:
+            os.mkdir(f"{self.folder}/{os.path.dirname(PLACE)}")
+            self.call(witness(0, f"{self.folder}/{PLACE}", f"{self.folder}/key.state"))
         self.make("another")
         self.call(sign(f"{self.folder}/text", f"{self.folder}/another.sig", state=f"{self.folder}/another.state"))
         self.another = self.nodes("another")
@@ -211,6 +79,8 @@ class Key:
     def make(self, name):
         """Makes a key of these levels, in files of this name."""
         seed, identifier = self.dice.randbytes(32), self.dice.randbytes(16).hex()
+        if not self.seeds:
+            self.identifier = bytes.fromhex(identifier)
         self.seeds.append(seed)
         self.call(keygen(self.text, seed.hex(), identifier, f"{self.folder}/{name}.state", f"{self.folder}/{name}.pub"))
 
@@ -246,6 +116,50 @@ class Key:
         holds(is_whole, f"{self.folder}: the state is damaged")
         return int.from_bytes(state[at : at + 8], "big")
 
+    def said(self):
+        """The number that the witness says, which is whole."""
+        text = pathlib.Path(f"{self.folder}/{PLACE}").read_bytes()
+        number = int(text.split()[-1])
+        holds(text == witness_of(number, self.identifier), f"{self.folder}: the witness is damaged: {text}")
+        return number
+
+    def watches(self, number, totals):
+        """The witness says that all indices are used that were given, and no more than the state, or an older one
+        was put back. Now and then an older state is put back, or such a witness."""
+        counter, said, given = self.counter(), self.said(), max(self.given, default=-1)
+        self.has_older = self.has_older and said <= given
+        holds(said <= counter and (said > given or self.has_older), f"{self.folder}: the witness says {said}, and {counter} is stored")
+        self.states.append((counter, pathlib.Path(f"{self.folder}/key.state").read_bytes()))
+        if self.dice.random() < 0.15:
+            self.puts_back(number, totals)
+        elif self.dice.random() < 0.05:
+            put(f"{self.folder}/{PLACE}", witness_of(self.dice.randint(0, said), self.identifier))
+            self.has_older = True
+
+    def puts_back(self, number, totals):
+        """An older state is put back, and a life gives nothing of it."""
+        name, said = f"{self.folder}/key.state", self.said()
+        older = [state for counter, state in self.states if counter < said]
+        # (An older state and an older witness are both put back, against which there is nothing.)
+        if not older or self.has_older:
+            return
+        newest, state = pathlib.Path(name).read_bytes(), self.dice.choice(older)
+        put(name, state)
+        life = Life(self, f"{number}older")
+        life.start()
+        life.wait()
+        holds(not life.answers(), f"{life.name}: it gave indices of an older state: {life.answers()}")
+        holds(pathlib.Path(name).read_bytes() == state, f"{life.name}: it changed an older state")
+        is_refused = (life.status, life.errors) == (3, OLDER)
+        holds(is_refused or life.fault not in ("none", "full"), f"{life.name}: it ended with {life.status}: {life.errors}")
+        totals.count("refusals", is_refused)
+        totals.ended(f"{life.how()} by an older state")
+        if self.dice.random() < 0.5:
+            put(name, newest)
+        else:
+            self.call(resume(said, name))
+            holds(self.counter() == said, f"{life.name}: {self.counter()} is stored after a resume to {said}")
+
     def compare(self, life, answers, is_doubtful):
         """Compares what a life gave with all that was given before. In doubt each signature is
         verified."""
@@ -260,6 +174,8 @@ class Key:
 
     def live(self, number, totals):
         """One life, or two at once. Whether there is to be another one."""
+        if self.is_watched:
+            self.watches(number, totals)
         before, nodes = self.counter(), self.nodes("key")
         if nodes not in self.older:
             self.older.append(nodes)
@@ -287,7 +203,7 @@ class Key:
         if counter < before or any(index >= counter for index in self.given):
             raise Wrong(f"{lives[0].name}: {counter} is stored, after {before} and {max(self.given, default=None)} given")
         for name in os.listdir(self.folder):
-            if name.startswith((f"{number}.", f"{number}b.")):
+            if name.startswith((f"{number}.", f"{number}b.", f"{number}older.")):
                 os.remove(f"{self.folder}/{name}")
         return counter < self.capacity or self.dice.random() < 0.5
 
@@ -335,12 +251,14 @@ def live_all(given, folder):
             raise
     holds(not faults, "\n".join(faults))
     holds(totals.counts["given"], "no index was given")
+    # (A number of lives may be too small.)
+    holds(totals.counts["refusals"] or given.lives, "no older state was refused")
     if ARGUMENTS:
         counts, seconds = totals.counts, time.monotonic() - begun
         lives = sum(totals.endings.values())
         print(f"{lives} lives of {counts['keys']} keys in {seconds:.0f} seconds, {counts['mishaps']} with other nodes:")
         print(", ".join(f"{number} {what}" for what, number in sorted(totals.endings.items())))
-        print(f"seed {given.seed}: {counts['given']} indices were given, none twice")
+        print(f"seed {given.seed}: {counts['given']} indices were given, none twice, and {counts['refusals']} older states were refused")
 
 
 @test

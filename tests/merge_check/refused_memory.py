@@ -33,7 +33,11 @@ TESTS = {
         "service::memory::one_worker_after_refused_memory",
     ],
     "lms_lines_tests": ["pieces::pieces_after_refused_memory", "signing::memory::lines_after_refused_memory"],
-    "lms_file_store_tests": ["a_store_works_after_refused_memory", "nodes::nodes_are_kept_after_refused_memory"],
+    "lms_file_store_tests": [
+        "a_store_works_after_refused_memory",
+        "nodes::nodes_are_kept_after_refused_memory",
+        "witness::a_witness_is_kept_after_refused_memory",
+    ],
     "lms_tool_tests": ["memory::refused_memory_is_said", "batch_faults::a_batch_says_what_it_used"],
 }
 # More requests than any of these tests makes.

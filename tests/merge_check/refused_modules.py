@@ -39,6 +39,13 @@ def both(*words, change=lambda parts, base: parts, **how):
     return [joined(change(sections(functions(*words, **how), CALLS, base, CONSTANTS), base)) for base in ENDS]
 
 
+def with_frames(sizes):
+    """The module with two sizes of stack whose four calls take frames of these sizes."""
+    bodies = [code(*frame(it), *back(it), ZERO) if it else code(ZERO) for it in sizes]
+    found = [Function(name, CALLS[name].split(), ["i32"], body, ("i64", "i64")) for name, body in zip(CALLS, bodies)]
+    return [joined(sections(found, CALLS, base, CONSTANTS)) for base in ENDS]
+
+
 def with_section(number, contents):
     """A function that puts this section in another one's place, or in its own."""
 

@@ -7,7 +7,8 @@ program one processor, so that its requests are the same in each run, and a cloc
 all leaves that it has computed: so it is seen how many are computed when a request is refused. `sign`
 asks for all memory before it computes a leaf, and again where kept nodes turn out to be wrong; `keygen`
 asks for that of its state and tree before, and `batch` and `serve` for all of a tree before its leaves. A
-`serve` has answered all groups but the one that it is refused memory for."""
+`serve` has answered all groups but the one that it is refused memory for. A witness says what the state does,
+but where an index is burnt that signs nothing."""
 
 import collections
 import concurrent.futures
@@ -20,8 +21,13 @@ from tests.harness import Wrong, add_test, holds
 from tests.merge_check.made_up_trees import MadeUpTree
 from tests.merge_check.service import WINDOW, messages_of_groups
 from tests.merge_check.wrong_nodes import misfitting
-from tests.program import BATCH, INFO, NODES, SERVE, TO_JOIN, index_in, job_lines, join, join_public, keygen, preload, public, put, run, sign, verify
-from tests.reference import IDENTIFIER, SEED, SUBTREE, checked, image, joined, kept, kept_parts, number, parts_to_join, public_of, signature_of
+from tests.program import (
+    BATCH, INFO, NODES, SERVE, TO_JOIN, WITNESS, index_in, job_lines, join, join_public, keygen, preload, public, put, resume, run, sign, verify,
+    witness,
+)
+from tests.reference import (
+    IDENTIFIER, SEED, SUBTREE, checked, image, joined, kept, kept_parts, number, parts_to_join, public_of, signature_of, witness_of,
+)
 
 ONE, TWO, TALL = ((5, 1),), ((5, 1),) * 2, ((15, 1), *((5, 1),) * 4)
 # A key of which the second level's trees are as large as what a `serve` keeps.
@@ -58,6 +64,21 @@ def with_signature():
     return {**key_of(TWO), "old.sig": signature_of(TWO, 0, b"abc")}
 
 
+def with_witness():
+    """And kept nodes of the index LAST, and a witness that says that all before it are used."""
+    return {**with_nodes(), WITNESS: witness_of(LAST)}
+
+
+def with_lower_witness():
+    """The same of a key of one level, two indices lower."""
+    return {**key_of(ONE), WITNESS: witness_of(LAST - 2)}
+
+
+def with_newer_witness():
+    """And a witness that says that JOBS more are used."""
+    return {**key_of(TWO), WITNESS: witness_of(LAST + JOBS)}
+
+
 def with_parts():
     """And what is to be joined."""
     return {**key_of(TWO), **dict(zip(TO_JOIN, parts_to_join(ONE, TWO)))}
@@ -83,11 +104,12 @@ class Command:
     `late` says how many leaves were computed where it ends by a refusal and some were: each number with
     that of these refusals, or the numbers alone. Where only those are tried that burn an index, the others
     are as in another command. What it makes is a file of a name with the bytes of a call, if that is said.
+    `says` is the number of the witness that it finds, if any.
     A `serve` answers its jobs one by one, and all others at once."""
 
-    def __init__(self, arguments, levels, late, index=LAST, uses=1, lines=b"", files=None, burns=False, makes=None):
+    def __init__(self, arguments, levels, late, index=LAST, uses=1, lines=b"", files=None, burns=False, makes=None, says=None):
         self.arguments, self.levels, self.late, self.index, self.uses, self.lines = arguments, levels, late, index, uses, lines
-        self.files, self.burns, self.makes = files or (lambda: key_of(levels)), burns, makes
+        self.files, self.burns, self.makes, self.says = files or (lambda: key_of(levels)), burns, makes, says
         self.at_once = 1 if arguments is SERVE_BY_ONE else uses
 
     def begin(self, folder, files):
@@ -161,6 +183,12 @@ class Run:
             name, contents = self.command.makes
             left = (self.folder / name).read_bytes() if (self.folder / name).exists() else None
             holds(left == contents() or (status and left is None), f"it ended with {status}, and {name} is missing or has other bytes")
+        if self.command.says is not None:
+            # (What is burnt before a witness is written stays out of it.)
+            before = self.command.says if not given else self.command.index + len(given) // self.command.at_once * self.command.at_once
+            numbers = [before, self.command.index + used] if self.fault and used else [self.command.index + used if used else before]
+            said = (self.folder / WITNESS).read_bytes()
+            holds(said in map(witness_of, numbers), f"{used} indices are used, and the witness says {said}")
         if used is None:
             ran = self.run(self.command.arguments)
             holds(ran.returncode == 0, f"the next keygen fails: {ran.stderr!r}")
@@ -214,6 +242,11 @@ COMMANDS = {
     "sign by two trees": Command(sign(), TWO, {}),
     "sign by one tree": Command(sign(), ONE, {}, index=LAST - 1, burns=True),
     "sign by kept trees": Command(sign(), TWO, {}, files=with_nodes, burns=True),
+    "sign beside a witness": Command(sign(), TWO, {}, files=with_witness, says=LAST),
+    "batch beside a witness": Command([*BATCH[:-1], "1"], TWO, {32: 4, 64: 3, 96: 5}, uses=JOBS, lines=job_lines(*[b"abc"] * JOBS), files=with_witness, says=LAST),
+    "serve beside a witness": Command(SERVE_BY_ONE, ONE, {32}, index=LAST - 2, uses=JOBS, lines=job_lines(*messages_of_groups(*[1] * JOBS)), files=with_lower_witness, says=LAST - 2),
+    "witness": Command(witness(LAST, "new.witness"), TWO, {}, uses=0, makes=("new.witness", lambda: witness_of(LAST))),
+    "resume": Command(resume(LAST + JOBS), TWO, {}, uses=JOBS, files=with_newer_witness, says=LAST + JOBS),
     "sign by the next tree": Command(sign(), TWO, {}, index=LAST + 1, files=with_nodes, burns=True),
     "sign by the next tree, under another root": Command(sign(), TWO, {32: 8}, index=LAST + 1, files=with_another_root, burns=True),
     "sign by the next bottom subtree": Command(sign(), TALL, {}, index=EDGE, files=with_tall_nodes, burns=True),

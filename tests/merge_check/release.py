@@ -11,8 +11,8 @@ import shutil
 from tests.harness import TOP, Skipped, checks, holds, said_by
 from tests.merge_check.emulator import EMULATOR, what_is_missing
 from tests.merge_check.packages import (
-    ARM, ARM_DEBIAN, ARM_NAME, COMMANDS, COMMON, DEBIAN, FAST, FLAGS, LEVELS, LIBRARY, NAME, OUTPUTS, PAGE, PAGES, VERSION, are_right,
-    copy_sources, pack_twice,
+    ARM, ARM_DEBIAN, ARM_NAME, COMMANDS, COMMON, DEBIAN, FAST, FLAGS, LEVELS, LIBRARY, NAME, OUTPUTS, PAGE, PAGES, PAGE_SOURCES, VERSION,
+    are_right, copy_sources, pack_twice,
 )
 from tests.program import job_lines, keygen, put, sign, verify
 
@@ -33,7 +33,7 @@ def why_not(output):
     """Why an output can't be packed, or nothing."""
     if not (TOP / output).is_file():
         return f"{output} is not built"
-    more = {PAGE: [TOP / "examples/web/index.html"], ARM: (TOP / "runtime/aarch64").glob("*.[ch]")}.get(output, [])
+    more = {PAGE: [TOP / name for name in PAGE_SOURCES], ARM: (TOP / "runtime/aarch64").glob("*.[ch]")}.get(output, [])
     newest = max(file.stat().st_mtime_ns for file in [*sources(), *more])
     return f"{output} is older than a source" if (TOP / output).stat().st_mtime_ns < newest else ""
 

@@ -46,6 +46,17 @@ def makes_the_key_of_the_digits():
 
 
 @test
+def makes_the_key_of_each_byte():
+    """Each of 256 stands at each place of a seed, and begins one four times; lower and upper case by turns."""
+    for byte in range(256):
+        seed = bytes([byte] * 4 + [(byte + 9 * at) % 256 for at in range(1, 29)])
+        digits = "".join(f"{it:02x}" if at % 2 else f"{it:02X}" for at, it in enumerate(seed))
+        ends(keygen("5/1", "-"), 0, "capacity 32\n", input=digits)
+        has("key.state", image(((5, 1),), 0, seed=seed))
+        os.remove("key.state")
+
+
+@test
 def waits_for_the_end_of_a_slow_input():
     how = {"stdin": subprocess.PIPE, "stdout": subprocess.PIPE, "stderr": subprocess.PIPE}
     with subprocess.Popen([PROGRAM, *WORDS], **how) as running:

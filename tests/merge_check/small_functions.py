@@ -137,6 +137,7 @@ def globals_and_calls(first):
     leaves_nothing = code(A, ("i32.const", 1), "i32.xor", ("global.set", 1), ("global.get", 1), A, "i32.or")
     traps = code(A, ("global.set", 1), "unreachable")
     after_a_trap = code("loop", B, ("call", first + 4), A, ("i32.const", 1), "i32.add", ("local.tee", 0), ("br_if", 0), "end", A)
+    endless = code("loop", A, ("call", first + 4), ("i32.const", 1), ("br_if", 0), "end", A)
     return [
         Function("mark", ["i32"], ["i32"], mark),
         Function("calls", ["i32", "i32"], ["i32"], calls),
@@ -144,6 +145,7 @@ def globals_and_calls(first):
         Function("leaves nothing", ["i32"], ["i32"], leaves_nothing),
         Function("traps", ["i32"], [], traps),
         Function("after a trap", ["i32", "i32"], ["i32"], after_a_trap),
+        Function("endless but for a trap", ["i32"], ["i32"], endless),
         Function("calls framed", ["i64", "i32"], ["i64"], calls_framed, ["i64", "i64"]),
         *stack(frame, back),
     ]

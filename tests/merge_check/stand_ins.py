@@ -29,6 +29,10 @@ FAST, COMMON, ARM = "run --cpu=x86-64-v3 -- --help", "run -- --help", "run --tar
 PROVED = "logic=proved functions=1 target=aarch64-unknown-linux-gnu main=Wait"
 LINKER = "aarch64-linux-gnu-gcc"
 SECONDS = 40
+# What may end the script.
+SIGNALS = [signal.SIGHUP, signal.SIGINT, signal.SIGPIPE, signal.SIGTERM]
+# Arguments of which one has a space and one is empty.
+SOME = ["sign", "a b", ""]
 # What the script says before a trial run.
 IS_TRIAL = (
     "lms_tool: this is a trial run, which takes about a minute and proves nothing; ./lms_tool build proves and builds the program in some "
@@ -38,7 +42,7 @@ IS_TRIAL = (
 
 class StandIns:
     """The script `lms_tool` in the current folder, with crates that have nothing in them, and in
-    bin/ short scripts that stand in for `rt`, which notes what it is asked, and for what tells
+    tools/ short scripts that stand in for `rt`, which notes what it is asked, and for what tells
     whether the processor has AVX2. Others stand in for the programs that `rt` makes. Where nothing
     else is said, both are there, built after the sources were last changed. What the script makes
     for a time only its owner may see, and at the end nothing of it may be left. One stands in for the
@@ -50,7 +54,7 @@ class StandIns:
         self.arm = f"{self.top}/{OUT}/aarch64/lms_tool"
         self.best, self.build = ("fast", FAST) if has_avx2 else ("common", COMMON)
         self.pid, self.status, self.output, self.errors = None, None, "", ""
-        for folder in ("bin", "files", "home", os.path.dirname(self.fast)):
+        for folder in ("tools", "files", "home", os.path.dirname(self.fast)):
             os.makedirs(folder)
         shutil.copy(TOP / "lms_tool", ".")
         self.write("crates.txt", CRATES)
@@ -60,8 +64,9 @@ class StandIns:
                 self.write(f"crates/{crate}/{folder}/file", "")
                 self.age(f"crates/{crate}/{folder}/file", 2)
         os.makedirs("runtime/aarch64")
-        self.write("runtime/aarch64/heap.c", "")
-        for name in ("crates.txt", "runtime/aarch64/heap.c"):
+        for name in ("heap.c", "rattle.h"):
+            self.write(f"runtime/aarch64/{name}", "")
+        for name in ("crates.txt", "runtime/aarch64/heap.c", "runtime/aarch64/rattle.h"):
             self.age(name, 2)
         self.write("cpuinfo", f"flags : sse2 avx {'avx2 ' * has_avx2}bmi2\n")
         self.make_tools()
@@ -90,10 +95,10 @@ class StandIns:
         """What stands in for `grep` and for `rt`."""
         top = self.top
         grep = f'[ "$3" != /proc/cpuinfo ] || set -- "$1" "$2" "{top}/cpuinfo"\nexec {shutil.which("grep")} "$@"\n'
-        self.script("bin/grep", grep)
+        self.script("tools/grep", grep)
         notes = f'[ "$1" = try ] || echo "${{PWD##*/}} $*" >>"{top}/builds"\nstat -c %a "{top}/files/"* >>"{top}/modes" 2>/dev/null\n'
         notes += f'cat >"{top}/nothing"\n'
-        self.script("bin/rt", f'{notes}[ "$1" = try ] || echo "a line of rt $1"\n. "{top}/on_$1"\n')
+        self.script("tools/rt", f'{notes}[ "$1" = try ] || echo "a line of rt $1"\n. "{top}/on_$1"\n')
 
     def write(self, name, text):
         """Writes a file."""
@@ -126,7 +131,7 @@ class StandIns:
         and makes the program for aarch64."""
         notes = f'printf "%s " "$@" >"{self.top}/words"\nfor word; do case $word in *.o) cat "$word" >"{self.top}/linked" ;; esac; done\n'
         makes = f'until [ "$1" = -o ]; do shift; done\ncp "{self.top}/arm" "$2"\n'
-        self.script(f"bin/{name}", f"{notes}{makes}{text}")
+        self.script(f"tools/{name}", f"{notes}{makes}{text}")
 
     def on(self, verb, text):
         """What `rt` does where its first argument is this one."""
@@ -136,24 +141,25 @@ class StandIns:
         """Forgets what the toolchain was asked."""
         self.write("builds", "")
 
-    def begin(self, arguments, by, cwd, **how):
-        """Starts the script with these arguments, by these words before it, and with these
-        streams. It is left to the script to take rights away."""
-        folders = {"TMPDIR": f"{self.top}/files", "HOME": f"{self.top}/home", "PATH": f"{self.top}/bin:{os.environ['PATH']}"}
-        words = [*by, f"{self.top}/lms_tool", *arguments]
+    def begin(self, arguments, by, cwd, program="lms_tool", **how):
+        """Starts the script, or another program, with these arguments, by these words before it, and with
+        these streams. It is left to the script to take rights away."""
+        folders = {"TMPDIR": f"{self.top}/files", "HOME": f"{self.top}/home", "PATH": f"{self.top}/tools:{os.environ['PATH']}"}
+        words = [*by, f"{self.top}/{program}", *arguments]
         named = {name: text for name, text in os.environ.items() if name != "CC_AARCH64"}
         running = subprocess.Popen(words, cwd=cwd, env={**named, **folders}, umask=0, **how)
         self.pid = running.pid
         return running
 
-    def start(self, *arguments, by=(), cwd=None):
-        """Runs the script with these arguments, an input and one end of a pipe, which must be
-        closed everywhere when the script has ended."""
+    def start(self, *arguments, by=(), cwd=None, stdin=None, program="lms_tool"):
+        """Runs the script, or another program, with these arguments, an input, which is a file where no
+        other one is given, and one end of a pipe, which must be closed everywhere when it has ended."""
         reader, writer = os.pipe()
         self.write("input", "input\n")
         files = [open(f"{self.top}/{name}", mode) for name, mode in (("input", "rb"), ("output", "wb"), ("errors", "wb"))]
         with files[0] as given, files[1] as output, files[2] as errors:
-            running = self.begin(arguments, by, cwd, stdin=given, stdout=output, stderr=errors, pass_fds=[writer])
+            streams = {"stdin": given if stdin is None else stdin, "stdout": output, "stderr": errors}
+            running = self.begin(arguments, by, cwd, program, **streams, pass_fds=[writer])
             os.close(writer)
             with running, os.fdopen(reader, "rb", 0) as stream:
                 try:
@@ -214,3 +220,36 @@ class StandIns:
     def reports(self, line):
         """This line was printed to standard error."""
         self.holds(f"lms_tool: {line}" in self.errors.split("\n"), f"does not report: {line}")
+
+
+def runs(it, name):
+    """The script runs the program of this name."""
+    it.start(*SOME)
+    it.ran(name, *SOME)
+
+
+def runs_again(it, name):
+    """The next start builds nothing."""
+    it.forget()
+    runs(it, name)
+    it.is_quiet()
+
+
+def builds(it, *arguments):
+    """The argument `build` builds, and runs nothing."""
+    it.start("build", *arguments)
+    it.holds(it.status == 0 and not it.output, "not just built")
+
+
+def is_program(it, file, name):
+    """The program of this name is in this file."""
+    ran = subprocess.run([file, "a"], stdin=subprocess.DEVNULL, stdout=subprocess.PIPE, text=True, check=False)
+    it.holds(ran.stdout == f"{name}\na\n", f"not the program {name}")
+
+
+def is_given_up(it, said):
+    """The program can't be built, and the last that the toolchain said is this."""
+    it.holds(it.status == 70 and not it.output, "something ran")
+    lines = it.errors.splitlines()
+    it.holds(said in lines, "what the toolchain said is not reported")
+    it.holds(lines[-1] == "lms_tool: the program could not be built", "not said")

@@ -1,5 +1,6 @@
 """A model of a weak file system, for `power_cuts` and `random_lives`: what a loss of power may
-leave of files and names that are not flushed."""
+leave of files and names that are not flushed. A key's witness is in another folder, of which nothing is
+flushed with others, as if it were another disk."""
 
 import itertools
 import math
@@ -12,6 +13,8 @@ from tests.program import put
 
 # The most states that are tried of a moment, and of a file.
 MOST_STATES = 4000
+# How links to witnesses and to public keys are named.
+LINKS = (".witness", ".link")
 # What may become of a write that is not flushed: what of its bytes is written.
 FATES = {
     "lost": lambda part: b"",
@@ -25,6 +28,11 @@ FATES = {
 def written(contents, at, part):
     """A file's bytes after this part is written there."""
     return contents[:at].ljust(at, b"\0") + part + contents[at + len(part) :] if part else contents
+
+
+def cut(contents, length):
+    """A file's bytes after it is cut, or made longer, to this length."""
+    return contents[:length].ljust(length, b"\0")
 
 
 def ways(lists):
@@ -43,17 +51,21 @@ def some(lists, most):
     yield from ([dice.choice(it) for it in lists] for _ in range(most - 2))
 
 
+class Link(bytes):
+    """Where a link leads, by a path from the folder."""
+
+
 class File:
-    """A file: its bytes, those that are flushed, and its changes since: where a part was written,
-    or None where it was emptied."""
+    """A file: its bytes, those that are flushed, and its changes since: where a part was written, or None
+    and the length to which it was cut. Or a link."""
 
     def __init__(self, contents=b""):
         self.contents = self.flushed = contents
         self.changes = []
 
     def change(self, at, part, what):
-        """Writes a part, or empties the file."""
-        self.contents = b"" if at is None else written(self.contents, at, part)
+        """Writes a part, or cuts the file."""
+        self.contents = cut(self.contents, part) if at is None else written(self.contents, at, part)
         self.changes.append((at, part, what))
 
     def flush(self):
@@ -71,7 +83,7 @@ class File:
             if at is not None:
                 contents = written(contents, at, FATES[fate](part))
             elif fate == "whole":
-                contents = b""
+                contents = cut(contents, part)
         return contents, [f"{what} ({fate})" for (_, _, what), fate in zip(self.changes, fates) if fate != "whole"]
 
     def all_left(self):
@@ -80,27 +92,37 @@ class File:
         return list(dict(self.left(fates) for fates in some(self.fates(), MOST_STATES)).items())
 
 
-def differs_by(left, state):
-    """What distinguishes a loss from others: the bytes of the names beside the state, and which of
-    them lead to one file."""
+def differs_by(left, beside):
+    """What distinguishes a loss from others: the bytes of the names that begin as these, those beside the state
+    and the witness, and which of them lead to one file."""
     first = {}
     for name in sorted(left):
-        if name.startswith(state):
+        if name.startswith(beside):
             first.setdefault(left[name][0], name)
-    return tuple((name, first[left[name][0]], left[name][1]) for name in sorted(left) if name.startswith(state))
+    return tuple((name, first[left[name][0]], left[name][1]) for name in sorted(left) if name.startswith(beside))
 
 
-def fault_of(state, states, least):
-    """What is wrong with this state image, if anything, where a run found the first of these and stores the
-    others, one after another, and so many of them are too old, since bytes were given away: a word for it,
-    and what it is."""
+def fault_of(state, states, least, what="state"):
+    """What is wrong with this state image, or witness, if anything, where a run found the first of these and
+    stores the others, one after another, and so many of them are too old, since bytes were given away: a word
+    for it, and what it is."""
     if state in states[least:]:
         return None
     if state in states:
-        return "older", f"{'an older state' if state else 'no state'}, and bytes were given away"
+        return "older", f"{f'an older {what}' if state else f'no {what}'}, and bytes were given away"
     if state is None:
-        return "gone", "no state"
-    return "torn", f"{len(state)} bytes that are neither state: {state[:20].hex()}{'..' if state[20:] else ''}"
+        return "gone", f"no {what}"
+    return "torn", f"{len(state)} bytes that are neither {what}: {state[:20].hex()}{'..' if state[20:] else ''}"
+
+
+def witness_in(left, state):
+    """The witness that the state of this name has after a loss, or None where there is none. A fault in its
+    place where a link leads nowhere."""
+    link = left.get(f"{state}.witness", (0, None))[1]
+    if link is None:
+        return None, None
+    found = left.get(os.fsdecode(link), (0, None))[1]
+    return found, ("older", "a link to a witness that is not there") if found is None else None
 
 
 def lay(folder, files):
@@ -109,7 +131,9 @@ def lay(folder, files):
     for name, (number, contents) in files.items():
         path = f"{folder}/{name}"
         os.makedirs(os.path.dirname(path), exist_ok=True)
-        if number in first:
+        if isinstance(contents, Link):
+            os.symlink(os.path.join(os.path.realpath(folder), os.fsdecode(contents)), path)
+        elif number in first:
             os.link(first[number], path)
         else:
             put(path, contents)
@@ -117,13 +141,16 @@ def lay(folder, files):
 
 
 def found_in(folder):
-    """The plain files in a folder and below it, by their names: the number and the bytes of
-    each."""
+    """The plain files in a folder and below it, and links whose names end as one of these, by their names: the
+    number and the bytes of each."""
     found = {}
     for at, _, names in os.walk(folder):
         for name in names:
             path = os.path.join(at, name)
-            if stat.S_ISREG(os.lstat(path).st_mode):
+            if name.endswith(LINKS) and os.path.islink(path):
+                leads_to = os.path.relpath(os.path.join(os.path.realpath(at), os.readlink(path)), os.path.realpath(folder))
+                found[os.path.relpath(path, folder)] = os.lstat(path).st_ino, Link(os.fsencode(leads_to))
+            elif stat.S_ISREG(os.lstat(path).st_mode):
                 with open(path, "rb") as it:
                     found[os.path.relpath(path, folder)] = os.lstat(path).st_ino, it.read()
     return dict(sorted(found.items()))
@@ -131,11 +158,14 @@ def found_in(folder):
 
 class Disk:
     """The files that a folder has, all flushed, and what is done to them. Each name has what it led
-    to since its folder was flushed, and why; and `states` what the state was from the beginning of a run on.
-    Flushes of `files`, of `folders` or of a file of one name do nothing where these are ignored."""
+    to since its folder was flushed, and why; and `states` and `witnesses` what these were from the beginning of a
+    run on.
+    Flushes of `files`, of `folders` or of a file of one name do nothing where these are ignored. The witness,
+    if there may be one, is at a place."""
 
-    def __init__(self, folder, found, state, ignored=None):
-        self.folder, self.state, self.ignored = os.path.realpath(folder), state, ignored
+    def __init__(self, folder, found, state, ignored=None, place=None):
+        self.folder, self.state, self.ignored, self.place = os.path.realpath(folder), state, ignored, place
+        self.beside = (state, place) if place else (state,)
         files = {number: File(contents) for number, contents in found.values()}
         self.names = {name: [(files[number], "")] for name, (number, _) in found.items()}
         self.start()
@@ -143,7 +173,7 @@ class Disk:
     def start(self):
         """Begins a run."""
         self.opened, self.has_left, self.printed = {}, False, 0
-        self.states = [self.contents(self.state)]
+        self.states, self.witnesses = [self.contents(self.state)], [self.contents(self.place)]
 
     def contents(self, name):
         """The bytes of a file, or None where it is not there."""
@@ -154,8 +184,8 @@ class Disk:
         return self.names[name][-1][0] if name in self.names else None
 
     def is_beside(self, name):
-        """Whether this is the state's file, or one beside it."""
-        return name.startswith(self.state)
+        """Whether this is the state's file, or one beside it, or the witness's, or its draft."""
+        return name.startswith(self.beside)
 
     def lead(self, name, file, what):
         """Has a name lead to a file, or nowhere."""
@@ -182,35 +212,57 @@ class Disk:
             file.change(second, data, what)
             self.has_left = self.has_left or not self.is_beside(name)
             return what
+        if word == "cut":
+            name, file = self.opened[first]
+            what = f"{number} cut of {name} to {second} bytes"
+            file.change(None, second, what)
+            return what
         if word == "flush":
             name, file = self.opened[first]
             self.flush(name, file)
             return f"{number} flush of {name}"
+        if word == "link":
+            return self.link(*map(self.name, data.split(b"\0")), number)
         if word == "rename":
-            old, new = map(self.name, data.split(b"\0"))
-            what = f"{number} rename of {old} to {new}"
-            holds(os.path.dirname(old) == os.path.dirname(new), f"{what}: into another folder")
-            # (Of two names of one file both stay.)
-            if self.file(old) is not self.file(new):
-                self.lead(new, self.file(old), what)
-                self.lead(old, None, what)
-            if new == self.state:
-                self.states.append(self.contents(new))
-            return what
+            return self.rename(*map(self.name, data.split(b"\0")), number)
         holds(word == "unlink", f"{number} {data.decode()}: a call that is not known")
         what = f"{number} removal of {self.name(data)}"
         self.lead(self.name(data), None, what)
         return what
 
+    def link(self, target, name, number):
+        """Makes a symbolic link. What it is."""
+        what = f"{number} link {name} to {target}"
+        self.lead(name, File(Link(os.fsencode(target))), what)
+        return what
+
+    def rename(self, old, new, number):
+        """Renames a file within its folder. What it is."""
+        what = f"{number} rename of {old} to {new}"
+        holds(os.path.dirname(old) == os.path.dirname(new), f"{what}: into another folder")
+        # (Of two names of one file both stay.)
+        if self.file(old) is not self.file(new):
+            self.lead(new, self.file(old), what)
+            self.lead(old, None, what)
+        for name, became in [(self.state, self.states), (self.place, self.witnesses)]:
+            if new == name:
+                became.append(self.contents(new))
+        return what
+
+    def led(self, name):
+        """The name to which a link of this name leads, or that name where it is none."""
+        contents = self.contents(name)
+        return os.fsdecode(contents) if isinstance(contents, Link) else name
+
     def open(self, number, flags, name, what):
-        """Opens a file, which may make or empty it."""
-        made = None
+        """Opens a file, or the one to which a link leads, which may make or empty it."""
+        name, made = self.led(name), None
         if flags & os.O_CREAT and not self.file(name):
             made = f"{what} of {name}, which is new"
             self.lead(name, File(), made)
         elif flags & os.O_TRUNC and self.file(name) and self.file(name).contents:
             made = f"{what} of {name}, which is emptied"
-            self.file(name).change(None, b"", made)
+            self.file(name).change(None, 0, made)
         self.opened[number] = name, self.file(name)
         return made
 

@@ -5,26 +5,93 @@ The page is built first, or is the file that is the first argument; a second arg
 picture to be made of the page. Where there is no Chromium it is skipped."""
 
 import os
+import pathlib
 
 from tests.harness import ARGUMENTS, TOP, checks, holds
-from tests.merge_check.browser import build_page, found_browser, opened
+from tests.merge_check.browser import IS_SHOWN, build_page, found_browser, opened
+from tests.merge_check.portable_vectors import LONGEST, signed
 from tests.program import is_plain, put
 from tests.reference import joined, public_of, signature_of
 
 EXAMPLES = TOP / "examples"
+# A public key, what it signed, and the signature.
+EXAMPLE = [EXAMPLES / name for name in ("release.pub", "firmware.bin", "firmware.sig")]
 LEVELS = [(5, 8)]
+# The bytes of the longest signature.
+MOST_BYTES = 74988
 
 # Has hashing wait until it may go on.
 WAIT = """window.digest = crypto.subtle.digest.bind(crypto.subtle);
 crypto.subtle.digest = async (...words) => { await new Promise((go) => { window.go = go; }); return window.digest(...words); }; 0"""
+# Has the second piece of a message wait until it may be read.
+WAIT_FOR_PIECE = """window.read = ReadableStreamDefaultReader.prototype.read;
+window.count = 0;
+ReadableStreamDefaultReader.prototype.read = async function () {
+    window.count += 1;
+    if (window.count === 2) await new Promise((go) => { window.go = go; });
+    return window.read.call(this);
+}; 0"""
+# A message gives other bytes than it has when they are read.
+GIVES = """window.stream ??= Blob.prototype.stream;
+Blob.prototype.stream = function () { return window.stream.call(%s); }; 0"""
+# A file of so many bytes gives one less when it is read.
+SHRINKS = """window.whole ??= Blob.prototype.arrayBuffer;
+Blob.prototype.arrayBuffer = function () {
+    return window.whole.call(this.size === %d ? this.slice(0, this.size - 1) : this);
+}; 0"""
+# The message is longer than it is.
+IS_LONG = """window.size = Object.getOwnPropertyDescriptor(Blob.prototype, "size").get;
+window.message = document.querySelector("#message input").files[0].name;
+const size = function () { return this.name === window.message ? 2 ** 31 : window.size.call(this); };
+Object.defineProperty(File.prototype, "size", { get: size }); 0"""
+# A name of a file that would be markup, and markup with scripts of each kind.
+MARKUP = "<img src=none: onerror=\"window.ran = 'a name'\"><b>.bin"
+SCRIPTS = """<script>window.ran = "a script";</script><script type="module">window.ran = "a module";</script>
+<img src="none:" onerror="window.ran = 'a fault'">
+<a id="pressed" onclick="window.ran = 'a press'" href="javascript:window.ran='a link'">text</a>"""
+PRESSED = "document.getElementById('pressed').click(); new Promise((done) => setTimeout(done, 300))"
+IS_REFUSED = """(() => {
+    try {
+        document.getElementById("outcome").innerHTML = "<b>text</b>";
+    } catch (error) {
+        return error instanceof TypeError;
+    }
+    return false;
+})()"""
+IS_EMPTY = "document.body.innerText.includes('This page has no verifier in it')"
 FIELDS = """[...document.querySelectorAll('input')].every(
     (field) => field.labels.length === 1 && field.closest('fieldset').querySelector('legend'))"""
+
+
+def made(name, message):
+    """The names of the files of a public key, of this message and of the signature, which are made."""
+    files = [f"{name}.{kind}" for kind in ("pub", "bin", "sig")]
+    for file, contents in zip(files, (public_of(LEVELS), message, signature_of(LEVELS, 0, message))):
+        put(file, contents)
+    return files
+
+
+def judges_lengths(browser, check):
+    """A key has to be as long as it is, and so has a signature, also the longest."""
+    public, message, signature = EXAMPLE
+    put("cut.pub", public.read_bytes()[:-1])
+    put("longer.pub", public.read_bytes() + b"\0")
+    for name in ("cut.pub", "longer.pub"):
+        verdict, outcome = browser.verdict_on(name, message, signature)
+        check(f"{name} is invalid, and no key", verdict == "invalid" and "no HSS public key" in outcome)
+    key, _, text = signed(LONGEST, [0] * len(LONGEST), message.read_bytes())
+    put("longest.pub", key)
+    put("longest.sig", text)
+    put("longer.sig", text + b"\0")
+    is_valid = browser.verdict_on("longest.pub", message, "longest.sig")[0] == "valid"
+    check("the longest signature is valid", is_valid and len(text) == MOST_BYTES)
+    check("and not with a byte more", browser.verdict_on("longest.pub", message, "longer.sig")[0] == "invalid")
 
 
 def judges(browser, check, picture):
     """The verdicts on the example, on a key of two levels, on a long message, and on what differs
     from them in one place."""
-    public, message, signature = (EXAMPLES / name for name in ("release.pub", "firmware.bin", "firmware.sig"))
+    public, message, signature = EXAMPLE
     verdict, outcome = browser.verdict_on(public, message, signature)
     levels, size, length = int.from_bytes(public.read_bytes()[:4], "big"), message.stat().st_size, signature.stat().st_size
     parts = [f"The key has {levels} level", f"Message: firmware.bin, {size} bytes", f"Signature: {length} bytes", "Time: "]
@@ -50,15 +117,12 @@ def judges(browser, check, picture):
     check("a joined signature", browser.verdict_on("joined.pub", message, "joined.sig")[0] == "valid")
     put("empty", b"")
     check("an empty message is invalid", browser.verdict_on(public, "empty", signature)[0] == "invalid")
-    large = bytes(range(256)) * (1 << 18)
-    put("large.pub", public_of(LEVELS))
-    put("large.bin", large)
-    put("large.sig", signature_of(LEVELS, 0, large))
-    check("a message of 64 MiB is valid", browser.verdict_on("large.pub", "large.bin", "large.sig")[0] == "valid")
-    with open("large.bin", "r+b") as file:
+    large = made("large", bytes(range(256)) * (1 << 18))
+    check("a message of 64 MiB is valid", browser.verdict_on(*large)[0] == "valid")
+    with open(large[1], "r+b") as file:
         file.seek(1 << 25)
         file.write(b"changed")
-    check("a change in its midst is seen", browser.verdict_on("large.pub", "large.bin", "large.sig")[0] == "invalid")
+    check("a change in its midst is seen", browser.verdict_on(*large)[0] == "invalid")
 
 
 def takes_files(browser, check):
@@ -89,13 +153,65 @@ def says_why_not(browser, check):
     """Where there is no verdict the page says why, and it is for all, and sends nothing."""
     browser.value("crypto.subtle.digest = async () => { throw new Error('no digest'); }; 0")
     check("where hashing fails there is no verdict", browser.verdict() == ("no verdict", "Reason: no digest."))
-    browser.value("Object.defineProperty(File.prototype, 'size', { get: () => 2 ** 31 }); 0")
+    browser.value(IS_LONG)
     verdict, outcome = browser.verdict()
     check("nor on a message of more than 2 GB", verdict == "no verdict" and "longer than 2 GB" in outcome)
     check("the page sends nothing", browser.value("fetch('https://example.org/').then(() => false, () => true)"))
     check("each field has a name for a screen reader", browser.value(FIELDS))
     is_live = "document.getElementById('verdict').closest('[role=status][aria-live=polite]') !== null"
     check("the verdict is announced to a screen reader", browser.value(is_live))
+
+
+def judges_what_changes(browser, check):
+    """A file that changes while it is read is not valid, also where what is missing are zeros."""
+    zeros = made("zeros", b"ends in zeros" + bytes(8))
+    check("a message that ends in zeros is valid", browser.verdict_on(*zeros)[0] == "valid")
+    browser.value(GIVES % "this.slice(0, this.size - 8)")
+    wanted = "no verdict", "Reason: the message changed while it was read."
+    check("on one that lost them there is no verdict", browser.verdict_on(*zeros) == wanted)
+    browser.value(GIVES % "new Blob([this, new Uint8Array(1)])")
+    check("nor on one that grew", browser.verdict_on(*zeros)[0] == "no verdict")
+    for at, kind in ((0, "key"), (2, "signature")):
+        files = list(EXAMPLE)
+        contents = files[at].read_bytes() + b"\0"
+        put(f"longer {kind}", contents)
+        files[at] = f"longer {kind}"
+        browser.value(SHRINKS % len(contents))
+        wanted = "no verdict", f"Reason: longer {kind} changed while it was read."
+        check(f"nor by a {kind} that shrank to its length", browser.verdict_on(*files) == wanted)
+
+
+def judges_what_is_cut(browser, check):
+    """A message whose second half, of zeros, is cut off the file while the first one is read."""
+    half = 1 << 25
+    files = made("half", bytes(range(256)) * (half // 256) + bytes(half))
+    check("a message with zeros in its second half is valid", browser.verdict_on(*files)[0] == "valid")
+    browser.value(WAIT_FOR_PIECE)
+    browser.press()
+    browser.wait_for("window.go !== undefined")
+    os.truncate(files[1], half)
+    browser.value("window.go(); 0")
+    browser.wait_for(IS_SHOWN)
+    check("there is no verdict where that is cut off while it is read", browser.shown() == "no verdict")
+
+
+def resists_markup(browser, check, page):
+    """No name of a file is markup, and no script runs but the page's own, also not in a copy of the page that
+    has others in its markup."""
+    public, message, signature = EXAMPLE
+    check("the page has a verifier", not browser.value(IS_EMPTY))
+    put(MARKUP, message.read_bytes())
+    verdict, outcome = browser.verdict_on(public, MARKUP, signature)
+    is_text = f"Message: {MARKUP}, " in outcome and browser.value("document.querySelectorAll('#outcome *').length") == 0
+    check("the name of a file is shown as text", verdict == "valid" and is_text)
+    check("no text becomes markup", browser.value(IS_REFUSED))
+    put("marked.html", pathlib.Path(page).read_text(encoding="utf-8").replace("<body>", f"<body>{SCRIPTS}").encode())
+    browser.open("marked.html")
+    browser.value(PRESSED)
+    is_valid = browser.verdict_on(public, message, signature)[0] == "valid"
+    check("no script runs but the page's own", is_valid and browser.value("window.ran") is None)
+    browser.open(EXAMPLES / "web/index.html")
+    check("one that is not built says that it has none", browser.value(IS_EMPTY))
 
 
 # (The arguments name files from where the tests are run.)
@@ -116,5 +232,11 @@ def the_page(counter):
 
     with opened(program, page) as browser:
         judges(browser, check, picture)
+        judges_lengths(browser, check)
         takes_files(browser, check)
         says_why_not(browser, check)
+        browser.open(page)
+        judges_what_changes(browser, check)
+        browser.open(page)
+        judges_what_is_cut(browser, check)
+        resists_markup(browser, check, page)

@@ -1,5 +1,5 @@
-"""Tries wrong bodies: crates/NAME/wrong-bodies/*.edit, which `rt ci` leaves out, of the crates that
-the arguments name, or of all that have some. With --must-fail before them it tries the edits of
+"""Tries wrong bodies: those of crates/NAME/wrong-bodies.edits, which `rt ci` leaves out, of the crates
+that the arguments name, or of all that have some. With --must-fail before them it tries the edits of
 must-fail/ in their place. With --changed alone, as the merge check has it, it tries those of the
 crates of which something changed.
 
@@ -27,8 +27,9 @@ import tempfile
 import threading
 
 from tests.harness import ARGUMENTS, TOP, Wrong, checks
-from tests.merge_check.crates import PARTS, check_words, crates_listed, libraries_of, read, take_left
+from tests.merge_check.crates import PARTS, check_words, crates_listed, libraries_of, take_left
 from tests.merge_check.edit_sums import note, noted, sum_of
+from tests.merge_check.edits import MUST_FAIL, WRONG_BODIES, edits_of
 
 # The commands that run, and whether no more are to be started.
 RUNNING, STOPPED = set(), threading.Event()
@@ -44,80 +45,6 @@ MOST_EDITS = 8
 # What a check has proved of a crate.
 KEPT = "out/incremental"
 PROCESSORS = len(os.sched_getaffinity(0))
-
-
-class Edit:
-    """A piece of code that takes the place of another one, in one or more files of a crate."""
-
-    def __init__(self, file):
-        self.name, self.crate = file.stem, file.parent.parent
-        self.pairs, path, old = [], None, None
-        for line in file.read_text(encoding="utf-8").split("\n"):
-            word, _, rest = line.partition(": ")
-            if word == "file":
-                path = rest.strip()
-            elif word == "old":
-                old = rest
-            elif word.removesuffix(":") == "new":
-                self.pairs.append((path, old, rest))
-        places = [edited_function(self.crate, path, old) for path, old, _ in self.pairs]
-        self.functions = {function for function, _ in places}
-        # What changes a contract, a type or a constant may leave other functions unproved.
-        self.is_of_bodies = all(is_in_body for _, is_in_body in places)
-
-    def changes(self, name):
-        """Whether it changes a function, by the name that a check has for it, or may change it."""
-        return None in self.functions or any(names(self.crate.name, it).fullmatch(name) for it in self.functions)
-
-    def apply(self, texts):
-        """The files' contents with this edit in them, or None where what it replaces is not there
-        exactly once."""
-        texts = dict(texts)
-        for path, old, new in self.pairs:
-            text = texts.get(path) or read(self.crate / path)
-            if text.count(old) != 1:
-                return None
-            texts[path] = text.replace(old, new)
-        return texts
-
-
-def edited_function(crate, path, old):
-    """The file, the type with its trait, and the name of the function in which a piece of code is,
-    or None where it is in none, and whether it is in the body."""
-    text = read(crate / path)
-    at = text.find(old)
-    if not path.endswith(".rt") or at < 0:
-        return None, False
-    # (the piece may begin with the function's first line)
-    heads = list(re.finditer(r"(?m)^( *)(?:pub(?:\([^)]*\))? )?(?:const |unsafe |extern \"C\" )*fn (\w+)", text[: at + len(old)]))
-    if not heads:
-        return None, False
-    (margin, name), start = heads[-1].groups(), heads[-1].start()
-    before = text[start:at]
-    if re.search(rf"(?m)^{margin}\}}$", before):
-        return None, False
-    blocks = re.findall(r"(?m)^impl\b(?:<.*?>)? ?([^{]*)\{", text[:at]) if margin else []
-    # Where there is a contract, the body begins on a line of its own.
-    is_in_body = re.search(rf"(?m)^{margin}\{{$|\A.*\{{$", before) is not None
-    return (path, words_of(blocks[-1]) if blocks else "", name), is_in_body
-
-
-def words_of(head):
-    """The type of an `impl`, followed by the trait where it has one, as a check names it."""
-    head = re.sub(r"(?s)\bwhere\b.*|'\w+|\w+::", "", head)
-    # A trait's arguments are in its name, a type's are not.
-    trait, _, block = head.partition(" for ") if " for " in head else ("", "", head)
-    return "".join([*re.findall(r"\w+", block)[:1], *re.findall(r"\w+", trait)])
-
-
-def names(crate, function):
-    """What a check calls a function, and the closures in it: by its module, or, where it is a
-    method, by its type, wherever that is."""
-    path, block, name = function
-    modules = "".join(f"{it}::" for it in pathlib.PurePath(path).with_suffix("").parts[1:] if it not in ("lib", "main"))
-    place = r"(?:\w+::)*" if block else modules
-    own = "::".join([it for it in (block, name) if it])
-    return re.compile(rf"{crate}::{place}(?:{own}|fn::{own}::\S+)")
 
 
 class Said:
@@ -310,14 +237,14 @@ def end_of(said):
     return "\n".join(said.split("\n")[-40:])
 
 
-def chosen_crates(folder, names):
-    """The crates of these names, or all that have such a folder, in the order of `crates.txt`."""
+def chosen_crates(place, names):
+    """The crates of these names, or all that have edits in this place, in the order of `crates.txt`."""
     listed = list(crates_listed()[0])
     names = sorted(names, key=listed.index) if set(names) <= set(listed) else names
-    names = names or [it for it in listed if (TOP / "crates" / it / folder).is_dir()]
+    names = names or [it for it in listed if (TOP / "crates" / it / place).exists()]
     for name in names:
-        if not (TOP / "crates" / name / folder).is_dir():
-            raise Wrong(f"crates/{name} has no {folder}; the arguments are --changed, or [--must-fail] [CRATE ..]")
+        if not (TOP / "crates" / name / place).exists():
+            raise Wrong(f"crates/{name} has no {place}; the arguments are --changed, or [--must-fail] [CRATE ..]")
     return [TOP / "crates" / name for name in names]
 
 
@@ -347,26 +274,27 @@ def stop():
 
 
 def asked():
-    """Whether the edits of changed crates alone are to be tried, the folder of the edits, and the
-    crates that are named."""
+    """Whether the edits of changed crates alone are to be tried, where the edits are, and the crates
+    that are named."""
     words = list(ARGUMENTS)
     if words == ["--changed"]:
-        return True, "wrong-bodies", []
-    folder = "must-fail" if words[:1] == ["--must-fail"] else "wrong-bodies"
-    return False, folder, words[1:] if folder == "must-fail" else words
+        return True, WRONG_BODIES, []
+    if words[:1] == ["--must-fail"]:
+        return False, MUST_FAIL, words[1:]
+    return False, WRONG_BODIES, words
 
 
 @checks
 def wrong_bodies(counter):
     """Each edit counts as one that passed where it is refused."""
-    of_changed, folder, names = asked()
-    crates = chosen_crates(folder, names)
-    sums = {it.name: sum_of(it.name) for it in crates} if folder == "wrong-bodies" else {}
+    of_changed, place, names = asked()
+    crates = chosen_crates(place, names)
+    sums = {it.name: sum_of(it.name) for it in crates} if place == WRONG_BODIES else {}
     if of_changed:
         before, every = noted(), len(crates)
         crates = [it for it in crates if before.get(it.name) != sums[it.name]]
         print(f"{every - len(crates)} of {every} crates are as they were when their wrong bodies were refused", flush=True)
-    edits = [Edit(file) for crate in crates for file in sorted((crate / folder).glob("*.edit"))]
+    edits = [edit for crate in crates for edit in edits_of(crate, place)]
     try:
         make_libraries(crates)
         prove_all(crates)

@@ -1,6 +1,7 @@
 /* Runs functions of the portable file: functions < CASES, which are those of functions.mjs, and
  * prints the same. machine.c is the file with a stack of all addresses below its end, so that
  * numbers mean the same addresses here and there; calls.h has call_function. */
+#define _DEFAULT_SOURCE
 #include "machine.c"
 #include "sha256.h"
 #include "calls.h"
@@ -8,8 +9,12 @@
 #include <stdio.h>
 #include <stdlib.h>
 #include <string.h>
+#include <sys/time.h>
 
 enum { MOST_ARGUMENTS = 8 };
+
+/* A call that has taken a processor for so many seconds has no end, and ends the program. */
+static const struct itimerval most = {{0, 0}, {30, 0}};
 
 static struct machine machine;
 
@@ -81,6 +86,7 @@ static void run(char *line) {
     }
     put_bytes(line);
     machine.trapped = false;
+    if (setitimer(ITIMER_VIRTUAL, &most, 0) != 0) fail("no timer");
     uint64_t answer = call_function(&machine, function, arguments);
     if (machine.trapped) puts("trap");
     else print_state(answer, low);

@@ -1,7 +1,8 @@
 /* Loaded before a program, stands in for the machine that it runs on.
 
    Where PROCESSORS is set the program finds so many processors, and no quota of them. Where TICK is
-   set its monotonic clock goes on by so many nanoseconds at each look, and not between two looks.
+   set its monotonic clock goes on by so many nanoseconds at each look, and not between two looks; where
+   CLOCK is set, too, it stands at so many seconds, or, where these are negative, can't be read.
    Where MANY is set, too, it goes on at the second look alone, and after the first look so many
    threads wait at their first one until all of these have come, or the program ends with 99 after a
    minute. The file LOOKS gets a line for each look, with the nanoseconds of the processors that the
@@ -107,6 +108,12 @@ int clock_gettime(clockid_t clock, struct timespec *time) {
     }
     long look = __sync_fetch_and_add(&looks, 1);
     say_taken();
+    if (getenv("CLOCK")) {
+        time->tv_sec = number("CLOCK");
+        time->tv_nsec = 0;
+        errno = EINVAL;
+        return number("CLOCK") < 0 ? -1 : 0;
+    }
     if (look && number("MANY")) {
         meet();
         look = 1;

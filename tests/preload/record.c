@@ -88,14 +88,39 @@ int fsync(int file) {
     return end(answer);
 }
 
+int ftruncate(int file, off_t length) {
+    int (*next)(int, off_t) = dlsym(RTLD_NEXT, "ftruncate");
+    begin();
+    int answer = next(file, length);
+    if (!answer) {
+        record_call("cut", file, length, "", 0);
+    }
+    return end(answer);
+}
+
+/* Writes a call with two paths down. */
+static void record_both(const char *name, const char *first, const char *second) {
+    char both[2 * 4096];
+    size_t length = snprintf(both, sizeof both, "%s%c%s", first, 0, second);
+    record_call(name, 0, 0, both, length);
+}
+
 int rename(const char *from, const char *to) {
     int (*next)(const char *, const char *) = dlsym(RTLD_NEXT, "rename");
     begin();
     int answer = next(from, to);
     if (!answer) {
-        char both[2 * 4096];
-        size_t length = snprintf(both, sizeof both, "%s%c%s", from, 0, to);
-        record_call("rename", 0, 0, both, length);
+        record_both("rename", from, to);
+    }
+    return end(answer);
+}
+
+int symlink(const char *target, const char *path) {
+    int (*next)(const char *, const char *) = dlsym(RTLD_NEXT, "symlink");
+    begin();
+    int answer = next(target, path);
+    if (!answer) {
+        record_both("link", target, path);
     }
     return end(answer);
 }
@@ -131,7 +156,6 @@ UNKNOWN(pwrite64)
 UNKNOWN(pwritev)
 UNKNOWN(truncate)
 UNKNOWN(truncate64)
-UNKNOWN(ftruncate)
 UNKNOWN(ftruncate64)
 UNKNOWN(fallocate)
 UNKNOWN(posix_fallocate)
@@ -142,7 +166,6 @@ UNKNOWN(sync)
 UNKNOWN(syncfs)
 UNKNOWN(link)
 UNKNOWN(linkat)
-UNKNOWN(symlink)
 UNKNOWN(symlinkat)
 UNKNOWN(renameat)
 UNKNOWN(renameat2)

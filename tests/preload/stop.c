@@ -1,7 +1,8 @@
 /* Loaded before a program, counts its operations on files and streams, from 1 on. That of the
    number STOP kills it: before it is done, or, where it writes, once half of the bytes are written.
    Those of the numbers from FAIL to LAST fail, with the error FAULT, or EIO: undone, but for half of
-   a write, or, where LATE is set, done all the same. Where there is an operation of the number STOP
+   a write, or, where LATE is set, done all the same. Where BELOW is set, those alone fail whose path
+   has it, or has LINK, as of a medium that was pulled out. Where there is an operation of the number STOP
    or FAIL, the file MET is made. What a program looks up of its machine in /sys is not there, and no
    operation, since only some machines have it: so the program sees no quota of processors.
 
@@ -62,6 +63,12 @@ static void say_step(const char *what, const char *path) {
     }
 }
 
+/* Whether an operation on this path may fail. */
+static int may_fail(const char *path) {
+    const char *below = getenv("BELOW"), *link = getenv("LINK");
+    return !below || strstr(path, below) || (link && strstr(path, link));
+}
+
 /* Counts an operation, of which so much may be done before the program is killed, and says whether
    it fails. */
 static int fails(const char *what, const char *path, void (*half)(const void *), const void *given) {
@@ -77,7 +84,7 @@ static int fails(const char *what, const char *path, void (*half)(const void *),
         }
         kill(getpid(), SIGKILL);
     }
-    return number("FAIL") > 0 && number("FAIL") <= at && at <= number("LAST");
+    return number("FAIL") > 0 && number("FAIL") <= at && at <= number("LAST") && may_fail(path);
 }
 
 /* What an operation answers that was done, or fails all the same. */
@@ -179,6 +186,18 @@ char *realpath(const char *restrict path, char *restrict found) {
     int is_failed = fails("resolve", path, NULL, NULL);
     char *answer = is_failed && !number("LATE") ? NULL : next(path, found);
     return is_failed ? (reported(1, 0), NULL) : answer;
+}
+
+int ftruncate(int file, off_t length) {
+    int (*next)(int, off_t) = dlsym(RTLD_NEXT, "ftruncate");
+    ANSWER("cut", name_of(file), next(file, length));
+}
+
+int symlink(const char *target, const char *path) {
+    int (*next)(const char *, const char *) = dlsym(RTLD_NEXT, "symlink");
+    char both[2 * 4096];
+    snprintf(both, sizeof both, "%s to %s", path, target);
+    ANSWER("link", both, next(target, path));
 }
 
 int rename(const char *from, const char *to) {

@@ -1,7 +1,7 @@
 -- How a run ends, by the command and by the fault.
 use Rattle.std.proofs.Common.{append-nil, sym, [], ◌∷◌, ◌++◌, Option, Some, ◌⊎◌, ◌≡◌, ◌∙◌, ◌<◌, ◌≤◌, ℕ, List, Result}
 use Rattle.std.proofs.Common.{Ok, Err, ap, subst}
-use Rattle.std.proofs.Common.{Bool, true, false, inl, inr, length, ⊎_elim, arith}
+use Rattle.std.proofs.Common.{None, zero, suc, Bool, true, false, inl, inr, length, ⊎_elim, arith}
 use Rattle.std.specs.Prelude.{OnErr, OnOk, if◌then◌else◌}
 use Rattle.std.specs.Io.KnownBytes.{Appends}
 use Rattle.lms_blocks.specs.Writing.{AppendsFront}
@@ -12,8 +12,15 @@ use Rattle.lms_commands.specs.Faults.{of_seed, status_number, status_of}
 use Rattle.lms_key_commands.specs.Keygen.{AreNoLevels, IsNoKey}
 use Rattle.lms_key_commands.specs.KeygenLogs.{LogsUnmade}
 use Rattle.lms_commands.specs.Logs.{BurnsUnsigned, IsLockRefused, IsReadRefused, IsWriteRefused, KeyState}
-use Rattle.lms_commands.specs.Logs.{LeavesUnsigned, LogsUnopened, LogsUnsigned, WorldCalls}
+use Rattle.lms_commands.specs.Logs.{LeavesUnsigned, LogsUnopened, WorldCalls}
 use Rattle.lms_key_commands.specs.PublicLogs.{FailsToPublishOf, LogsUnread}
+use Rattle.lms_key_commands.specs.ResumeLogs.{IsNotResumed, LogsUnburnt, LogsUnresumed}
+use Rattle.lms_key_commands.specs.WitnessLogs.{FailsToMake, LogsUnwitnessed, LogsWitnessThere, RefusesWitness}
+use Rattle.lms_key_commands.specs.WitnessLogs.{of_making}
+use Rattle.lms_commands.specs.Watching.{BurnsWatched, FailsToNote, IsRefusedBy, LogsUnseen, LogsUnwatched}
+use Rattle.lms_commands.specs.Watching.{SparesWatched, UnsignedWatched, Watch}
+use Rattle.lms_world.specs.declared.fault.WorldFault.{WorldFault}
+use Rattle.lms_world.specs.declared.fault.WorldFault.TheVariants as world
 use Rattle.lms_signature_commands.specs.Serving.{AnyState, Due, FailsGroup, FailsToServe, Group, LeavesGroup}
 use Rattle.lms_signature_commands.specs.Serving.{LogsGroups}
 use Rattle.lms_signature_commands.specs.Serving.{NoState, Only, is_bad_state, unopened_fault}
@@ -31,7 +38,7 @@ use Rattle.lms_cli.specs.Runs.{AsksToSignLines, AsksToRead, AsksToServe, SignsJo
 use Rattle.lms_world.specs.Held.{Follows}
 use Rattle.lms_cli.specs.declared.command.types.Command.{Command}
 use Rattle.lms_cli.specs.declared.command.types.Command.TheVariants.{Batch, Info, Join, JoinPublic, Keygen, Public}
-use Rattle.lms_cli.specs.declared.command.types.Command.TheVariants.{Serve, Sign, Verify}
+use Rattle.lms_cli.specs.declared.command.types.Command.TheVariants.{Resume, Serve, Sign, Verify, Witness}
 use Rattle.lms_texts.specs.declared.fault.SeedFault.{SeedFault}
 use Rattle.lms_texts.specs.declared.fault.SeedFault.TheVariants as no_seed
 use Rattle.lms_commands.specs.declared.fault.Fault.{Fault}
@@ -40,6 +47,9 @@ use Rattle.lms_commands.specs.declared.fault.Fault.TheVariants.{BadWorkers, BadP
 use Rattle.lms_commands.specs.declared.fault.Fault.TheVariants.{BadJob, TooManyJobs, StateExists, StateInUse, ReadState}
 use Rattle.lms_commands.specs.declared.fault.Fault.TheVariants.{BadState, WriteState, WriteStateBurnt, Exhausted}
 use Rattle.lms_commands.specs.declared.fault.Fault.TheVariants.{OutOfMemory, OutOfMemoryBurnt, ReadInput, WriteOutput}
+use Rattle.lms_commands.specs.declared.fault.Fault.TheVariants.{BadCounter, BadWitness, OtherCounter, ReadWitness}
+use Rattle.lms_commands.specs.declared.fault.Fault.TheVariants.{StateNotOlder, StateOlder, WitnessExists, WriteWitness}
+use Rattle.lms_commands.specs.declared.fault.Fault.TheVariants.{WriteWitnessBurnt}
 use Rattle.lms_commands.specs.declared.status.Status.{Status}
 use Rattle.lms_commands.specs.declared.status.Status.TheVariants.{Done, Negative}
 use Rattle.lms_signature_commands.specs.declared.verdict.Verdict.{Verdict}
@@ -70,6 +80,27 @@ at_unopened fault old new (inl (is, _)) = same_high fault OutOfMemory (omega ari
 at_unopened fault old new (inr (_, inl (is, _))) = same_high fault OutOfMemory (omega arith) is
 at_unopened fault old new (inr (_, inr (inl (is, _, _)))) = same_high fault ReadState (omega arith) is
 at_unopened fault old new (inr (_, inr (inr (bad, _, is, _, _, _)))) = same_high fault (BadState bad) (omega arith) is
+
+at_unseen : (fault : Fault) (old new : WorldCalls) → LogsUnseen fault old new → IsHigh fault
+at_unseen fault old new (inl (is, _)) = same_high fault ReadWitness (omega arith) is
+at_unseen fault old new (inr (is, _)) = same_high fault OutOfMemory (omega arith) is
+
+at_refused : (fault : Fault) (watch : Watch) (id : List ℕ) (index : ℕ) → IsRefusedBy watch id index fault
+    → IsHigh fault
+at_refused fault None id index never = absurd never
+at_refused fault (Some text) id index (inl (is, _)) = same_high fault BadWitness (omega arith) is
+at_refused fault (Some text) id index (inr (is, _)) = same_high fault StateOlder (omega arith) is
+
+at_unwatched : (fault : Fault) (old new : WorldCalls) → LogsUnwatched fault old new → IsHigh fault
+at_unwatched fault old new (inl is) = at_unseen fault old new is
+at_unwatched fault old new (inr (inl (text, inl (is, _)))) = same_high fault WriteWitness (omega arith) is
+at_unwatched fault old new (inr (inl (text, inr (is, _)))) = same_high fault OutOfMemory (omega arith) is
+at_unwatched fault old new (inr (inr (inl (watch, is)))) = at_unopened fault _ new is
+at_unwatched fault old new (inr (inr (inr (watch, state, refused, _)))) = at_refused fault watch _ _ refused
+
+making_high : (cause : WorldFault) → IsHigh (of_making cause)
+making_high world.Device = omega arith
+making_high world.OutOfMemory = omega arith
 
 module _ (fault : Fault) where
   at : (other : Fault) → IsHigh other → fault ≡ other → IsHigh fault
@@ -112,9 +143,53 @@ module _ (fault : Fault) where
   at_burnt n state old new (inl (is, _)) = at (WriteStateBurnt _ _) (omega arith) is
   at_burnt n state old new (inr (is, _)) = at (OutOfMemoryBurnt _) (omega arith) is
 
-  at_unsigned : (n : ℕ) (state : KeyState) (old new : WorldCalls) → LogsUnsigned n fault state old new → IsHigh fault
-  at_unsigned n state old new (inl is) = at_spared n state old new is
-  at_unsigned n state old new (inr is) = at_burnt n state old new is
+  at_unsaid : (n : ℕ) (watch : Watch) (id : List ℕ) (start : ℕ) (old new : WorldCalls)
+      → FailsToNote n watch id start fault old new → IsHigh fault
+  at_unsaid zero watch id start old new never = absurd never
+  at_unsaid (suc n) None id start old new never = absurd never
+  at_unsaid (suc n) (Some text) id start old new (is, _) = at (WriteWitnessBurnt _ _) (omega arith) is
+
+  spares : (n : ℕ) (state : KeyState) (old new : WorldCalls) → SparesWatched n fault state old new → IsHigh fault
+  spares n state old new (by, is) = at_spared n state _ new is
+
+  burns : (n : ℕ) (state : KeyState) (old new : WorldCalls) → BurnsWatched n fault state old new → IsHigh fault
+  burns n state old new (by, inl is) = at_burnt n state _ new is
+  burns n state old new (by, inr (last, _, is)) = at_unsaid n by.watch _ _ last new is
+
+  at_unsigned : (n : ℕ) (state : KeyState) (old new : WorldCalls) → UnsignedWatched n fault state old new
+      → IsHigh fault
+  at_unsigned n state old new (inl is) = spares n state old new is
+  at_unsigned n state old new (inr is) = burns n state old new is
+
+  -- why a witness is not made
+  at_there : (old new : WorldCalls) → LogsWitnessThere fault old new → IsHigh fault
+  at_there old new (inl is) = at_unseen fault old new is
+  at_there old new (inr (is, _)) = at WitnessExists (omega arith) is
+
+  at_not_made : (place : List ℕ) (read : KeyState) (old new : WorldCalls) → FailsToMake place read fault old new
+      → IsHigh fault
+  at_not_made place read old new (inl (is, _)) = at OutOfMemory (omega arith) is
+  at_not_made place read old new (inr (cause, is, _)) = at (of_making cause) (making_high cause) is
+
+  at_no_witness : (counter : ℕ) (place : List ℕ) (read : KeyState) (old new : WorldCalls)
+      → RefusesWitness counter place read fault old new → IsHigh fault
+  at_no_witness counter place read old new (inl (is, _, _)) = at (OtherCounter _) (omega arith) is
+  at_no_witness counter place read old new (inr (_, is)) = at_not_made place read old new is
+
+  -- why a state is not resumed
+  at_not_resumed : (end : ℕ) (text : List ℕ) (state : KeyState) → IsNotResumed end text state fault → IsHigh fault
+  at_not_resumed end text state (inl (is, _)) = at BadWitness (omega arith) is
+  at_not_resumed end text state (inr (counter, _, inl (is, _))) = at StateNotOlder (omega arith) is
+  at_not_resumed end text state (inr (counter, _, inr (inl (is, _, _)))) = at (OtherCounter _) (omega arith) is
+  at_not_resumed end text state (inr (counter, _, inr (inr (is, _, _, _)))) = at (Exhausted _) (omega arith) is
+
+  at_unburnt : (end : ℕ) (old new : WorldCalls) → LogsUnburnt end fault old new → IsHigh fault
+  at_unburnt end old new (inl (inl is)) = at_unseen fault old new is
+  at_unburnt end old new (inl (inr (inl (is, _)))) = at ReadWitness (omega arith) is
+  at_unburnt end old new (inl (inr (inr (text, inl is)))) = at_unopened fault _ new is
+  at_unburnt end old new (inl (inr (inr (text, inr (read, is, _))))) = at_not_resumed end text read is
+  at_unburnt end old new (inr (read, _, (_, _, _, _, inl (is, _)))) = at OutOfMemory (omega arith) is
+  at_unburnt end old new (inr (read, _, (_, _, _, _, inr (_, is, _, _, _)))) = at (WriteStateBurnt _ _) (omega arith) is
 
   at_two : (first second : List ℕ) (old new : WorldCalls) → FailsToReadTwo first second fault old new → IsHigh fault
   at_two first second old new (refused, _) = at_read refused
@@ -159,17 +234,19 @@ module _ (fault : Fault) where
     unmade : (key : KeyOfCode) (public : List ℕ) (old new : WorldCalls)
         → LogsUnmade key public before printed fault old new → FailsOnce ⊥ before printed
     unmade key public old new (inl (same, inl (is, _))) = inl (inl same, at StateExists (omega arith) is)
-    unmade key public old new (inl (same, inr (inl (inl (is, _))))) = inl (inl same, at OutOfMemory (omega arith) is)
-    unmade key public old new (inl (same, inr (inl (inr (_, _, inl (is, _), _))))) =
+    unmade key public old new (inl (same, inr (inl there))) = inl (inl same, at_there _ new there)
+    unmade key public old new (inl (same, inr (inr (inl (inl (is, _)))))) =
         inl (inl same, at OutOfMemory (omega arith) is)
-    unmade key public old new (inl (same, inr (inl (inr (_, _, inr (is, _), _))))) =
+    unmade key public old new (inl (same, inr (inr (inl (inr (_, _, inl (is, _), _)))))) =
+        inl (inl same, at OutOfMemory (omega arith) is)
+    unmade key public old new (inl (same, inr (inr (inl (inr (_, _, inr (is, _), _)))))) =
         inl (inl same, at WriteState (omega arith) is)
-    unmade key public old new (inl (same, inr (inr (refused, _)))) = inl (inl same, at_write refused)
+    unmade key public old new (inl (same, inr (inr (inr (refused, _))))) = inl (inl same, at_write refused)
     unmade key public old new (inr (is, _, _)) = inr (inl is)
 
     unanswered : (input rest : Option (List ℕ)) (old new : WorldCalls)
         → LogsUnanswered input rest before printed fault old new → FailsOnce (Unit {0}) before printed
-    unanswered input rest old new (inl (inl (is, _), same)) = inl (inl same, at_unopened fault old new is)
+    unanswered input rest old new (inl (inl (is, _), same)) = inl (inl same, at_unwatched fault old new is)
     unanswered input rest old new (inl (inr (state, inl (unread, _)), same)) = inl (inl same, at_unread input unread)
     unanswered input rest old new (inl (inr (state, inr (jobs, _, _, is)), same)) =
         inl (inl same, at_unsigned (length jobs) state old new is)
@@ -178,7 +255,7 @@ module _ (fault : Fault) where
 
     undelivered : (random message out : List ℕ) (old new : WorldCalls)
         → LogsUndelivered random message out before printed fault old new → FailsOnce ⊥ before printed
-    undelivered random message out old new (inl (_, inl is, same)) = inl (inl same, at_unopened fault _ new is)
+    undelivered random message out old new (inl (_, inl is, same)) = inl (inl same, at_unwatched fault _ new is)
     undelivered random message out old new (inl (_, inr (state, is), same)) =
         inl (inl same, at_unsigned 1 state _ new is)
     undelivered random message out old new (inr (is, _)) = inr (inl is)
@@ -192,23 +269,36 @@ module _ (fault : Fault) where
     unpublished key public old new (inl (refused, _, same)) = inl (inl same, at_write refused)
     unpublished key public old new (inr (is, _, _)) = inr (inl is)
 
+    unwitnessed : (counter : ℕ) (place : List ℕ) (old new : WorldCalls)
+        → LogsUnwitnessed counter place before printed fault old new → FailsOnce ⊥ before printed
+    unwitnessed counter place old new (inl (same, inl there)) = inl (inl same, at_there old new there)
+    unwitnessed counter place old new (inl (same, inr (inl is))) = inl (inl same, at_unopened fault _ new is)
+    unwitnessed counter place old new (inl (same, inr (inr (read, last, _, is)))) =
+        inl (inl same, at_no_witness counter place read last new is)
+    unwitnessed counter place old new (inr (is, _)) = inr (inl is)
+
+    unresumed : (end : ℕ) (old new : WorldCalls) → LogsUnresumed end before printed fault old new
+        → FailsOnce ⊥ before printed
+    unresumed end old new (inl (is, same)) = inl (inl same, at_unburnt end old new is)
+    unresumed end old new (inr (is, _)) = inr (inl is)
+
   -- what one group fails by
   left_fails : (text : List ℕ) (state : KeyState) (old new : WorldCalls) → LeavesGroup text fault state old new
       → IsHigh fault
   left_fails text state old new (inl (unread, _)) = at_unread (Some text) unread
-  left_fails text state old new (inr (_, jobs, _, _, is)) = at_spared (length jobs) state old new is
+  left_fails text state old new (inr (_, jobs, _, _, is)) = spares (length jobs) state old new is
 
   used_fails : (text : List ℕ) (state : KeyState) (before printed : List ℕ) (old new : WorldCalls)
       → UsesGroup text fault state before printed old new → IsUnserved
   used_fails text state before printed old new (inl (_, jobs, _, _, is, _)) =
-      inl (at_burnt (length jobs) state old new is)
+      inl (burns (length jobs) state old new is)
   used_fails text state before printed old new (inr (_, _, _, _, inl (is, _, _))) = inr (inr (ap status_of is))
   used_fails text state before printed old new (inr (_, _, _, _, inr (is, _))) = inr (inl is)
 
   group_fails : (text : List ℕ) (due next : Due) (before printed : List ℕ) (old new : WorldCalls)
       → FailsGroup text fault due next before printed old new → IsUnserved
   group_fails text due next before printed old new (inl (_, inl (inl (cause, never, is), _))) =
-      inl (at (unopened_fault due cause) (unopened_high due cause (at_unopened cause old new never)) is)
+      inl (at (unopened_fault due cause) (unopened_high due cause (at_unwatched cause old new never)) is)
   group_fails text due next before printed old new (inl (_, inl (inr (is, _), _))) = inl (at ReadState (omega arith) is)
   group_fails text due next before printed old new (inl (_, inr (state, _, is, _))) =
       inl (left_fails text state old new is)
@@ -303,6 +393,13 @@ module _ (fault : Fault) where
     failed (Serve _ _) input rest old new (inr (inl (refused, _, same, _, _))) = inl (inl same, at_lock refused)
     failed (Serve _ _) input rest old new (inr (inr (last, is, _, _))) =
         served (unserved input rest before printed _ last is)
+    failed (Witness _ _ _) input rest old new (inl (is, _, _, same)) = inl (inl same, at BadCounter (omega arith) is)
+    failed (Witness _ _ _) input rest old new (inr (_, _, inl (refused, _, same))) = inl (inl same, at_lock refused)
+    failed (Witness _ _ _) input rest old new (inr (number, _, inr (last, is, _))) =
+        unwitnessed before printed number _ _ last is
+    failed (Resume _ _) input rest old new (inl (is, _, _, same)) = inl (inl same, at BadCounter (omega arith) is)
+    failed (Resume _ _) input rest old new (inr (_, _, inl (refused, _, same))) = inl (inl same, at_lock refused)
+    failed (Resume _ _) input rest old new (inr (end, _, inr (last, is, _))) = unresumed before printed end _ last is
     failed (Verify _ _ _) input rest old new (inl (refused, same, _)) = inl (inl same, at_read refused)
     failed (Verify _ _ _) input rest old new (inr (is, _)) = inr (inl is)
     failed (Join _ _ _ _ _) input rest old new (same, is) = inl (inl same, at_not_joined _ old new is)
@@ -312,7 +409,7 @@ module _ (fault : Fault) where
         → LogsRefused words fault input rest before printed old new
         → Fails (AsksToServe words) (AsksToSignLines words) before printed
     refused words input rest old new (inl (_, inl (is, same))) = inl (inl same, at OutOfMemory (omega arith) is)
-    refused words input rest old new (inl (_, inr (_, is))) = inr (inl is)
+    refused words input rest old new (inl (_, inr (_, is, _))) = inr (inl is)
     refused words input rest old new (inr (command, taken, is)) =
         ⊎_elim (λ high. inl (⊎_elim inl (λ serves. inr (command, taken, serves)) high.0, high.1))
         (λ more. inr (⊎_elim inl (λ part. inr ((command, taken, part.0), part.1)) more))
@@ -349,6 +446,8 @@ obeyed_low (Public _ _) end input rest before printed old new high is = too_low 
 obeyed_low (Sign _ _ _ _) end input rest before printed old new high is = too_low end _ is.0 (omega arith) high
 obeyed_low (Batch _ _) end input rest before printed old new high is = too_low end _ is.0 (omega arith) high
 obeyed_low (Serve _ _) end input rest before printed old new high is = too_low end _ is.0 (omega arith) high
+obeyed_low (Witness _ _ _) end input rest before printed old new high is = too_low end _ is.0 (omega arith) high
+obeyed_low (Resume _ _) end input rest before printed old new high is = too_low end _ is.0 (omega arith) high
 obeyed_low (Verify _ _ _) end input rest before printed old new high is = too_low end _ is.1 (answers is.0) high
 obeyed_low (Join _ _ _ _ _) end input rest before printed old new high is = too_low end _ is.0 (omega arith) high
 obeyed_low (JoinPublic _ _ _) end input rest before printed old new high is = too_low end _ is.0 (omega arith) high
@@ -358,10 +457,10 @@ silent_at : (words : List Text) (end : Status) (input rest : Option (List ℕ)) 
     (errors_before errors_after : Option (List ℕ)) (old new : WorldCalls)
     → LogsRun words end input rest before printed errors_before errors_after old new
     → 2 ≤ status_number end → status_number end < 6 → (printed ≡ before) ⊎ AsksToServe words
-silent_at words end input rest before printed eb ea old new (inl (inl (_, inl (_, is, _)))) high below =
+silent_at words end input rest before printed eb ea old new (inl (inl (_, inl (_, is, _)), _)) high below =
     absurd (too_low end Done is (omega arith) high)
-silent_at words end input rest before printed eb ea old new (inl (inl (_, inr (_, _, same)))) high below = inl same
-silent_at words end input rest before printed eb ea old new (inl (inr (command, _, is))) high below =
+silent_at words end input rest before printed eb ea old new (inl (inl (_, inr (_, _, same)), _)) high below = inl same
+silent_at words end input rest before printed eb ea old new (inl (inr (command, _, is), _)) high below =
     absurd (obeyed_low command end input rest before printed old new high is)
 silent_at words end input rest before printed eb ea old new (inr (fault, end_is, _, is)) high below =
     by_fails (refused fault before printed words input rest old new is)

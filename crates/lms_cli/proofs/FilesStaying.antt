@@ -15,18 +15,20 @@ use Rattle.lms_signature_commands.proofs.BatchInMemory.{fails_to_sign_jobs_in_me
 use Rattle.lms_key_commands.proofs.KeygenInMemory.{fails_to_make_key_in_memory}
 use Rattle.lms_key_commands.proofs.PublicInMemory.{fails_to_publish_key_in_memory}
 use Rattle.lms_key_commands.proofs.InfoInMemory.{fails_to_describe_in_memory}
+use Rattle.lms_key_commands.proofs.ResumeInMemory.{fails_to_resume_in_memory}
+use Rattle.lms_key_commands.proofs.WitnessInMemory.{fails_to_make_witness_in_memory}
 use Rattle.lms_signature_commands.proofs.VerifyInMemory.{fails_to_judge_in_memory}
 use Rattle.lms_signature_commands.proofs.SignInMemory.{fails_to_sign_in_memory}
 use Rattle.lms_commands.proofs.Telling.{nothing_done}
 use Rattle.lms_join_commands.proofs.JoinInMemory.{fails_to_join_in_memory, fails_to_join_keys_in_memory}
 use Rattle.lms_signature_commands.proofs.ServingCalls.{serve_failed_keeps, stays_unwritten}
-use Rattle.lms_cli.proofs.ChangesInMemory.{batch_unwritten, files_of, info_stays}
+use Rattle.lms_cli.proofs.ChangesInMemory.{batch_unwritten, files_of, info_stays, state_alone, witness_at_most}
 use Rattle.lms_cli.proofs.Ending.{obeyed_low}
 use Rattle.lms_cli.specs.RunLogs.{LogsFailed}
 use Rattle.lms_cli.specs.RunsInMemory.{FilesStay}
 use Rattle.lms_cli.specs.declared.command.types.Command.{Command}
 use Rattle.lms_cli.specs.declared.command.types.Command.TheVariants.{Batch, Info, Join, JoinPublic, Keygen, Public}
-use Rattle.lms_cli.specs.declared.command.types.Command.TheVariants.{Serve, Sign, Verify}
+use Rattle.lms_cli.specs.declared.command.types.Command.TheVariants.{Resume, Serve, Sign, Verify, Witness}
 
 not_output : (fault : Fault) → status_number (status_of fault) < 6 → fault ≢ WriteOutput
 not_output fault low is =
@@ -47,7 +49,7 @@ module _ (fault : Fault) (other : fault ≢ WriteOutput) (old new : Held) where
       → new.files ≡ old.files
   public_files public before printed (inl (why, same)) = files_of same
   public_files public before printed (inr (free, inl (why, stays))) = stays.files
-  public_files public before printed (inr (free, inr (inl (refused, finds)))) = finds.stays.files
+  public_files public before printed (inr (free, inr (inl (refused, why, finds)))) = finds.stays.files
   public_files public before printed (inr (free, inr (inr (at, published)))) = absurd (other at)
 
   failed : (command : Command) (input rest : Option (List ℕ)) (before printed : List ℕ) (earlier now : WorldCalls)
@@ -71,6 +73,12 @@ module _ (fault : Fault) (other : fault ≢ WriteOutput) (old new : Held) where
   failed (Serve state workers) input rest before printed earlier now follows is =
       (stays_unwritten old new earlier now
       (serve_failed_keeps _ _ input rest before printed fault earlier now is) follows).0
+  failed (Witness state on counter) input rest before printed earlier now follows is =
+      let why = fails_to_make_witness_in_memory _ _ _ before printed fault old new earlier now is follows in
+      (witness_at_most fault old new _ before printed why).0
+  failed (Resume state counter) input rest before printed earlier now follows is =
+      let why = fails_to_resume_in_memory _ _ before printed fault old new earlier now is follows in
+      (state_alone fault old new _ before printed why).0
   failed (Verify public message signature) input rest before printed earlier now follows is =
       files_of (fails_to_judge_in_memory _ _ _ before printed fault old new earlier now is follows).1
   failed (Join public endorsement signer signature out) input rest before printed earlier now follows (quiet, is) =
@@ -79,10 +87,11 @@ module _ (fault : Fault) (other : fault ≢ WriteOutput) (old new : Held) where
       files_of (fails_to_join_keys_in_memory _ _ _ fault old new earlier now is follows).1
 
 pub files_stay_at : FilesStay
-files_stay_at words end input rest before printed eb ea old new earlier now (inl (inl (none, is))) follows high low =
+files_stay_at words end input rest before printed eb ea old new earlier now
+    (inl (inl (none, is), told)) follows high low =
     files_of (nothing_done old new none follows)
 files_stay_at words end input rest before printed eb ea old new earlier now
-    (inl (inr (command, reads, is))) follows high low =
+    (inl (inr (command, reads, is), told)) follows high low =
     absurd (obeyed_low command end input rest before printed earlier now high is)
 files_stay_at words end input rest before printed eb ea old new earlier now
     (inr (fault, end_is, line, inl (none, is))) follows high low = files_of (nothing_done old new none follows)

@@ -127,14 +127,6 @@ module _ (words : List Text) (m : ArgMatches) (none : fault_of lms_app words ≡
     reads_command command made =
         (rows_of found, options_read ∙ ap (λ (n : Text). Some (n, rows_of found)) (sym made.0), made.1)
 
--- the text of an option is before those of the options after it
-pub has_text : (found : Found) (option text : Text) {others texts : List (Option Text)}
-    → first_value found option ≡ Some text → others ≡ texts
-    → (first_of option (rows_of found) ∷ others) ≡ (Some text ∷ texts)
-has_text found option text {others} is rest =
-    ap (λ (o : Option Text). o ∷ others) (sym (first_value-rows found option) ∙ is)
-    ∙ ap (λ (t : List (Option Text)). Some text ∷ t) rest
-
 -- no subcommand is called by a name that is none of theirs
 pub none_called : (among : List Subcommand) (name : Text) → AllByRecursion (λ s. name ≡ s.name → ⊥) among
     → subcommand_called_in among name ≡ None

@@ -1,12 +1,13 @@
 -- Each run of the program is a turn at its state, and no index leaves two.
-use Rattle.std.proofs.Common.{◌⊎◌, ◌≡◌, ◌∙◌, ℕ, List, [], ◌∷◌, ◌++◌, length, None, Option, String, Global, ap, refl}
+use Rattle.std.proofs.Common.{◌⊎◌, ◌≡◌, ◌∙◌, ℕ, List, [], ◌∷◌, length, None, Option, String, Global, ap, refl}
 use Rattle.std.proofs.Common.{inl, inr}
 use Rattle.std.proofs.Common.{⊎_elim, append-nil, subst, sym}
 use Rattle.std.specs.Prelude.{AllPairs}
-use Rattle.lms_commands.specs.Histories.{AreLinked, AreWholeTurns, Continues, IsCarriedAlong, IsEarlier, IsTurn}
-use Rattle.lms_commands.specs.Histories.{StateTexts, TakenTurn}
-use Rattle.lms_commands.specs.Histories.{Makes, Signature, StoresNothing, Turn, Uses, all_left, turn_signatures}
-use Rattle.lms_commands.specs.Histories.{whole_calls}
+use Rattle.lms_commands.specs.Expectations.{Expected, IsCarriedAlong}
+use Rattle.lms_commands.specs.Histories.{AreLinked, AreWholeTurns, Continues, IsEarlier, IsTurn}
+use Rattle.lms_commands.specs.Histories.{TakenTurn}
+use Rattle.lms_commands.specs.Histories.{Makes, Resumes, Signature, StoresNothing, Turn, Uses, Watches, all_left}
+use Rattle.lms_commands.specs.Histories.{turn_signatures, whole_calls}
 use Rattle.lms_commands.specs.Histories.{written_in}
 use Rattle.lms_signature_commands.specs.ServingTurns.{PrintsInTurns}
 use Rattle.lms_commands.specs.Logs.{WorldCalls}
@@ -15,6 +16,8 @@ use Rattle.lms_commands.specs.declared.status.Status.{Status}
 use Rattle.lms_commands.proofs.CutTurns.{cut_turns, history_then}
 use Rattle.lms_commands.proofs.Histories.{IsHistory, no_index_twice}
 use Rattle.lms_key_commands.proofs.PublicTurns.{public_failed_turn, public_turn}
+use Rattle.lms_key_commands.proofs.ResumeTurns.{resume_failed_turn, resume_turn}
+use Rattle.lms_key_commands.proofs.WitnessTurns.{witness_failed_turn, witness_turn}
 use Rattle.lms_signature_commands.proofs.ServingTurns.{fails_in_turns, serves_in_turns}
 use Rattle.lms_signature_commands.proofs.SigningTurns.{jobs_failed_turn, jobs_turn, sign_failed_turn, sign_turn}
 use Rattle.lms_commands.proofs.Turns.{idle_as}
@@ -27,7 +30,7 @@ use Rattle.lms_cli.specs.Runs.{IsServe}
 use Rattle.lms_cli.specs.RunTurns.{HandsOut, ProgramRun, TakesTurns, TakeTurns, all_turns}
 use Rattle.lms_cli.specs.declared.command.types.Command.{Command}
 use Rattle.lms_cli.specs.declared.command.types.Command.TheVariants.{Batch, Info, Join, JoinPublic, Keygen, Public}
-use Rattle.lms_cli.specs.declared.command.types.Command.TheVariants.{Serve, Sign, Verify}
+use Rattle.lms_cli.specs.declared.command.types.Command.TheVariants.{Resume, Serve, Sign, Verify, Witness}
 
 -- a command in its turns
 record Obeyed (command : Command) (whole : WorldCalls) (before printed : List ℕ) : Type 0 where
@@ -42,7 +45,9 @@ record Obeyed (command : Command) (whole : WorldCalls) (before printed : List �
 starts : (turn : Turn) → Continues turn None
 starts StoresNothing = tt
 starts (Makes key) = tt
-starts (Uses count state text) = tt
+starts (Uses count state text watch) = tt
+starts (Watches state text) = tt
+starts (Resumes count state watch) = tt
 
 -- in one
 once : (command : Command) (whole : WorldCalls) (before printed : List ℕ) → (turn : Turn)
@@ -83,6 +88,12 @@ obeyed (Batch state workers) end input rest before printed whole (done, is) =
     once (Batch state workers) whole before printed (jobs_turn _ _ input rest before printed whole is)
 obeyed (Serve state workers) end input rest before printed whole (done, is) =
     served state workers whole before printed (serves_in_turns _ _ input rest before printed whole is)
+obeyed (Witness state on counter) end input rest before printed whole (done, is) =
+    let turn = witness_turn _ _ _ before printed whole is in
+    once (Witness state on counter) whole before printed (turn.0, [], turn.1, (refl, turn.2))
+obeyed (Resume state counter) end input rest before printed whole (done, is) =
+    let turn = resume_turn _ _ before printed whole is in
+    once (Resume state counter) whole before printed (turn.0, [], turn.1, (refl, turn.2))
 obeyed (Verify public message signature) end input rest before printed whole (verdict, at, is) =
     let turn = verify_turn _ _ _ verdict before printed whole is in
     once (Verify public message signature) whole before printed (turn.0, [], turn.1, (refl, turn.2))
@@ -115,6 +126,12 @@ failed (Batch state workers) fault input rest before printed whole is =
     once (Batch state workers) whole before printed (jobs_failed_turn _ _ input rest before printed fault whole is)
 failed (Serve state workers) fault input rest before printed whole is =
     served state workers whole before printed (fails_in_turns _ _ input rest before printed fault whole is)
+failed (Witness state on counter) fault input rest before printed whole is =
+    let turn = witness_failed_turn _ _ _ before printed fault whole is in
+    once (Witness state on counter) whole before printed (turn.0, [], turn.1, (refl, turn.2))
+failed (Resume state counter) fault input rest before printed whole is =
+    let turn = resume_failed_turn _ _ before printed fault whole is in
+    once (Resume state counter) whole before printed (turn.0, [], turn.1, (refl, turn.2))
 failed (Verify public message signature) fault input rest before printed whole is =
     let turn = verify_failed_turn _ _ _ before printed fault whole is in
     once (Verify public message signature) whole before printed (turn.0, [], turn.1, (refl, turn.2))
@@ -168,9 +185,9 @@ turns_of_run run = by_log run.logged
 
     by_log : LogsRun run.words run.end run.input run.rest run.before run.printed run.errors_before run.errors_after []
         run.whole → TurnsOf run
-    by_log (inl (inl (same, inl help))) = idle same (inl help.0)
-    by_log (inl (inl (same, inr mistaken))) = idle same (inr mistaken.2)
-    by_log (inl (inr (command, taken, is))) =
+    by_log (inl (inl (same, inl help), told)) = idle same (inl help.0)
+    by_log (inl (inl (same, inr mistaken), told)) = idle same (inr mistaken.2)
+    by_log (inl (inr (command, taken, is), told)) =
         obeys command taken (obeyed command run.end run.input run.rest run.before run.printed run.whole is)
     by_log (inr (fault, at, grown, inl (same, inl refused))) = idle same (inr refused.1)
     by_log (inr (fault, at, grown, inl (same, inr help))) = idle same (inl help.0)
@@ -182,7 +199,7 @@ turns_of [] = ([], tt)
 turns_of (run ∷ runs) = let one = turns_of_run run in let all = turns_of runs in (one.0 ∷ all.0, (one.1, all.1))
 
 histories : (runs : List ProgramRun) (turns : List (List TakenTurn)) → TakeTurns runs turns
-    → (known : Option (List ℕ)) (held : StateTexts) → IsCarriedAlong held (all_turns turns)
+    → (known : Option (List ℕ)) (held : Expected) → IsCarriedAlong held (all_turns turns)
     → IsHistory known held (all_turns turns)
 histories [] [] take known held carried = tt
 histories [] (turns ∷ more) take known held carried = absurd take
@@ -193,7 +210,7 @@ histories (run ∷ runs) (turns ∷ more) (one, all) known held carried =
 
 pub no_index_leaves : (runs : List ProgramRun)
     → (turns : List (List TakenTurn)) × TakeTurns runs turns
-    × ((held : StateTexts) → IsCarriedAlong held (all_turns turns) → AllPairs IsEarlier (all_left (all_turns turns)))
+    × ((held : Expected) → IsCarriedAlong held (all_turns turns) → AllPairs IsEarlier (all_left (all_turns turns)))
 no_index_leaves runs =
     let all = turns_of runs in (
       all.0,

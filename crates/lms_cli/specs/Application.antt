@@ -1,8 +1,10 @@
 -- The program's command line, as clap's definitions see it.
-use Rattle.std.specs.Prelude.{true, List, [], ◌∷◌, Option, Some, codes, find, fold, map}
+use Rattle.std.specs.Prelude.{true, List, [], Option, Some, codes, find, fold, map}
+use Rattle.std.specs.Borrow.{Bor}
 use Rattle.std.specs.Str.{bytes_eq}
 use Rattle.clap.specs.Simple.{new_shape}
 use Rattle.clap.specs.Words.{App, Rule, Shape, Text, new_app, new_rule, with_subcommand}
+use Rattle.lms_cli.specs.declared.command.table.TheConstants.{SUBCOMMANDS}
 
 -- a subcommand: its name, and the names of its options, each of which has to be given
 pub record Subcommand : Type 0 where
@@ -20,64 +22,26 @@ shape_for s = record (new_shape s.name) { rules = map required_option s.options 
 abbrev pub app_for : Subcommand → App
 app_for s = record { top = shape_for s; subs = [] }
 
--- `keygen --levels LEVELS --seed HEX --id HEX --state FILE --public FILE`
-abbrev pub keygen : Subcommand
-keygen = record {
-  name = codes "keygen";
-  options = codes "levels" ∷ codes "seed" ∷ codes "id"
-      ∷ codes "state" ∷ codes "public" ∷ [];
-}
+-- the subcommand in a row
+abbrev pub TableRow : Type 0
+TableRow = Bor Text × Bor Text × Bor Text × Bor (List (Bor Text × Bor Text × Bor Text))
 
--- `info --state FILE`
-abbrev pub info : Subcommand
-info = record { name = codes "info"; options = codes "state" ∷ [] }
+abbrev pub subcommand_in : TableRow → Subcommand
+subcommand_in row = record { name = row.0.now; options = map (λ option. option.0.now) row.3.now }
 
--- `public --state FILE --public FILE`
-abbrev pub public_key : Subcommand
-public_key = record { name = codes "public"; options = codes "state" ∷ codes "public" ∷ [] }
+-- a program with one more subcommand for each row
+abbrev pub with_rows : App → List TableRow → App
+with_rows = fold (λ a row. with_subcommand a (shape_for (subcommand_in row)))
 
--- `sign --state FILE --random HEX --message FILE --out FILE`
-abbrev pub sign : Subcommand
-sign = record {
-  name = codes "sign";
-  options = codes "state" ∷ codes "random" ∷ codes "message"
-      ∷ codes "out" ∷ [];
-}
+-- the subcommand in a row of the program's table, whose references have no address
+abbrev pub TextIn : Type 0
+TextIn = record { now : Text }
 
--- `batch --state FILE --workers N`
-abbrev pub batch : Subcommand
-batch = record { name = codes "batch"; options = codes "state" ∷ codes "workers" ∷ [] }
-
--- `serve --state FILE --workers N`
-abbrev pub serve : Subcommand
-serve = record { name = codes "serve"; options = codes "state" ∷ codes "workers" ∷ [] }
-
--- `verify --public FILE --message FILE --signature FILE`
-abbrev pub verify : Subcommand
-verify = record {
-  name = codes "verify";
-  options = codes "public" ∷ codes "message"
-      ∷ codes "signature" ∷ [];
-}
-
--- `join --public FILE --endorsement FILE --signer FILE --signature FILE --out FILE`
-abbrev pub join : Subcommand
-join = record {
-  name = codes "join";
-  options = codes "public" ∷ codes "endorsement" ∷ codes "signer"
-      ∷ codes "signature" ∷ codes "out" ∷ [];
-}
-
--- `join-public --public FILE --signer FILE --out FILE`
-abbrev pub join_public : Subcommand
-join_public = record {
-  name = codes "join-public";
-  options = codes "public" ∷ codes "signer"
-      ∷ codes "out" ∷ [];
-}
+abbrev pub described : TextIn × TextIn × TextIn × record { now : List (TextIn × TextIn × TextIn) } → Subcommand
+described row = record { name = row.0.now; options = map (λ option. option.0.now) row.3.now }
 
 abbrev pub subcommands : List Subcommand
-subcommands = keygen ∷ info ∷ public_key ∷ sign ∷ batch ∷ serve ∷ verify ∷ join ∷ join_public ∷ []
+subcommands = map described SUBCOMMANDS
 
 -- the subcommand of this name, of some
 abbrev pub subcommand_called_in : List Subcommand → Text → Option Subcommand

@@ -5,11 +5,12 @@ use Rattle.clap.specs.Words.{Kinds, IsAmong, Row, Text, first_of, first_value, s
 use Rattle.clap.specs.declared.error.kind.ErrorKind.{ErrorKind}
 use Rattle.clap.specs.declared.error.kind.ErrorKind.TheVariants as kind
 use Rattle.clap.specs.declared.parser.matches.Found.{Found}
-use Rattle.lms_cli.specs.Application.{Subcommand, batch, info, join, join_public, keygen, lms_app, public_key, sign}
-use Rattle.lms_cli.specs.Application.{serve, verify}
+use Rattle.lms_cli.specs.Application.{Subcommand, described, lms_app}
+use Rattle.lms_cli.specs.declared.command.table.TheConstants.{BATCH, INFO, JOIN, JOIN_PUBLIC, KEYGEN, PUBLIC, RESUME}
+use Rattle.lms_cli.specs.declared.command.table.TheConstants.{SERVE, SIGN, VERIFY, WITNESS}
 use Rattle.lms_cli.specs.declared.command.types.Command.{Command}
 use Rattle.lms_cli.specs.declared.command.types.Command.TheVariants.{Batch, Info, Join, JoinPublic, Keygen, Public}
-use Rattle.lms_cli.specs.declared.command.types.Command.TheVariants.{Serve, Sign, Verify}
+use Rattle.lms_cli.specs.declared.command.types.Command.TheVariants.{Resume, Serve, Sign, Verify, Witness}
 use Rattle.lms_cli.specs.declared.fault.CommandFault.{CommandFault}
 use Rattle.lms_cli.specs.declared.fault.CommandFault.TheVariants.{Help, Usage, OutOfMemory}
 
@@ -23,40 +24,29 @@ abbrev pub AsksFor : Subcommand → List Text → List Text → Type 0
 AsksFor s texts words =
     (rows : List Row) × (subcommand_of lms_app words ≡ Some (s.name, rows)) × HasTexts s rows texts
 
--- a command's subcommand
-abbrev pub subcommand_for : Command → Subcommand
-subcommand_for (Keygen levels seed id state public) = keygen
-subcommand_for (Info state) = info
-subcommand_for (Public state public) = public_key
-subcommand_for (Sign state random message out) = sign
-subcommand_for (Batch state workers) = batch
-subcommand_for (Serve state workers) = serve
-subcommand_for (Verify public message signature) = verify
-subcommand_for (Join public endorsement signer signature out) = join
-subcommand_for (JoinPublic public signer out) = join_public
-
--- the texts of its options, in turn
-abbrev pub option_texts : Command → List Text
-option_texts (Keygen levels seed id state public) =
-    string_bytes levels ∷ string_bytes seed ∷ string_bytes id ∷ string_bytes state
-    ∷ string_bytes public ∷ []
-option_texts (Info state) = string_bytes state ∷ []
-option_texts (Public state public) = string_bytes state ∷ string_bytes public ∷ []
-option_texts (Sign state random message out) =
-    string_bytes state ∷ string_bytes random ∷ string_bytes message ∷ string_bytes out ∷ []
-option_texts (Batch state workers) = string_bytes state ∷ string_bytes workers ∷ []
-option_texts (Serve state workers) = string_bytes state ∷ string_bytes workers ∷ []
-option_texts (Verify public message signature) =
-    string_bytes public ∷ string_bytes message ∷ string_bytes signature ∷ []
-option_texts (Join public endorsement signer signature out) =
-    string_bytes public ∷ string_bytes endorsement ∷ string_bytes signer ∷ string_bytes signature
-    ∷ string_bytes out ∷ []
-option_texts (JoinPublic public signer out) =
-    string_bytes public ∷ string_bytes signer ∷ string_bytes out ∷ []
+-- a command's subcommand, and the texts of its options in turn
+abbrev pub spelling : Command → Subcommand × List Text
+spelling (Keygen levels seed id state public) =
+    (described KEYGEN, map string_bytes (levels ∷ seed ∷ id ∷ state ∷ public ∷ []))
+spelling (Info state) = (described INFO, map string_bytes (state ∷ []))
+spelling (Public state public) = (described PUBLIC, map string_bytes (state ∷ public ∷ []))
+spelling (Sign state random message out) =
+    (described SIGN, map string_bytes (state ∷ random ∷ message ∷ out ∷ []))
+spelling (Batch state workers) = (described BATCH, map string_bytes (state ∷ workers ∷ []))
+spelling (Serve state workers) = (described SERVE, map string_bytes (state ∷ workers ∷ []))
+spelling (Witness state on counter) =
+    (described WITNESS, map string_bytes (state ∷ on ∷ counter ∷ []))
+spelling (Resume state counter) = (described RESUME, map string_bytes (state ∷ counter ∷ []))
+spelling (Verify public message signature) =
+    (described VERIFY, map string_bytes (public ∷ message ∷ signature ∷ []))
+spelling (Join public endorsement signer signature out) =
+    (described JOIN, map string_bytes (public ∷ endorsement ∷ signer ∷ signature ∷ out ∷ []))
+spelling (JoinPublic public signer out) =
+    (described JOIN_PUBLIC, map string_bytes (public ∷ signer ∷ out ∷ []))
 
 -- the arguments are those of this command, as clap's definition has it
 abbrev pub AreWordsOf : List Text → Command → Type 0
-AreWordsOf words command = AsksFor (subcommand_for command) (option_texts command) words
+AreWordsOf words command = AsksFor (spelling command).0 (spelling command).1 words
 
 -- clap's definition takes the arguments, as this command
 abbrev pub AreTakenAs : List Text → Command → Type 0
@@ -65,8 +55,8 @@ AreTakenAs words command = AreWordsOf words command × (fault_of lms_app words �
 -- the command is the subcommand of this name with these options
 abbrev pub IsMadeOf : Text → List Row → Command → Type 0
 IsMadeOf name rows command =
-    ((subcommand_for command).name ≡ name)
-    × HasTexts (subcommand_for command) rows (option_texts command)
+    ((spelling command).0.name ≡ name)
+    × HasTexts (spelling command).0 rows (spelling command).1
 
 -- each option of the subcommand has a value
 abbrev pub HasOptions : Option Subcommand → Found → Type 0

@@ -1,10 +1,12 @@
 -- Runs of the program at one state, one after another, each perhaps cut off by a crash.
 use Rattle.std.specs.Prelude.{◌≡◌, ◌⊎◌, ℕ, List, [], ◌∷◌, ◌++◌, length, AllPairs, None, Option, string_bytes}
 use Rattle.clap.specs.Words.{Text}
+use Rattle.lms_commands.specs.Expectations.{Expected, IsCarriedAlong}
 use Rattle.lms_commands.specs.Histories.{AreDelivered, ArePrinted, HandsNothing}
-use Rattle.lms_key_commands.specs.KeyTurns.{HandsKey, HandsState}
+use Rattle.lms_key_commands.specs.KeyTurns.{HandsKey, HandsState, HandsWitness}
+use Rattle.lms_key_commands.specs.ResumeTurns.{HandsResumed}
 use Rattle.lms_signature_commands.specs.VerifyTurns.{HandsVerdict}
-use Rattle.lms_commands.specs.Histories.{AreCutTurns, AreLinked, IsBeginning, IsCarriedAlong, IsEarlier, StateTexts}
+use Rattle.lms_commands.specs.Histories.{AreCutTurns, AreLinked, IsBeginning, IsEarlier}
 use Rattle.lms_commands.specs.Histories.{TakenTurn}
 use Rattle.lms_commands.specs.Histories.{Signature, all_left, begun_calls, turn_signatures, whole_calls}
 use Rattle.lms_commands.specs.Logs.{WorldCalls}
@@ -15,7 +17,7 @@ use Rattle.lms_cli.specs.RunLogs.{LogsRun}
 use Rattle.lms_cli.specs.Runs.{AsksToServe}
 use Rattle.lms_cli.specs.declared.command.types.Command.{Command}
 use Rattle.lms_cli.specs.declared.command.types.Command.TheVariants.{Batch, Info, Join, JoinPublic, Keygen, Public}
-use Rattle.lms_cli.specs.declared.command.types.Command.TheVariants.{Serve, Sign, Verify}
+use Rattle.lms_cli.specs.declared.command.types.Command.TheVariants.{Resume, Serve, Sign, Verify, Witness}
 
 -- what a command hands out: `sign` writes signatures to its file, `batch` and `serve` print their lines, and
 -- no other has any of its own; what `join` writes repeats one that was read
@@ -32,6 +34,10 @@ HandsOut (Batch state workers) signatures whole before printed =
     ArePrinted signatures whole before printed
 HandsOut (Serve state workers) signatures whole before printed =
     ArePrinted signatures whole before printed
+HandsOut (Witness state on counter) signatures whole before printed =
+    (signatures ≡ []) × HandsWitness whole before printed
+HandsOut (Resume state counter) signatures whole before printed =
+    (signatures ≡ []) × HandsResumed whole before printed
 HandsOut (Verify public message signature) signatures whole before printed =
     (signatures ≡ []) × HandsVerdict whole before printed
 HandsOut (Join public endorsement signer signature out) signatures whole before printed =
@@ -86,11 +92,11 @@ abbrev pub all_turns : List (List TakenTurn) → List TakenTurn
 all_turns [] = []
 all_turns (turns ∷ more) = turns ++ all_turns more
 
--- runs of the program take turns at their state; and where these carry along what is stored, no two
--- signatures that left are by one index of a key. Of what is stored it is asked that a run which uses
--- indices finds something that may be stored, the first time that it does
+-- runs of the program take turns at their state and its witness; and where these carry along what
+-- both should be, no two signatures that left are by one index of a key. Of what a run finds the
+-- first time that it uses indices, state and witness, one at least must be what it should be
 abbrev pub NoIndexLeavesTwice : Type 0
 NoIndexLeavesTwice = (runs : List ProgramRun)
     → (turns : List (List TakenTurn)) × TakeTurns runs turns
-    × ((held : StateTexts) → IsCarriedAlong held (all_turns turns)
+    × ((held : Expected) → IsCarriedAlong held (all_turns turns)
     → AllPairs IsEarlier (all_left (all_turns turns)))

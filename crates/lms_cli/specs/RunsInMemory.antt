@@ -9,8 +9,8 @@ use Rattle.lms_world.specs.Held.{Follows, Held, answer_in}
 use Rattle.lms_cli.specs.Commands.{AreTakenAs}
 use Rattle.lms_cli.specs.RunLogs.{LogsRun}
 use Rattle.lms_cli.specs.declared.command.types.Command.{Command}
-use Rattle.lms_cli.specs.declared.command.types.Command.TheVariants.{Info, Join, JoinPublic, Keygen, Public, Sign}
-use Rattle.lms_cli.specs.declared.command.types.Command.TheVariants.{Verify}
+use Rattle.lms_cli.specs.declared.command.types.Command.TheVariants.{Batch, Info, Join, JoinPublic, Keygen, Public}
+use Rattle.lms_cli.specs.declared.command.types.Command.TheVariants.{Serve, Sign, Verify, Witness}
 
 -- of a world in memory, at statuses 2 to 5 no file is changed
 abbrev pub FilesStay : Type 0
@@ -38,6 +38,7 @@ WritesSome command = (name : Text) × Writes name command
 abbrev pub StoresState : Command → Type 0
 StoresState (Info state) = ⊥
 StoresState (Public state public) = ⊥
+StoresState (Witness state on counter) = ⊥
 StoresState (Verify public message signature) = ⊥
 StoresState (Join public endorsement signer signature out) = ⊥
 StoresState (JoinPublic public signer out) = ⊥
@@ -48,6 +49,14 @@ abbrev pub KeepsSome : Command → Type 0
 KeepsSome (Keygen levels seed id state public) = Unit {0}
 KeepsSome (Sign state random message out) = Unit {0}
 KeepsSome _ = ⊥
+
+-- it makes a witness, or replaces one
+abbrev pub WritesWitness : Command → Type 0
+WritesWitness (Sign state random message out) = Unit {0}
+WritesWitness (Batch state workers) = Unit {0}
+WritesWitness (Serve state workers) = Unit {0}
+WritesWitness (Witness state on counter) = Unit {0}
+WritesWitness _ = ⊥
 
 -- it locks a state
 abbrev pub LocksState : Command → Type 0
@@ -68,6 +77,7 @@ pub record ChangesAsked (words : List Text) (old new : Held) : Type 0 where
       → answer_in new.files name ≡ answer_in old.files name
   pub state : ¬ IsAsked StoresState words → new.state ≡ old.state
   pub nodes : ¬ IsAsked KeepsSome words → new.nodes ≡ old.nodes
+  pub witness : ¬ IsAsked WritesWitness words → new.witness ≡ old.witness
   pub in_use : new.in_use ≡ old.in_use
   pub only : ¬ IsAsked LocksState words → OnlyFiles old new
   pub all : ¬ IsAsked LocksState words → ¬ IsAsked WritesSome words → new ≡ old

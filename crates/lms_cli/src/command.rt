@@ -1,23 +1,22 @@
 //! The program's command line.
-ghost use Rattle.std.specs.Prelude.{◌≡◌, [], codes, IfOk, IfErr, IsSome, Some, MatchResult, map, true, false, string_bytes};
-ghost use Rattle.clap.specs.Words.{app_of, fault_of, first_value, found_of, kind_of, rows_of, rule_of, takes};
+ghost use Rattle.std.specs.Prelude.{◌≡◌, [], IfOk, IfErr, IsSome};
+ghost use Rattle.std.specs.Prelude.{Some, MatchResult, map, true, false, string_bytes};
+ghost use Rattle.clap.specs.Words.{app_of, fault_of, first_of, first_value, found_of, kind_of, rows_of, rule_of, takes};
 ghost use Rattle.clap.specs.declared.builder.command.Command.TheViews.{out-Command as fields_of};
-ghost use Rattle.lms_cli.specs.Application.{app_for, bare_app, batch, subcommand_called, info, join, join_public, keygen, lms_app, public_key, required_option, serve, sign, verify};
+ghost use Rattle.lms_cli.specs.Application.{app_for, bare_app, lms_app};
+ghost use Rattle.lms_cli.specs.Application.{required_option, subcommand_called, subcommand_in, with_rows};
 ghost use Rattle.lms_cli.specs.Commands.{AreWordsOf, FaultAt, FaultOf, HasOptions, IsMadeOf};
 
-mod help;
 pub mod laws;
+mod table;
 mod types;
 
-pub use crate::fault::CommandFault;
+pub use crate::fault::{ClapText, CommandFault};
 use clap::error::ErrorKind;
 use clap::{Arg, ArgMatches, Error};
-use help::{
-    BATCH_NOTE, INFO_NOTE, JOIN_NOTE, JOIN_PUBLIC_NOTE, KEYGEN_NOTE, LEVELS_HELP, PUBLIC_NOTE,
-    SERVE_NOTE, SIGN_NOTE, VERIFY_NOTE,
-};
 use std::alloc::{AllocError, Global};
 use std::convert::AsStr;
+use table::{OptionRow, Row, SUBCOMMANDS};
 pub use types::Command;
 
 /// The command that the command-line arguments ask for; the first of them is the program's name.
@@ -45,16 +44,21 @@ pub fn command<S: AsStr>(alloc: Global, words: &[S]) -> Result<Command, CommandF
 fn application<'a>(alloc: Global) -> Result<clap::Command<'a>, AllocError>
     ensures { IfOk result (λ c. app_of c ≡ lms_app) }
 {
-    bare_application(alloc)
-        .subcommand(keygen_application(alloc)?)?
-        .subcommand(info_application(alloc)?)?
-        .subcommand(public_application(alloc)?)?
-        .subcommand(sign_application(alloc)?)?
-        .subcommand(batch_application(alloc)?)?
-        .subcommand(serve_application(alloc)?)?
-        .subcommand(verify_application(alloc)?)?
-        .subcommand(join_application(alloc)?)?
-        .subcommand(join_public_application(alloc)?)
+    with_subcommands(alloc, bare_application(alloc), &SUBCOMMANDS)
+}
+
+/// The program with one more subcommand for each row.
+fn with_subcommands<'a>(
+    alloc: Global,
+    mut program: clap::Command<'a>,
+    rows: &[Row],
+) -> Result<clap::Command<'a>, AllocError>
+    ensures { IfOk result (λ c. app_of c ≡ with_rows (app_of program.entry) rows.now) }
+{
+    for row in rows {
+        program = program.subcommand(subcommand(alloc, row)?)?;
+    }
+    Ok(program)
 }
 
 /// The program without its subcommands.
@@ -66,174 +70,27 @@ fn bare_application<'a>(alloc: Global) -> clap::Command<'a>
         .subcommand_required(true)
 }
 
-fn keygen_application<'a>(alloc: Global) -> Result<clap::Command<'a>, AllocError>
-    ensures app { IfOk result (λ c. app_of c ≡ app_for keygen) }
+/// The subcommand in this row of the table.
+fn subcommand<'a>(alloc: Global, row: &Row) -> Result<clap::Command<'a>, AllocError>
+    ensures app { IfOk result (λ c. app_of c ≡ app_for (subcommand_in row.now)) }
     ensures local { IfOk result (λ c. (fields_of c).has_globals ≡ false) }
 {
-    clap::Command::new(alloc, "keygen")
-        .about("Makes a key from a seed")
-        .after_help(KEYGEN_NOTE)
-        .arg(option(alloc, "levels", "LEVELS", LEVELS_HELP))?
-        .arg(option(
-            alloc,
-            "seed",
-            "HEX",
-            "64 hexadecimal digits, random and secret, or - to read them from standard input",
-        ))?
-        .arg(option(alloc, "id", "HEX", "32 hexadecimal digits, random"))?
-        .arg(option(alloc, "state", "FILE", "The key's state, a new file"))?
-        .arg(option(
-            alloc,
-            "public",
-            "FILE",
-            "Where the public key is written, 60 bytes, in place of any older file",
-        ))
+    let (name, about, note, options) = *row;
+    let mut command = clap::Command::new(alloc, name)
+        .about(about)
+        .after_help(note);
+    for option in options {
+        command = command.arg(required(alloc, option))?;
+    }
+    Ok(command)
 }
 
-fn info_application<'a>(alloc: Global) -> Result<clap::Command<'a>, AllocError>
-    ensures app { IfOk result (λ c. app_of c ≡ app_for info) }
-    ensures local { IfOk result (λ c. (fields_of c).has_globals ≡ false) }
-{
-    clap::Command::new(alloc, "info")
-        .about("Describes a key")
-        .after_help(INFO_NOTE)
-        .arg(option(alloc, "state", "FILE", "The key's state"))
-}
-
-fn public_application<'a>(alloc: Global) -> Result<clap::Command<'a>, AllocError>
-    ensures app { IfOk result (λ c. app_of c ≡ app_for public_key) }
-    ensures local { IfOk result (λ c. (fields_of c).has_globals ≡ false) }
-{
-    clap::Command::new(alloc, "public")
-        .about("Writes a key's public key")
-        .after_help(PUBLIC_NOTE)
-        .arg(option(alloc, "state", "FILE", "The key's state"))?
-        .arg(option(
-            alloc,
-            "public",
-            "FILE",
-            "Where the public key is written, 60 bytes, in place of any older file",
-        ))
-}
-
-fn sign_application<'a>(alloc: Global) -> Result<clap::Command<'a>, AllocError>
-    ensures app { IfOk result (λ c. app_of c ≡ app_for sign) }
-    ensures local { IfOk result (λ c. (fields_of c).has_globals ≡ false) }
-{
-    clap::Command::new(alloc, "sign")
-        .about("Signs a message")
-        .after_help(SIGN_NOTE)
-        .arg(option(alloc, "state", "FILE", "The key's state"))?
-        .arg(option(
-            alloc,
-            "random",
-            "HEX",
-            "64 hexadecimal digits, random, fresh for each signature",
-        ))?
-        .arg(option(alloc, "message", "FILE", "The message, any bytes"))?
-        .arg(option(
-            alloc,
-            "out",
-            "FILE",
-            "Where the signature is written, raw bytes, in place of any older file",
-        ))
-}
-
-fn batch_application<'a>(alloc: Global) -> Result<clap::Command<'a>, AllocError>
-    ensures app { IfOk result (λ c. app_of c ≡ app_for batch) }
-    ensures local { IfOk result (λ c. (fields_of c).has_globals ≡ false) }
-{
-    clap::Command::new(alloc, "batch")
-        .about("Signs the job lines of standard input")
-        .after_help(BATCH_NOTE)
-        .arg(option(alloc, "state", "FILE", "The key's state"))?
-        .arg(option(
-            alloc,
-            "workers",
-            "N",
-            "How many workers sign at once, 1 to 64",
-        ))
-}
-
-fn serve_application<'a>(alloc: Global) -> Result<clap::Command<'a>, AllocError>
-    ensures app { IfOk result (λ c. app_of c ≡ app_for serve) }
-    ensures local { IfOk result (λ c. (fields_of c).has_globals ≡ false) }
-{
-    clap::Command::new(alloc, "serve")
-        .about("Signs job lines of standard input as they come")
-        .after_help(SERVE_NOTE)
-        .arg(option(alloc, "state", "FILE", "The key's state"))?
-        .arg(option(
-            alloc,
-            "workers",
-            "N",
-            "How many workers sign at once, 1 to 64",
-        ))
-}
-
-fn verify_application<'a>(alloc: Global) -> Result<clap::Command<'a>, AllocError>
-    ensures app { IfOk result (λ c. app_of c ≡ app_for verify) }
-    ensures local { IfOk result (λ c. (fields_of c).has_globals ≡ false) }
-{
-    clap::Command::new(alloc, "verify")
-        .about("Prints whether a signature is valid")
-        .after_help(VERIFY_NOTE)
-        .arg(option(alloc, "public", "FILE", "The public key, 60 bytes"))?
-        .arg(option(alloc, "message", "FILE", "The message, any bytes"))?
-        .arg(option(alloc, "signature", "FILE", "The signature, raw bytes"))
-}
-
-fn join_application<'a>(alloc: Global) -> Result<clap::Command<'a>, AllocError>
-    ensures app { IfOk result (λ c. app_of c ≡ app_for join) }
-    ensures local { IfOk result (λ c. (fields_of c).has_globals ≡ false) }
-{
-    clap::Command::new(alloc, "join")
-        .about("Joins a signature with a top key's endorsement of its key")
-        .after_help(JOIN_NOTE)
-        .arg(option(alloc, "public", "FILE", "The top public key, 60 bytes"))?
-        .arg(option(
-            alloc,
-            "endorsement",
-            "FILE",
-            "The top key's signature of the signer's key",
-        ))?
-        .arg(option(alloc, "signer", "FILE", "The signer's public key, 60 bytes"))?
-        .arg(option(
-            alloc,
-            "signature",
-            "FILE",
-            "A signature by the signer's key",
-        ))?
-        .arg(option(
-            alloc,
-            "out",
-            "FILE",
-            "Where the joined signature is written, in place of any older file",
-        ))
-}
-
-fn join_public_application<'a>(alloc: Global) -> Result<clap::Command<'a>, AllocError>
-    ensures app { IfOk result (λ c. app_of c ≡ app_for join_public) }
-    ensures local { IfOk result (λ c. (fields_of c).has_globals ≡ false) }
-{
-    clap::Command::new(alloc, "join-public")
-        .about("Writes the public key of joined signatures")
-        .after_help(JOIN_PUBLIC_NOTE)
-        .arg(option(alloc, "public", "FILE", "The top public key, 60 bytes"))?
-        .arg(option(alloc, "signer", "FILE", "A signer's public key, 60 bytes"))?
-        .arg(option(
-            alloc,
-            "out",
-            "FILE",
-            "Where the public key is written, 60 bytes, in place of any older file",
-        ))
-}
-
-/// A required option `--NAME VALUE`.
-fn option<'a>(alloc: Global, name: &'a str, value: &'a str, help: &'a str) -> Arg<'a>
-    ensures rule { rule_of result ≡ required_option name.entry.now }
+/// The option in this row.
+fn required<'a>(alloc: Global, row: &OptionRow) -> Arg<'a>
+    ensures rule { rule_of result ≡ required_option row.now.0.now }
     ensures local { result.global ≡ false }
 {
+    let (name, value, help) = *row;
     Arg::new(alloc, name)
         .long(name)
         .value_name(value)
@@ -247,123 +104,69 @@ fn read(alloc: Global, name: &str, options: &ArgMatches<'_>) -> Result<Command, 
     ensures { IfOk result (IsMadeOf name.now (rows_of (found_of options.now))) }
 {
     match name {
-        "keygen" => read_keygen(alloc, options),
-        "info" => read_info(alloc, options),
-        "public" => read_public(alloc, options),
-        "sign" => read_sign(alloc, options),
-        "batch" => read_batch(alloc, options),
-        "serve" => read_serve(alloc, options),
-        "verify" => read_verify(alloc, options),
-        "join" => read_join(alloc, options),
-        "join-public" => read_join_public(alloc, options),
+        "keygen" => Ok(Command::Keygen {
+            levels: option_text(alloc, options, "levels")?,
+            seed: option_text(alloc, options, "seed")?,
+            id: option_text(alloc, options, "id")?,
+            state: option_text(alloc, options, "state")?,
+            public: option_text(alloc, options, "public")?,
+        }),
+        "info" => Ok(Command::Info {
+            state: option_text(alloc, options, "state")?,
+        }),
+        "public" => Ok(Command::Public {
+            state: option_text(alloc, options, "state")?,
+            public: option_text(alloc, options, "public")?,
+        }),
+        "sign" => Ok(Command::Sign {
+            state: option_text(alloc, options, "state")?,
+            random: option_text(alloc, options, "random")?,
+            message: option_text(alloc, options, "message")?,
+            out: option_text(alloc, options, "out")?,
+        }),
+        "batch" => Ok(Command::Batch {
+            state: option_text(alloc, options, "state")?,
+            workers: option_text(alloc, options, "workers")?,
+        }),
+        "serve" => Ok(Command::Serve {
+            state: option_text(alloc, options, "state")?,
+            workers: option_text(alloc, options, "workers")?,
+        }),
+        "witness" => Ok(Command::Witness {
+            state: option_text(alloc, options, "state")?,
+            on: option_text(alloc, options, "on")?,
+            counter: option_text(alloc, options, "counter")?,
+        }),
+        "resume" => Ok(Command::Resume {
+            state: option_text(alloc, options, "state")?,
+            counter: option_text(alloc, options, "counter")?,
+        }),
+        "verify" => Ok(Command::Verify {
+            public: option_text(alloc, options, "public")?,
+            message: option_text(alloc, options, "message")?,
+            signature: option_text(alloc, options, "signature")?,
+        }),
+        "join" => Ok(Command::Join {
+            public: option_text(alloc, options, "public")?,
+            endorsement: option_text(alloc, options, "endorsement")?,
+            signer: option_text(alloc, options, "signer")?,
+            signature: option_text(alloc, options, "signature")?,
+            out: option_text(alloc, options, "out")?,
+        }),
+        "join-public" => Ok(Command::JoinPublic {
+            public: option_text(alloc, options, "public")?,
+            signer: option_text(alloc, options, "signer")?,
+            out: option_text(alloc, options, "out")?,
+        }),
         _ => unreachable!(),
     }
-}
-
-fn read_keygen(alloc: Global, options: &ArgMatches<'_>) -> Result<Command, AllocError>
-    requires { HasOptions (Some keygen) (found_of options.now) }
-    ensures { IfOk result (IsMadeOf (codes "keygen") (rows_of (found_of options.now))) }
-{
-    Ok(Command::Keygen {
-        levels: option_text(alloc, options, "levels")?,
-        seed: option_text(alloc, options, "seed")?,
-        id: option_text(alloc, options, "id")?,
-        state: option_text(alloc, options, "state")?,
-        public: option_text(alloc, options, "public")?,
-    })
-}
-
-fn read_info(alloc: Global, options: &ArgMatches<'_>) -> Result<Command, AllocError>
-    requires { HasOptions (Some info) (found_of options.now) }
-    ensures { IfOk result (IsMadeOf (codes "info") (rows_of (found_of options.now))) }
-{
-    Ok(Command::Info {
-        state: option_text(alloc, options, "state")?,
-    })
-}
-
-fn read_public(alloc: Global, options: &ArgMatches<'_>) -> Result<Command, AllocError>
-    requires { HasOptions (Some public_key) (found_of options.now) }
-    ensures { IfOk result (IsMadeOf (codes "public") (rows_of (found_of options.now))) }
-{
-    Ok(Command::Public {
-        state: option_text(alloc, options, "state")?,
-        public: option_text(alloc, options, "public")?,
-    })
-}
-
-fn read_sign(alloc: Global, options: &ArgMatches<'_>) -> Result<Command, AllocError>
-    requires { HasOptions (Some sign) (found_of options.now) }
-    ensures { IfOk result (IsMadeOf (codes "sign") (rows_of (found_of options.now))) }
-{
-    Ok(Command::Sign {
-        state: option_text(alloc, options, "state")?,
-        random: option_text(alloc, options, "random")?,
-        message: option_text(alloc, options, "message")?,
-        out: option_text(alloc, options, "out")?,
-    })
-}
-
-fn read_batch(alloc: Global, options: &ArgMatches<'_>) -> Result<Command, AllocError>
-    requires { HasOptions (Some batch) (found_of options.now) }
-    ensures { IfOk result (IsMadeOf (codes "batch") (rows_of (found_of options.now))) }
-{
-    Ok(Command::Batch {
-        state: option_text(alloc, options, "state")?,
-        workers: option_text(alloc, options, "workers")?,
-    })
-}
-
-fn read_serve(alloc: Global, options: &ArgMatches<'_>) -> Result<Command, AllocError>
-    requires { HasOptions (Some serve) (found_of options.now) }
-    ensures { IfOk result (IsMadeOf (codes "serve") (rows_of (found_of options.now))) }
-{
-    Ok(Command::Serve {
-        state: option_text(alloc, options, "state")?,
-        workers: option_text(alloc, options, "workers")?,
-    })
-}
-
-fn read_verify(alloc: Global, options: &ArgMatches<'_>) -> Result<Command, AllocError>
-    requires { HasOptions (Some verify) (found_of options.now) }
-    ensures { IfOk result (IsMadeOf (codes "verify") (rows_of (found_of options.now))) }
-{
-    Ok(Command::Verify {
-        public: option_text(alloc, options, "public")?,
-        message: option_text(alloc, options, "message")?,
-        signature: option_text(alloc, options, "signature")?,
-    })
-}
-
-fn read_join(alloc: Global, options: &ArgMatches<'_>) -> Result<Command, AllocError>
-    requires { HasOptions (Some join) (found_of options.now) }
-    ensures { IfOk result (IsMadeOf (codes "join") (rows_of (found_of options.now))) }
-{
-    Ok(Command::Join {
-        public: option_text(alloc, options, "public")?,
-        endorsement: option_text(alloc, options, "endorsement")?,
-        signer: option_text(alloc, options, "signer")?,
-        signature: option_text(alloc, options, "signature")?,
-        out: option_text(alloc, options, "out")?,
-    })
-}
-
-fn read_join_public(alloc: Global, options: &ArgMatches<'_>) -> Result<Command, AllocError>
-    requires { HasOptions (Some join_public) (found_of options.now) }
-    ensures { IfOk result (IsMadeOf (codes "join-public") (rows_of (found_of options.now))) }
-{
-    Ok(Command::JoinPublic {
-        public: option_text(alloc, options, "public")?,
-        signer: option_text(alloc, options, "signer")?,
-        out: option_text(alloc, options, "out")?,
-    })
 }
 
 /// The text of an option that was given.
 fn option_text(alloc: Global, options: &ArgMatches<'_>, name: &str) -> Result<String, AllocError>
     requires { IsSome (first_value (found_of options.now) name.now) }
     ensures { IfOk result (λ text.
-        first_value (found_of options.now) name.now ≡ Some (string_bytes text)) }
+        first_of name.now (rows_of (found_of options.now)) ≡ Some (string_bytes text)) }
 {
     String::from_str(alloc, options.get_str(name).unwrap())
 }
@@ -372,7 +175,7 @@ fn option_text(alloc: Global, options: &ArgMatches<'_>, name: &str) -> Result<St
 fn fault_from(alloc: Global, error: &Error) -> CommandFault
     ensures { FaultOf (kind_of error.now) result }
 {
-    match (error.kind(), error.to_string(alloc)) {
+    match (error.kind(), ClapText::of(alloc, error)) {
         (ErrorKind::OutOfMemory, _) | (_, Err(_)) => CommandFault::OutOfMemory,
         (ErrorKind::DisplayHelp, Ok(text)) => CommandFault::Help { text },
         (_, Ok(text)) => CommandFault::Usage { text },

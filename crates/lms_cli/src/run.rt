@@ -1,21 +1,21 @@
 //! The whole program, over its arguments, its files and its streams.
-ghost use Rattle.std.specs.Prelude.{◌≡◌, ◌⊎◌, ◌++◌, ◌<◌, IfErr, IfOk, MatchResult, OnOk, map};
+ghost use Rattle.std.specs.Prelude.{◌≡◌, ◌⊎◌, ◌++◌, ◌<◌, IfErr, IfOk, MatchResult, OnErr, OnOk, Some, map, string_bytes};
 ghost use Rattle.std.specs.Io.KnownBytes.{Appends};
 ghost use Rattle.lms_blocks.specs.Writing.{AppendsFront};
 ghost use Rattle.lms_commands.specs.Faults.{fault_line, status_number, status_of};
 ghost use Rattle.lms_world.specs.Held.{Follows};
-ghost use Rattle.lms_cli.specs.RunLogs.{LogsAnswered, LogsFailed, LogsObeyed, LogsRefused};
+ghost use Rattle.lms_cli.specs.RunLogs.{LogsAnswered, LogsFailed, LogsObeyed, LogsRefused, TellsUsage};
 ghost use Rattle.lms_cli.specs.Runs.{AsksToRead, ReadsInput, Runs, setting};
 
-use crate::command::{Command, CommandFault, command};
+use crate::command::{ClapText, Command, CommandFault, command};
+use lms_blocks::{WriteFault, write_bytes};
 use lms_commands::{Fault, Resources, Status, print_fault};
 use lms_hss::Progress;
 use lms_join_commands::{JoinRequest, join_public_keys, join_signature};
-use lms_key_commands::{describe, key_from, make_key, publish_key};
+use lms_key_commands::{describe, key_from, make_key, publish_key, resume_state, watch_state};
 use lms_signature_commands::{SignRequest, serve_jobs, sign_file, sign_jobs, verify_files};
 use lms_world::{Printer, World};
 use std::convert::AsStr;
-use std::io;
 use std::io::{Read, Write};
 use std::sync::Wait;
 use std::thread::Threads;
@@ -25,9 +25,10 @@ use std::thread::Threads;
 ///
 /// A fault is one line on `errors`, `error: ` and its text. Help is printed to `output` and a
 /// mistake in the arguments to `errors`, both in clap's wording. Nothing but `keygen`, `sign`,
-/// `batch` and `serve` changes states, and of the files only the one that `--public` or `--out`
-/// names is changed. `keygen` and `sign` alone keep nodes of trees beside the state. `input` is read
-/// by `batch` and `serve`, and by `keygen` where its seed is `-`. `resources.progress` gets how far
+/// `batch`, `serve` and `resume` changes states, and of the files only the one that `--public` or
+/// `--out` names is changed. `witness` alone makes a witness, and `sign`, `batch` and `serve` alone
+/// replace one. `keygen` and `sign` alone keep nodes of trees beside the state. `input` is read by
+/// `batch` and `serve`, and by `keygen` where its seed is `-`. `resources.progress` gets how far
 /// `keygen`, `public`, `sign`, `batch` and `serve` are while they compute trees.
 pub fn run<S: AsStr, W: World, I: Read, O: Write, E: Write>(
     resources: &Resources<impl Threads + Wait + Sync, impl Progress>,
@@ -75,6 +76,8 @@ fn answer<S: AsStr, W: World, I: Read, O: Write, E: Write>(
     ensures log_failed { IfErr result (λ fault. LogsRefused (map S.text words.now) fault
         (I.remaining input.old) (I.remaining input.new) output.old output.new
         (W.events world.old) (W.events world.new)) }
+    ensures usage { IfOk result (λ status.
+        TellsUsage status (E.contents errors.old) (E.contents errors.new)) }
     ensures quiet { MatchResult result
         (λ status. status_number status < 2 → errors.new ≡ errors.old) (λ _. errors.new ≡ errors.old) }
     ensures unread { (input.new ≡ input.old) ⊎ AsksToRead (map S.text words.now) }
@@ -93,12 +96,13 @@ fn answer<S: AsStr, W: World, I: Read, O: Write, E: Write>(
 }
 
 /// Prints help. `WriteOutput` where that can't be done, maybe after a beginning of it.
-fn show_help<O: Write>(output: &mut Printer<O>, text: &str) -> Result<Status, Fault>
+fn show_help<O: Write>(output: &mut Printer<O>, help: &ClapText) -> Result<Status, Fault>
     ensures shown { IfOk result (λ status.
-        (status ≡ Status.Done) × (output.new ≡ output.old ++ text.now)) }
-    ensures failed { IfErr result (λ fault. fault ≡ Fault.WriteOutput) }
+        (status ≡ Status.Done) × (output.new ≡ output.old ++ string_bytes help.now.text)) }
+    ensures failed { IfErr result (λ fault. (fault ≡ Fault.WriteOutput)
+        × AppendsFront (Some output.old) (Some output.new) (string_bytes help.now.text)) }
 {
-    match print_text(output, text) {
+    match print_text(output, help) {
         Ok(()) => Ok(Status::Done),
         Err(_) => Err(Fault::WriteOutput),
     }
@@ -165,6 +169,14 @@ fn obey<W: World, I: Read, O: Write>(
             serve_jobs(resources, world, &state, &workers, input, output)?;
             Ok(Status::Done)
         }
+        Command::Witness { state, on, counter } => {
+            watch_state(resources.alloc, world, &state, &on, &counter, output)?;
+            Ok(Status::Done)
+        }
+        Command::Resume { state, counter } => {
+            resume_state(resources.alloc, world, &state, &counter, output)?;
+            Ok(Status::Done)
+        }
         Command::Verify {
             public,
             message,
@@ -208,9 +220,16 @@ fn obey<W: World, I: Read, O: Write>(
     }
 }
 
-fn print_text<W: Write>(writer: &mut W, text: &str) -> io::Result<()>
-    ensures { OnOk result (Appends (W.contents writer.old) (W.contents writer.new) text.now) }
+/// Prints a text, or, where that can't be done, a beginning of it.
+fn print_text<W: Write>(writer: &mut W, text: &ClapText) -> Result<(), WriteFault>
+    ensures whole { OnOk result
+        (Appends (W.contents writer.old) (W.contents writer.new) (string_bytes text.now.text)) }
+    ensures front { OnErr result
+        (AppendsFront (W.contents writer.old) (W.contents writer.new) (string_bytes text.now.text)) }
 {
-    writer.write_all(text.as_bytes())?;
-    writer.flush()
+    write_bytes(writer, text.as_str().as_bytes())?;
+    match writer.flush() {
+        Ok(()) => Ok(()),
+        Err(_) => Err(WriteFault),
+    }
 }

@@ -3,11 +3,14 @@ use Rattle.std.proofs.Common.{◌≡◌, ◌≢◌, ◌⊎◌, ◌∙◌, ℕ, L
 use Rattle.std.proofs.Common.{sym, subst, inl, inr, append-nil}
 use Rattle.std.proofs.lemmas.List.Elements.{filter-append}
 use Rattle.lms_world.specs.Events.{Event}
-use Rattle.lms_commands.specs.Histories.{AreCutTurns, AreLinked, AreWholeTurns, Continues, IsCarriedAlong}
-use Rattle.lms_commands.specs.Histories.{IsDoneBy, IsTurn, Makes, Signature, StateTexts, StoresNothing, TakenTurn, Turn}
-use Rattle.lms_commands.specs.Histories.{Uses, begun_calls, is_of_store, store_calls, stored_last, turn_signatures}
-use Rattle.lms_commands.specs.Histories.{whole_calls}
+use Rattle.lms_commands.specs.Expectations.{Expected, IsCarriedAlong}
+use Rattle.lms_commands.specs.Histories.{AreCutTurns, AreLinked, AreWholeTurns, Continues}
+use Rattle.lms_commands.specs.Histories.{IsDoneBy, IsTurn, Signature, TakenTurn}
+use Rattle.lms_commands.specs.Histories.{Turn, StoresNothing, Makes, Uses, Watches, Resumes}
+use Rattle.lms_commands.specs.Histories.{begun_calls, is_of_store, store_calls, stored_last, turn_signatures}
+use Rattle.lms_commands.specs.Histories.{whole_calls, witness_calls}
 use Rattle.lms_commands.specs.Logs.{KeyState, WorldCalls}
+use Rattle.lms_commands.specs.Watching.{Watch}
 use Rattle.lms_commands.proofs.Histories.{IsHistory, Links, known_after, known_by}
 
 -- where a list is two lists in two ways, one of the ends is an end of the other
@@ -110,9 +113,9 @@ cut_turns (turn ∷ turns) later begun (one, are) is =
 -- ---- turns of a run, and then others
 
 -- what is done with a state is done in a turn's first calls
-uses_state : (run : TakenTurn) (count : ℕ) (state : KeyState) (text : List ℕ)
-    → IsTurn run.turn run.signatures run.whole → run.turn ≡ Uses count state text → store_calls run.whole ≢ []
-uses_state run count state text turn same none =
+uses_state : (run : TakenTurn) (count : ℕ) (state : KeyState) (text : List ℕ) (watch : Watch)
+    → IsTurn run.turn run.signatures run.whole → run.turn ≡ Uses count state text watch → store_calls run.whole ≢ []
+uses_state run count state text watch turn same none =
     let does = subst (λ (t : Turn). IsDoneBy t turn.first) same turn.does in
     let all = ap store_calls turn.calls
     ∙ (filter-append is_of_store turn.later turn.first
@@ -129,18 +132,20 @@ known_so known due run turn whole alive = by_turn run.turn refl (store_calls run
         → (known_by is calls known ≡ stored_last is due) ⊎ (stored_last is due ≡ None)
     by_turn StoresNothing same calls at = alive
     by_turn (Makes key) same calls at = inr refl
-    by_turn (Uses count state text) same [] at =
-        absurd (uses_state run count state text turn same (ap store_calls (sym whole) ∙ at))
-    by_turn (Uses count state text) same (call ∷ calls) at = inl refl
+    by_turn (Uses count state text watch) same [] at =
+        absurd (uses_state run count state text watch turn same (ap store_calls (sym whole) ∙ at))
+    by_turn (Uses count state text watch) same (call ∷ calls) at = inl refl
+    by_turn (Watches state text) same calls at = inr refl
+    by_turn (Resumes count state watch) same calls at = inr refl
 
 none_begun : (later begun : WorldCalls) → later ++ begun ≡ [] → (later ≡ []) × (begun ≡ [])
 none_begun [] begun none = (refl, none)
 none_begun (call ∷ later) begun none = cc none
 
-pub history_then : (turns rest : List TakenTurn) (due known : Option (List ℕ)) (held : StateTexts)
+pub history_then : (turns rest : List TakenTurn) (due known : Option (List ℕ)) (held : Expected)
     → AreCutTurns turns → AreLinked due turns → ((known ≡ due) ⊎ (due ≡ None)) ⊎ (begun_calls turns ≡ [])
     → IsCarriedAlong held (turns ++ rest)
-    → ((known : Option (List ℕ)) (held : StateTexts) → IsCarriedAlong held rest → IsHistory known held rest)
+    → ((known : Option (List ℕ)) (held : Expected) → IsCarriedAlong held rest → IsHistory known held rest)
     → IsHistory known held (turns ++ rest)
 history_then [] rest due known held cut linked alive carried others = others known held carried
 history_then (turn ∷ turns) rest due known held (is, begins, ends, cut) (due_is, goes, linked) alive
@@ -161,7 +166,9 @@ history_then (turn ∷ turns) rest due known held (is, begins, ends, cut) (due_i
     links : ((known ≡ due) ⊎ (due ≡ None)) ⊎ (begun_calls turns ++ turn.begun ≡ []) → Links known turn
     links (inl (inl same)) = inr (inl (due_is ∙ sym same))
     links (inl (inr none)) = inl (due_is ∙ none)
-    links (inr nothing) = inr (inr (ap store_calls (none_begun (begun_calls turns) turn.begun nothing).1))
+    links (inr nothing) =
+        let none = (none_begun (begun_calls turns) turn.begun nothing).1 in
+        inr (inr (ap store_calls none, ap witness_calls none))
 
     alive_then : (turn.begun ≡ turn.whole) ⊎ (begun_calls turns ≡ [])
         → ((known ≡ due) ⊎ (due ≡ None)) ⊎ (begun_calls turns ++ turn.begun ≡ [])

@@ -3,6 +3,7 @@ pub mod CutTurns
 pub mod Failing
 pub mod Histories
 pub mod Logged
+pub mod Noting
 pub mod Signings
 pub mod Telling
 pub mod Turns

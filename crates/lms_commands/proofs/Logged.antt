@@ -1,10 +1,9 @@
 -- What a command logged, by what its steps did.
-use Rattle.std.proofs.Common.{◌≡◌, ◌∙◌, inl, inr, ℕ, ◌+◌, ◌-◌, ◌≤◌, List, ◌∷◌, Some, refl, ap}
+use Rattle.std.proofs.Common.{◌≡◌, ◌∙◌, inl, inr, ℕ, ◌+◌, ◌≤◌, List, ◌∷◌, Some, refl, ap}
 use Rattle.std.proofs.Common.{subst, arith}
 use Rattle.lms_image.specs.Image.{HasImage}
 use Rattle.lms_book.specs.declared.fault.OpenFault.{OpenFault}
 use Rattle.lms_book.specs.declared.fault.OpenFault.TheVariants as opening
-use Rattle.lms_book.specs.declared.fault.BookFault.TheVariants as book
 use Rattle.lms_book.specs.Books.{HasCause, IsReadFrom, capacity, counter, next_image}
 use Rattle.lms_book.specs.States.{BookState}
 use Rattle.lms_book.specs.Stops.{StoreView, FailsToWrite, after_write}

@@ -1,7 +1,7 @@
 -- What calls tell of a world in memory, and what it holds after them.
 use Rattle.std.proofs.Common.{◌≡◌, ◌∙◌, ◌∷◌, ◌++◌, [], List, ℕ, Bool, true, false, Option, Some, None, Ok, Err, ap}
 use Rattle.std.proofs.Common.{refl, subst, sym, append_assoc, inl, inr}
-use Rattle.std.specs.Prelude.{◌⊎◌, IfSome}
+use Rattle.std.specs.Prelude.{◌⊎◌, ◌≢◌, IfSome, Result}
 use Rattle.std.proofs.lemmas.List.{append_cancel_right}
 use Rattle.lms_book.specs.Stops.{IsAmong, StoreView, Texts}
 use Rattle.lms_kept.specs.Ways.{Way}
@@ -9,8 +9,9 @@ use Rattle.lms_world.specs.Names.{Bytes}
 use Rattle.lms_world.specs.Events.{Event, Read, Opened, Written, Locked, Unlocked, Asked}
 use Rattle.lms_world.specs.Events.{Acquired, NotAvailable, NoMemory}
 use Rattle.lms_world.specs.Events.{Taken, PutBack, NodesRead, NodesWritten, Printing, Printed}
-use Rattle.lms_world.specs.Held.{Acts, Answers, Follows, Held, Replays, answer_in, is_there}
-use Rattle.lms_world.specs.Outcomes.{files_after, nodes_after, state_after}
+use Rattle.lms_world.specs.Events.{WitnessDrafted, WitnessMade, WitnessRead, WitnessWritten}
+use Rattle.lms_world.specs.Held.{Acts, Answers, Follows, Held, MayRefuseMaking, Replays, answer_in, is_there}
+use Rattle.lms_world.specs.Outcomes.{files_after, nodes_after, state_after, witness_after}
 use Rattle.lms_world.specs.declared.fault.WorldFault.{WorldFault}
 use Rattle.lms_world.specs.declared.fault.WorldFault.TheVariants as world
 use Rattle.lms_world.proofs.Answering.{answer_first, answer_other}
@@ -32,6 +33,10 @@ MayFailAfter (other ∷ earlier) old new = MayFailAfter earlier old new
 abbrev pub IsRefused : Bytes → WorldFault → Answers → Type 0
 IsRefused name fault files = (answer_in files name ≡ Err fault) ⊎ (fault ≡ world.OutOfMemory)
 
+-- a read or a write of the witness is refused by this fault
+abbrev pub WitnessRefused : WorldFault → Result (Option (List ℕ)) WorldFault → Type 0
+WitnessRefused fault witness = (witness ≡ Err fault) ⊎ (fault ≡ world.OutOfMemory)
+
 -- what a call tells of what was held, after earlier calls
 abbrev pub Tells : Event → List Event → Held → Type 0
 Tells (Read name (Ok bytes)) earlier old = answer_in (files_after earlier old.files) name ≡ Ok bytes
@@ -46,6 +51,14 @@ Tells (Asked there) earlier old = there ≡ is_there (state_after earlier old.st
 Tells (Taken (Some store)) earlier old =
     (store.view.now ≡ state_after earlier old.state) × MayFailAfter earlier old.may_fail store.may_fail
 Tells (NodesRead text) earlier old = IfSome text (λ bytes. nodes_after earlier old.nodes ≡ Some bytes)
+Tells (WitnessRead (Ok found)) earlier old = witness_after earlier old.witness ≡ Ok found
+Tells (WitnessRead (Err fault)) earlier old = WitnessRefused fault (witness_after earlier old.witness)
+Tells (WitnessDrafted (Err fault)) earlier old = WitnessRefused fault (witness_after earlier old.witness)
+Tells (WitnessWritten text (Err fault)) earlier old = WitnessRefused fault (witness_after earlier old.witness)
+Tells (WitnessMade name text (Ok place)) earlier old = witness_after earlier old.witness ≡ Ok None
+Tells (WitnessMade name text (Err fault)) earlier old =
+    WitnessRefused fault (witness_after earlier old.witness)
+    ⊎ ((fault ≡ world.Device) × (witness_after earlier old.witness ≢ Ok None))
 Tells other earlier old = Unit {0}
 
 abbrev pub AllTell : List Event → Held → Type 0
@@ -60,6 +73,7 @@ pub record Told (calls : List Event) (old new : Held) : Type 0 where
   pub nodes : new.nodes ≡ nodes_after calls old.nodes
   pub in_use : new.in_use ≡ old.in_use
   pub nodes_fault : new.nodes_fault ≡ old.nodes_fault
+  pub witness : new.witness ≡ witness_after calls old.witness
   pub may_fail : MayFailAfter calls old.may_fail new.may_fail
 
 module _ (earlier : List Event) (old between new : Held) (is : Told earlier old between) where
@@ -75,6 +89,17 @@ module _ (earlier : List Event) (old between new : Held) (is : Told earlier old 
   refused : (name : Bytes) (fault : WorldFault) → IsRefused name fault between.files
       → IsRefused name fault (files_after earlier old.files)
   refused name fault at = subst (λ (files : Answers). IsRefused name fault files) is.files at
+
+  witness_refused : (fault : WorldFault) → WitnessRefused fault between.witness
+      → WitnessRefused fault (witness_after earlier old.witness)
+  witness_refused fault at =
+      subst (λ (witness : Result (Option (List ℕ)) WorldFault). WitnessRefused fault witness) is.witness at
+
+  not_made : (fault : WorldFault) → MayRefuseMaking between fault
+      → WitnessRefused fault (witness_after earlier old.witness)
+      ⊎ ((fault ≡ world.Device) × (witness_after earlier old.witness ≢ Ok None))
+  not_made fault (inl refused) = inl (witness_refused fault refused)
+  not_made fault (inr (at, there)) = inr (at, λ none. there (is.witness ∙ none))
 
   told_one : (event : Event) → Acts event between new → ToldOne event
   told_one (Read name (Ok bytes)) acts =
@@ -101,6 +126,15 @@ module _ (earlier : List Event) (old between new : Held) (is : Told earlier old 
   told_one (NodesRead None) acts = (tt, still acts)
   told_one (NodesWritten text (Ok done)) acts = (tt, fails_as new.may_fail (ap (λ (h : Held). h.may_fail) acts))
   told_one (NodesWritten text (Err fault)) acts = (tt, still acts.0)
+  told_one (WitnessRead (Ok found)) acts = (sym is.witness ∙ acts.1, still acts.0)
+  told_one (WitnessRead (Err fault)) acts = (witness_refused fault acts.1, still acts.0)
+  told_one (WitnessDrafted (Ok done)) acts = (tt, still acts)
+  told_one (WitnessDrafted (Err fault)) acts = (witness_refused fault acts.1, still acts.0)
+  told_one (WitnessWritten text (Ok done)) acts = (tt, fails_as new.may_fail (ap (λ (h : Held). h.may_fail) acts))
+  told_one (WitnessWritten text (Err fault)) acts = (witness_refused fault acts.1, still acts.0)
+  told_one (WitnessMade name text (Ok place)) acts =
+      (sym is.witness ∙ acts.1, fails_as new.may_fail (ap (λ (h : Held). h.may_fail) acts.0))
+  told_one (WitnessMade name text (Err fault)) acts = (not_made fault acts.1, still acts.0)
   told_one (Printing before) acts = (tt, still acts)
   told_one (Printed bytes) acts = (tt, still acts)
 
@@ -114,6 +148,7 @@ told_by old new [] same =
       nodes = holds.2;
       in_use = holds.3;
       nodes_fault = holds.4;
+      witness = holds.5;
       may_fail = ap (λ (h : Held). h.may_fail) same;
     }
 told_by old new (event ∷ earlier) is =
@@ -127,6 +162,7 @@ told_by old new (event ∷ earlier) is =
       nodes = holds.2;
       in_use = holds.3;
       nodes_fault = holds.4;
+      witness = holds.5;
       may_fail = here.1;
     }
 
@@ -162,6 +198,7 @@ unlocked is = record {
   nodes = is.nodes;
   in_use = is.in_use;
   nodes_fault = is.nodes_fault;
+  witness = is.witness;
   may_fail = is.may_fail;
 }
 
@@ -175,11 +212,13 @@ until_printing is = record {
   nodes = is.nodes;
   in_use = is.in_use;
   nodes_fault = is.nodes_fault;
+  witness = is.witness;
   may_fail = is.may_fail;
 }
 
-abbrev held : Answers → Texts → Bool → Bool → Option (List ℕ) → Option WorldFault → Held
-held files state may_fail in_use nodes nodes_fault =
+abbrev held : Answers → Texts → Bool → Bool → Option (List ℕ) → Option WorldFault
+    → Result (Option (List ℕ)) WorldFault → Held
+held files state may_fail in_use nodes nodes_fault witness =
     record {
       files = files;
       state = state;
@@ -187,18 +226,20 @@ held files state may_fail in_use nodes nodes_fault =
       in_use = in_use;
       nodes = nodes;
       nodes_fault = nodes_fault;
+      witness = witness;
     }
 
 pub same_held : (old new : Held) → new.files ≡ old.files → new.state ≡ old.state → new.may_fail ≡ old.may_fail
-    → new.in_use ≡ old.in_use → new.nodes ≡ old.nodes → new.nodes_fault ≡ old.nodes_fault → new ≡ old
-same_held old new files state may_fail in_use nodes nodes_fault = λ i.
-    held (files i) (state i) (may_fail i) (in_use i) (nodes i) (nodes_fault i)
+    → new.in_use ≡ old.in_use → new.nodes ≡ old.nodes → new.nodes_fault ≡ old.nodes_fault
+    → new.witness ≡ old.witness → new ≡ old
+same_held old new files state may_fail in_use nodes nodes_fault witness = λ i.
+    held (files i) (state i) (may_fail i) (in_use i) (nodes i) (nodes_fault i) (witness i)
 
 pub nothing_done : {before now : List Event} (old new : Held) → now ≡ before
     → Follows (Some old) before (Some new) now → new ≡ old
 nothing_done old new none follows =
     let is = told old new (record { calls = []; are = none }) follows in
-    same_held old new is.files is.state is.may_fail is.in_use is.nodes is.nodes_fault
+    same_held old new is.files is.state is.may_fail is.in_use is.nodes is.nodes_fault is.witness
 
 -- ---- calls that change nodes alone
 
@@ -211,6 +252,8 @@ pub record KeepsOnly (trees : Option Way) (before now : List Event) : Type 0 whe
   pub state : (earlier : List Event) (state : Texts) → state_after (calls ++ earlier) state ≡ state_after earlier state
   pub nodes : (earlier : List Event) (nodes : Option (List ℕ))
       → KeepsNodes trees (nodes_after earlier nodes) (nodes_after (calls ++ earlier) nodes)
+  pub witness : (earlier : List Event) (held : Result (Option (List ℕ)) WorldFault)
+      → witness_after (calls ++ earlier) held ≡ witness_after earlier held
   pub tell : (earlier : List Event) (old : Held) → AllTell (calls ++ earlier) old → AllTell earlier old
 
 pub keeps_only : (trees : Option Way) {before now : List Event} → LogsKeeping trees before now
@@ -221,6 +264,7 @@ keeps_only trees (inl same) = record {
   files = λ earlier files. refl;
   state = λ earlier state. refl;
   nodes = λ earlier nodes. inl refl;
+  witness = λ earlier held. refl;
   tell = λ earlier old tell. tell;
 }
 keeps_only trees (inr (way, Ok done, trees_are, is)) = record {
@@ -229,6 +273,7 @@ keeps_only trees (inr (way, Ok done, trees_are, is)) = record {
   files = λ earlier files. refl;
   state = λ earlier state. refl;
   nodes = λ earlier nodes. inr (way, trees_are, refl);
+  witness = λ earlier held. refl;
   tell = λ earlier old tell. tell.0;
 }
 keeps_only trees (inr (way, Err fault, trees_are, is)) = record {
@@ -237,6 +282,7 @@ keeps_only trees (inr (way, Err fault, trees_are, is)) = record {
   files = λ earlier files. refl;
   state = λ earlier state. refl;
   nodes = λ earlier nodes. inl refl;
+  witness = λ earlier held. refl;
   tell = λ earlier old tell. tell.0;
 }
 

@@ -25,6 +25,9 @@ use Rattle.lms_commands.specs.declared.fault.Fault.TheVariants.{BadSignature, Ba
 use Rattle.lms_commands.specs.declared.fault.Fault.TheVariants.{StateInUse, ReadState, BadState, WriteState}
 use Rattle.lms_commands.specs.declared.fault.Fault.TheVariants.{WriteStateBurnt, Exhausted, OutOfMemory}
 use Rattle.lms_commands.specs.declared.fault.Fault.TheVariants.{OutOfMemoryBurnt, Partial, ReadInput, WriteOutput}
+use Rattle.lms_commands.specs.declared.fault.Fault.TheVariants.{ReadWitness, BadWitness, StateOlder, StateNotOlder}
+use Rattle.lms_commands.specs.declared.fault.Fault.TheVariants.{BadCounter, OtherCounter, WitnessExists}
+use Rattle.lms_commands.specs.declared.fault.Fault.TheVariants.{WriteWitness, WriteWitnessBurnt}
 use Rattle.lms_texts.specs.Faults.{levels_fault_text, seed_fault_text}
 use Rattle.lms_texts.specs.declared.fault.LevelsTextFault.{LevelsTextFault}
 use Rattle.lms_texts.specs.declared.fault.LevelsTextFault.TheVariants as unread
@@ -41,17 +44,27 @@ command_fault_text BadSeed = seed_fault_text seed.Bad
 command_fault_text BadId = codes "bad id"
 command_fault_text BadRandom = codes "bad random"
 command_fault_text BadWorkers = codes "bad workers"
+command_fault_text BadCounter = codes "bad counter"
 command_fault_text BadPublicKey = codes "bad public key"
 command_fault_text BadEndorsement = codes "bad endorsement"
 command_fault_text BadSignature = codes "bad signature"
 command_fault_text (BadJob line) = jobs_fault_text (jobs.BadJob line)
 command_fault_text TooManyJobs = jobs_fault_text jobs.TooManyJobs
 command_fault_text StateExists = codes "state exists"
+command_fault_text WitnessExists = codes "witness exists"
 command_fault_text StateInUse = codes "state in use"
 command_fault_text ReadState = open_fault_text opening.Store
 command_fault_text (BadState fault) = open_fault_text (opening.Image fault)
 command_fault_text WriteState = store_fault_text
 command_fault_text (WriteStateBurnt start len) = book_fault_text (book.Store start len)
+command_fault_text ReadWitness = codes "cannot read witness"
+command_fault_text BadWitness = codes "bad witness"
+command_fault_text StateOlder = codes "state is older than its witness"
+command_fault_text StateNotOlder = codes "state is not older than its witness"
+command_fault_text (OtherCounter counter) = codes "counter is " ++ decimal counter
+command_fault_text WriteWitness = codes "cannot write witness"
+command_fault_text (WriteWitnessBurnt first last) =
+    codes "cannot write witness: " ++ decimal first ++ codes " to " ++ decimal last ++ codes " burnt"
 command_fault_text (Exhausted left) = book_fault_text (book.Exhausted left)
 command_fault_text OutOfMemory = out_of_memory_text
 command_fault_text (OutOfMemoryBurnt count) = batch_fault_text (batch.OutOfMemory count)
@@ -72,17 +85,26 @@ status_of BadSeed = status.Usage
 status_of BadId = status.Usage
 status_of BadRandom = status.Usage
 status_of BadWorkers = status.Usage
+status_of BadCounter = status.Usage
 status_of BadPublicKey = status.Usage
 status_of BadEndorsement = status.Usage
 status_of BadSignature = status.Usage
 status_of (BadJob line) = status.Usage
 status_of TooManyJobs = status.Usage
 status_of StateExists = status.State
+status_of WitnessExists = status.State
 status_of StateInUse = status.State
 status_of ReadState = status.State
 status_of (BadState fault) = status.State
 status_of WriteState = status.State
 status_of (WriteStateBurnt start len) = status.State
+status_of ReadWitness = status.State
+status_of BadWitness = status.State
+status_of StateOlder = status.State
+status_of StateNotOlder = status.State
+status_of (OtherCounter counter) = status.State
+status_of WriteWitness = status.State
+status_of (WriteWitnessBurnt first last) = status.State
 status_of (Exhausted left) = status.Exhausted
 status_of OutOfMemory = status.Memory
 status_of (OutOfMemoryBurnt count) = status.Memory

@@ -1,7 +1,7 @@
 -- Runs of the program at one state, one after another, each perhaps cut off by a crash: what each
--- does with the state, and which signatures leave it.
-use Rattle.std.specs.Prelude.{◌≡◌, ◌≢◌, ◌⊎◌, ◌+◌, ◌<◌, ◌≤◌, ℕ, List, [], ◌∷◌, ◌++◌, Bool, true, false, if◌then◌else◌}
-use Rattle.std.specs.Prelude.{Contains, codes, filter, map, Option, Some, None}
+-- does with the state and its witness, and which signatures leave it.
+use Rattle.std.specs.Prelude.{◌≡◌, ◌⊎◌, ◌+◌, ◌<◌, ◌≤◌, ℕ, List, [], ◌∷◌, ◌++◌, Bool, true, false, if◌then◌else◌}
+use Rattle.std.specs.Prelude.{Contains, codes, filter, map, Option, Some, None, Result, Ok}
 use Rattle.std.specs.List.{list_any}
 use Rattle.lms_spec.specs.Hss.{capacity_of}
 use Rattle.lms_spec.specs.Profile.{hss_signature}
@@ -13,9 +13,14 @@ use Rattle.lms_kept.specs.Signed.{IsSignedBy}
 use Rattle.lms_kept.specs.Ways.{Way}
 use Rattle.lms_lines.specs.AnswerLines.{answer_line}
 use Rattle.lms_blocks.specs.Writing.{AppendsFront}
-use Rattle.lms_world.specs.Events.{Event, Written, Asked, Taken, Taking, PutBack, Printing}
+use Rattle.lms_world.specs.Events.{Event, Written, Asked, Taken, Taking, PutBack, Printing, Writing}
+use Rattle.lms_world.specs.Names.{Bytes}
+use Rattle.lms_world.specs.declared.fault.WorldFault.{WorldFault}
+use Rattle.lms_world.specs.Events.{WitnessMade, WitnessRead, WitnessWritten}
+use Rattle.lms_texts.specs.Witnesses.{witness_text}
 use Rattle.lms_texts.specs.Descriptions.{number_line}
-use Rattle.lms_commands.specs.Logs.{KeyState, WorldCalls, ReadsState, image_using}
+use Rattle.lms_commands.specs.Logs.{KeyState, WorldCalls, ReadsState, StoresSome, image_using}
+use Rattle.lms_commands.specs.Watching.{IsAdmitted, Says, Watch, notes}
 
 -- bytes that are a signature by an index of a key
 pub record Signature : Type 0 where
@@ -43,14 +48,22 @@ pub data Turn : Type 0 where
   StoresNothing : Turn
   -- it finds no state, and stores that of a key of which no index is used
   Makes : (key : KeyOfCode) → Turn
-  -- it reads bytes, the image of a state, and stores the image that counts so many indices more
-  Uses : (count : ℕ) (state : KeyState) (text : List ℕ) → Turn
+  -- it reads bytes, the image of a state that its witness does not refuse, where it has one; it stores
+  -- the image that counts so many indices more, and then has the witness say so
+  Uses : (count : ℕ) (state : KeyState) (text : List ℕ) (watch : Watch) → Turn
+  -- it reads bytes, the image of a state that has no witness, and makes one that says what it counts
+  Watches : (state : KeyState) (text : List ℕ) → Turn
+  -- it reads the image of a state that counts so many indices less than its witness says, and stores
+  -- the one that counts as many
+  Resumes : (count : ℕ) (state : KeyState) (watch : List ℕ) → Turn
 
 -- the image that it stores, for certain or not
 abbrev pub image_by : Turn → Option (List ℕ)
 image_by StoresNothing = None
 image_by (Makes key) = Some (image_of key 0 0 0)
-image_by (Uses count state text) = Some (image_using count state)
+image_by (Uses count state text watch) = Some (image_using count state)
+image_by (Watches state text) = None
+image_by (Resumes count state watch) = Some (image_using count state)
 
 -- a call that takes out or puts back what keeps the state
 abbrev pub is_of_store : Event → Bool
@@ -60,6 +73,21 @@ is_of_store other = false
 
 abbrev pub store_calls : WorldCalls → WorldCalls
 store_calls calls = filter is_of_store calls
+
+-- a call that writes a witness, or makes one
+abbrev pub is_of_witness : Event → Bool
+is_of_witness (WitnessWritten text answer) = true
+is_of_witness (WitnessMade name text answer) = true
+is_of_witness other = false
+
+abbrev pub witness_calls : WorldCalls → WorldCalls
+witness_calls calls = filter is_of_witness calls
+
+-- the witnesses that were read
+abbrev pub found_in : WorldCalls → List Watch
+found_in [] = []
+found_in (WitnessRead (Ok found) ∷ calls) = found ∷ found_in calls
+found_in (other ∷ calls) = found_in calls
 
 -- a call with which something leaves: bytes are written to a file, or an output begins to be
 -- printed to
@@ -92,9 +120,15 @@ FindsNone calls =
     (later earlier : WorldCalls) × (calls ≡ later ++ Asked false ∷ earlier)
     × (store_calls earlier ≡ [])
 
--- bytes are read, the image of a state, and the image that counts so many indices more is stored,
--- for certain or not
-pub record CountsIndices (count : ℕ) (state : KeyState) (text : List ℕ)
+-- a witness was written, for certain or not, or none was
+abbrev pub NotesAtMost : ℕ → KeyState → Watch → WorldCalls → Type 0
+NotesAtMost count state watch calls =
+    (witness_calls calls ≡ [])
+    ⊎ ((answer : Writing) × (witness_calls calls ≡ notes count watch state.key.i state.index answer))
+
+-- bytes are read, the image of a state that its witness does not refuse; the image that counts so many
+-- indices more is stored, for certain or not, and the witness at most is written
+pub record CountsIndices (count : ℕ) (state : KeyState) (text : List ℕ) (watch : Watch)
     (calls : WorldCalls) : Type 0 where
   pub taken : Taking
   pub given : StoreView
@@ -105,18 +139,52 @@ pub record CountsIndices (count : ℕ) (state : KeyState) (text : List ℕ)
   pub within : state.index + count ≤ capacity_of (hss_key_of state.key)
   pub stores : Stores (image_using count state) given left
   pub one_use : IsOneUse taken left calls
+  pub seen : found_in calls ≡ watch ∷ []
+  pub admitted : IsAdmitted watch state.key.i state.index
+  pub notes_so : NotesAtMost count state watch calls
+
+-- bytes are read, the image of a state that has no witness; nothing is stored, and a witness is made,
+-- for certain or not
+pub record MakesWitness (state : KeyState) (text : List ℕ) (calls : WorldCalls) : Type 0 where
+  pub taken : Taking
+  pub given : StoreView
+  pub read : ReadsState state taken.view given
+  pub text_is : read.text ≡ text
+  pub one_use : IsOneUse taken given calls
+  pub seen : found_in calls ≡ None ∷ []
+  pub name : Bytes
+  pub answer : Result Bytes WorldFault
+  pub makes : witness_calls calls ≡ WitnessMade name (witness_text state.key.i state.index) answer ∷ []
+
+-- bytes are read, the image of a state that is older than its witness, and what is stored then counts at
+-- most as much as that says
+pub record CountsUp (count : ℕ) (state : KeyState) (watch : List ℕ) (calls : WorldCalls) : Type 0 where
+  pub taken : Taking
+  pub given : StoreView
+  pub left : StoreView
+  pub read : ReadsState state taken.view given
+  pub some : 1 ≤ count
+  pub within : state.index + count ≤ capacity_of (hss_key_of state.key)
+  pub stores : StoresSome (state.index + count) state given left
+  pub one_use : IsOneUse taken left calls
+  pub seen : found_in calls ≡ Some watch ∷ []
+  pub says : Says watch state.key.i (state.index + count)
+  pub unnoted : witness_calls calls ≡ []
 
 -- the calls on the state that a turn makes, and no other
 abbrev pub IsDoneBy : Turn → WorldCalls → Type 0
 IsDoneBy StoresNothing calls =
-    (store_calls calls ≡ [])
+    (witness_calls calls ≡ [])
+    × ((store_calls calls ≡ [])
     ⊎ ((taken : Taking) × (left : StoreView) × IsUnwritten taken.view left
-    × IsOneUse taken left calls)
+    × IsOneUse taken left calls))
 IsDoneBy (Makes key) calls =
-    FindsNone calls
+    (witness_calls calls ≡ []) × FindsNone calls
     × ((taken : Taking) × (left : StoreView) × Stores (image_of key 0 0 0) taken.view left
     × IsOneUse taken left calls)
-IsDoneBy (Uses count state text) calls = CountsIndices count state text calls
+IsDoneBy (Uses count state text watch) calls = CountsIndices count state text watch calls
+IsDoneBy (Watches state text) calls = MakesWitness state text calls
+IsDoneBy (Resumes count state watch) calls = CountsUp count state watch calls
 
 -- the last that was done with the state is that this image was stored, for certain
 abbrev pub IsStored : List ℕ → WorldCalls → Type 0
@@ -124,16 +192,21 @@ IsStored image calls =
     (before : StoreView) × (earlier : WorldCalls)
     × (store_calls calls ≡ PutBack (after_write image before) ∷ earlier)
 
--- the signatures that leave after these calls: none, or by indices whose use is stored for certain
-abbrev pub Signs : Turn → List Signature → WorldCalls → Type 0
-Signs StoresNothing signatures calls = signatures ≡ []
-Signs (Makes key) signatures calls = signatures ≡ []
-Signs (Uses count state text) signatures calls =
-    AreInOrder state.key state.index (state.index + count) signatures
-    × ((signatures ≡ []) ⊎ IsStored (image_using count state) calls)
+-- the use of so many indices is stored for certain, and said by the witness, where there is one
+abbrev pub AreCounted : ℕ → KeyState → Watch → WorldCalls → Type 0
+AreCounted count state watch calls =
+    IsStored (image_using count state) calls
+    × (witness_calls calls ≡ notes count watch state.key.i state.index (Ok tt))
 
--- all calls of a run: at first those on its state, while nothing leaves; then those with which
--- something leaves, while nothing is done with the state
+-- the signatures that leave after these calls: none, or by indices whose use is counted for certain
+abbrev pub Signs : Turn → List Signature → WorldCalls → Type 0
+Signs (Uses count state text watch) signatures calls =
+    AreInOrder state.key state.index (state.index + count) signatures
+    × ((signatures ≡ []) ⊎ AreCounted count state watch calls)
+Signs other signatures calls = signatures ≡ []
+
+-- all calls of a run: at first those on its state and its witness, while nothing leaves; then those
+-- with which something leaves, while nothing is done with either
 pub record IsTurn (turn : Turn) (signatures : List Signature) (whole : WorldCalls) : Type 0 where
   pub first : WorldCalls
   pub later : WorldCalls
@@ -142,6 +215,7 @@ pub record IsTurn (turn : Turn) (signatures : List Signature) (whole : WorldCall
   pub nothing_leaves : list_any hands_out first ≡ false
   pub signs : Signs turn signatures first
   pub nothing_stored : store_calls later ≡ []
+  pub nothing_noted : witness_calls later ≡ []
 
 -- what is written to files are these signatures
 abbrev pub AreWritten : List Signature → WorldCalls → Type 0
@@ -191,30 +265,23 @@ pub record TakenTurn : Type 0 where
 abbrev pub left_in : TakenTurn → List Signature
 left_in run = if list_any hands_out run.begun then run.signatures else []
 
--- the byte strings of which one may be stored as the state, and none where there may be no state
-abbrev pub StateTexts : Type 0
-StateTexts = List (Option (List ℕ))
-
--- a turn finds something that may be stored: none, or the bytes that it reads. Nothing is asked of
--- a turn whose run stored an image before: it reads that one alone
-abbrev pub FindsText : Turn → Option (List ℕ) → StateTexts → Type 0
-FindsText StoresNothing due held = Unit {0}
-FindsText (Makes key) due held = Contains held None
-FindsText (Uses count state text) None held = Contains held (Some text)
-FindsText (Uses count state text) (Some image) held = Unit {0}
-
 -- where its run stored an image before, that is what a turn reads
 abbrev pub Continues : Turn → Option (List ℕ) → Type 0
-Continues (Uses count state text) (Some image) = text ≡ image
-Continues (Uses count state text) None = Unit {0}
+Continues (Uses count state text watch) (Some image) = text ≡ image
+Continues (Uses count state text watch) None = Unit {0}
 Continues StoresNothing due = Unit {0}
 Continues (Makes key) due = Unit {0}
+Continues (Watches state text) due = Unit {0}
+Continues (Resumes count state watch) due = Unit {0}
 
--- the image that a run stored last, after a turn; a run that makes a key takes no other
+-- the image that a run stored last, after a turn; a run that makes a key or a witness, or resumes, takes
+-- no other
 abbrev pub stored_last : Turn → Option (List ℕ) → Option (List ℕ)
 stored_last StoresNothing due = due
 stored_last (Makes key) due = None
-stored_last (Uses count state text) due = Some (image_using count state)
+stored_last (Uses count state text watch) due = Some (image_using count state)
+stored_last (Watches state text) due = None
+stored_last (Resumes count state watch) due = None
 
 -- turns of one run, one after another, each of which reads what the run stored last, if it stored
 -- anything before
@@ -222,30 +289,6 @@ abbrev pub AreLinked : Option (List ℕ) → List TakenTurn → Type 0
 AreLinked due [] = Unit {0}
 AreLinked due (run ∷ later) =
     (run.due ≡ due) × Continues run.turn due × AreLinked (stored_last run.turn due) later
-
--- this is what may be stored, and nothing else
-abbrev pub IsOnly : List ℕ → StateTexts → Type 0
-IsOnly image held = (found : Option (List ℕ)) → Contains held found → found ≡ Some image
-
--- what a store owes, once a turn came to it: it gave what it may have held; it may hold that still,
--- or the image that was stored; and that image alone where it was stored for certain
-pub record Moves (run : TakenTurn) (held left : StateTexts) : Type 0 where
-  pub found : FindsText run.turn run.due held
-  pub one_of : (text : Option (List ℕ)) → Contains left text → Contains held text
-      ⊎ ((image : List ℕ) × (image_by run.turn ≡ Some image) × (text ≡ Some image))
-  pub certain : (image : List ℕ) → IsStored image run.begun → IsOnly image left
-
--- what may be stored before and after a turn; where it did not come to its state, that is the same
-abbrev pub IsCarried : TakenTurn → StateTexts → StateTexts → Type 0
-IsCarried run held left =
-    ((store_calls run.begun ≡ []) × (left ≡ held))
-    ⊎ ((store_calls run.begun ≢ []) × Moves run held left)
-
--- turns one after another carry along what is stored, from this on
-abbrev pub IsCarriedAlong : StateTexts → List TakenTurn → Type 0
-IsCarriedAlong held [] = Unit {0}
-IsCarriedAlong held (run ∷ runs) =
-    (left : StateTexts) × IsCarried run held left × IsCarriedAlong left runs
 
 -- all signatures that left, in order
 abbrev pub all_left : List TakenTurn → List Signature

@@ -1,5 +1,6 @@
 -- What a command finds in a world in memory and leaves there.
-use Rattle.std.specs.Prelude.{ℕ, ◌≡◌, ◌≢◌, ◌⊎◌, ◌+◌, ◌-◌, ◌<◌, ◌≤◌, List, true, Option, Some, Ok, Err}
+use Rattle.std.specs.Prelude.{ℕ, zero, suc, Result, None, ◌≡◌, ◌≢◌, ◌⊎◌, ◌+◌, ◌-◌, ◌<◌, ◌≤◌, List, true, Option, Some}
+use Rattle.std.specs.Prelude.{Ok, Err}
 use Rattle.lms_spec.specs.Hss.{capacity_of}
 use Rattle.lms_hss.specs.Keys.{hss_key_of}
 use Rattle.lms_hss.specs.declared.key.HssKey.{HssKey as KeyOfCode}
@@ -9,11 +10,15 @@ use Rattle.lms_book.specs.Stops.{Texts, IsAmong, IsLeftBy, only}
 use Rattle.lms_kept.specs.Ways.{AreGenuine, IsWay, Way, nodes_text}
 use Rattle.lms_world.specs.Names.{Bytes}
 use Rattle.lms_world.specs.Held.{Answers, Held, answer_in}
+use Rattle.lms_world.specs.declared.fault.WorldFault.{WorldFault}
 use Rattle.lms_world.specs.declared.fault.WorldFault.TheVariants.{Device}
+use Rattle.lms_texts.specs.Witnesses.{witness_text}
 use Rattle.lms_commands.specs.Logs.{KeyState, image_using}
+use Rattle.lms_commands.specs.Watching.{IsAdmitted, IsRefusedBy, Watch}
 use Rattle.lms_commands.specs.declared.fault.Fault.{Fault}
 use Rattle.lms_commands.specs.declared.fault.Fault.TheVariants.{BadState, Exhausted, OutOfMemory, OutOfMemoryBurnt}
-use Rattle.lms_commands.specs.declared.fault.Fault.TheVariants.{ReadState, StateInUse, WriteStateBurnt}
+use Rattle.lms_commands.specs.declared.fault.Fault.TheVariants.{ReadState, ReadWitness, StateInUse, WriteStateBurnt}
+use Rattle.lms_commands.specs.declared.fault.Fault.TheVariants.{WriteWitnessBurnt}
 
 -- nothing is changed but whether a read of the state may fail
 pub record Stays (old new : Held) : Type 0 where
@@ -22,6 +27,22 @@ pub record Stays (old new : Held) : Type 0 where
   pub nodes : new.nodes ≡ old.nodes
   pub in_use : new.in_use ≡ old.in_use
   pub nodes_fault : new.nodes_fault ≡ old.nodes_fault
+  pub witness : new.witness ≡ old.witness
+
+-- what is held of the witness
+abbrev pub WitnessHeld : Type 0
+WitnessHeld = Result (Option (List ℕ)) WorldFault
+
+-- it can be read, and does not refuse this state
+abbrev pub IsWatched : KeyState → WitnessHeld → Type 0
+IsWatched state held = (watch : Watch) × (held ≡ Ok watch) × IsAdmitted watch state.key.i state.index
+
+-- it says that n indices more of a state are used, where there is one; of none, it stays
+abbrev pub noted : ℕ → KeyState → WitnessHeld → WitnessHeld
+noted zero state held = held
+noted (suc n) state (Ok (Some text)) = Ok (Some (witness_text state.key.i (state.index + suc n)))
+noted (suc n) state (Ok None) = Ok None
+noted (suc n) state (Err fault) = Err fault
 
 -- nothing is changed but files
 abbrev pub OnlyFiles : Held → Held → Type 0
@@ -81,9 +102,20 @@ FailsToOpen fault old new =
     ⊎ ((bad : ImageFault) × (fault ≡ BadState bad) × WasBad old.state bad)))
     × Stays old new
 
+-- why it is not opened with its witness: memory ran out; or that can't be read; or it can, and the state
+-- can't be opened, or is refused, since the witness is none of its key, or says more
+abbrev pub FailsToWatch : Fault → Held → Held → Type 0
+FailsToWatch fault old new =
+    ((fault ≡ OutOfMemory) × Stays old new)
+    ⊎ (((fault ≡ ReadWitness) × (old.witness ≡ Err Device) × Stays old new)
+    ⊎ (((watch : Watch) × (old.witness ≡ Ok watch) × FailsToOpen fault old new)
+    ⊎ ((found : FindsState old new) × (text : List ℕ) × (old.witness ≡ Ok (Some text))
+    × IsRefusedBy (Some text) found.state.key.i found.state.index fault)))
+
 -- fewer than n indices are left, so many
 pub record LacksIndices (n left : ℕ) (old new : Held) : Type 0 where
   pub finds : FindsState old new
+  pub watched : IsWatched finds.state old.witness
   pub few : capacity_of (hss_key_of finds.state.key) < finds.state.index + n
   pub left_is : left ≡ capacity_of (hss_key_of finds.state.key) - finds.state.index
 
@@ -91,25 +123,31 @@ pub record LacksIndices (n left : ℕ) (old new : Held) : Type 0 where
 pub record BurnsIndices (n start : ℕ) (old new : Held) : Type 0 where
   pub state : KeyState
   pub was : WasState state old.state
+  pub watched : IsWatched state old.witness
   pub start_is : start ≡ state.index
   pub within : state.index + n ≤ capacity_of (hss_key_of state.key)
   pub files : new.files ≡ old.files
   pub nodes : new.nodes ≡ old.nodes
+  pub witness : new.witness ≡ old.witness
   pub left : (new.state ≡ old.state) ⊎ IsLeftBy (image_using n state) old.state new.state
 
--- they are stored as used
+-- they are stored as used, and the witness does not say so
 pub record UsesIndices (n : ℕ) (old new : Held) : Type 0 where
   pub state : KeyState
   pub was : WasState state old.state
+  pub watched : IsWatched state old.witness
   pub within : state.index + n ≤ capacity_of (hss_key_of state.key)
   pub files : new.files ≡ old.files
   pub nodes : new.nodes ≡ old.nodes
+  pub witness : new.witness ≡ old.witness
   pub stored : new.state ≡ only (image_using n state)
 
 -- why n indices of a state that is opened sign nothing, and what is left
 abbrev pub SignsNone : ℕ → Fault → Held → Held → Type 0
 SignsNone n fault old new =
-    ((fault ≡ OutOfMemory) × FindsState old new)
+    ((fault ≡ OutOfMemory) × ((found : FindsState old new) × IsWatched found.state old.witness))
     ⊎ (((left : ℕ) × (fault ≡ Exhausted left) × LacksIndices n left old new)
     ⊎ (((start : ℕ) × (fault ≡ WriteStateBurnt start n) × BurnsIndices n start old new)
-    ⊎ ((fault ≡ OutOfMemoryBurnt n) × UsesIndices n old new)))
+    ⊎ (((fault ≡ OutOfMemoryBurnt n) × UsesIndices n old new)
+    ⊎ ((uses : UsesIndices n old new) × ((text : List ℕ) × (old.witness ≡ Ok (Some text)))
+    × (fault ≡ WriteWitnessBurnt uses.state.index (uses.state.index + n - 1))))))

@@ -106,6 +106,29 @@ TriesUse n state old new =
     × FailsToWrite (image_using n state) read left
     × PutsBack taken left old new
 
+-- the image that counts all indices below this one as used
+abbrev pub image_below : ℕ → KeyState → List ℕ
+image_below end state = image_of state.key end (state.openings + 1) state.burnt
+
+-- how many indices are counted as used once images were stored that count up to these ends, the last first
+abbrev pub used_after : KeyState → List ℕ → ℕ
+used_after state [] = state.index
+used_after state (end ∷ earlier) = end
+
+-- such images are stored one after another, each for certain, and each counts more than the one before
+abbrev pub StoresUpTo : KeyState → List ℕ → StoreView → StoreView → Type 0
+StoresUpTo state [] read left = left ≡ read
+StoresUpTo state (end ∷ earlier) read left =
+    (before : StoreView) × StoresUpTo state earlier read before × (used_after state earlier < end)
+    × (left ≡ after_write (image_below end state) before)
+
+-- so some images are stored, none that counts beyond this end, and then perhaps one more, not for certain
+abbrev pub StoresSome : ℕ → KeyState → StoreView → StoreView → Type 0
+StoresSome end state read left =
+    (ends : List ℕ) × (mid : StoreView) × (used_after state ends ≤ end) × StoresUpTo state ends read mid
+    × ((left ≡ mid)
+    ⊎ ((at : ℕ) × (used_after state ends < at) × (at ≤ end) × FailsToWrite (image_below at state) mid left))
+
 -- n indices of a state that was opened are not used: there are too few, or memory runs out
 abbrev pub LeavesUnsigned : ℕ → Fault → KeyState → WorldCalls → WorldCalls → Type 0
 LeavesUnsigned n fault state old new =

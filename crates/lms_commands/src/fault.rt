@@ -36,6 +36,8 @@ pub enum Fault {
     BadRandom,
     /// The text for the workers is no decimal number from 1 to the most of a batch.
     BadWorkers,
+    /// The text for the counter is no number in decimal.
+    BadCounter,
     /// A file is no HSS public key of known typecodes, or two keys have more than 8 levels together.
     BadPublicKey,
     /// The endorsement is not accepted for the signer's key under the top key.
@@ -48,6 +50,8 @@ pub enum Fault {
     TooManyJobs,
     /// A new key's state is there already.
     StateExists,
+    /// Something has the name of the state's witness already.
+    WitnessExists,
     /// The state's lock is not available: another program has it, or its file can't be made.
     StateInUse,
     /// The state is not there, or can't be read.
@@ -58,6 +62,21 @@ pub enum Fault {
     WriteState,
     /// The state was not stored for certain: `len` indices from `start` on are burnt.
     WriteStateBurnt { start: u64, len: u64 },
+    /// The witness is not there, or can't be read.
+    ReadWitness,
+    /// The witness is none of the state's key.
+    BadWitness,
+    /// The witness says that more indices are used than the state does.
+    StateOlder,
+    /// It doesn't, so that there is nothing to resume.
+    StateNotOlder,
+    /// The counter of the state, or of its witness, is this one and not the one that was expected.
+    OtherCounter { counter: u64 },
+    /// A witness was not made for certain: it is not there, or says what it did, or what it should.
+    WriteWitness,
+    /// The witness was not written for certain: the indices from `first` to `last` are used, and
+    /// sign nothing.
+    WriteWitnessBurnt { first: u64, last: u64 },
     /// The key has fewer indices left than are asked for.
     Exhausted { left: u64 },
     /// Memory ran out.
@@ -87,17 +106,26 @@ impl Fault {
             | Fault::BadId
             | Fault::BadRandom
             | Fault::BadWorkers
+            | Fault::BadCounter
             | Fault::BadPublicKey
             | Fault::BadEndorsement
             | Fault::BadSignature
             | Fault::BadJob { .. }
             | Fault::TooManyJobs => Status::Usage,
             Fault::StateExists
+            | Fault::WitnessExists
             | Fault::StateInUse
             | Fault::ReadState
             | Fault::BadState(_)
             | Fault::WriteState
-            | Fault::WriteStateBurnt { .. } => Status::State,
+            | Fault::WriteStateBurnt { .. }
+            | Fault::ReadWitness
+            | Fault::BadWitness
+            | Fault::StateOlder
+            | Fault::StateNotOlder
+            | Fault::OtherCounter { .. }
+            | Fault::WriteWitness
+            | Fault::WriteWitnessBurnt { .. } => Status::State,
             Fault::Exhausted { .. } => Status::Exhausted,
             Fault::OutOfMemory | Fault::OutOfMemoryBurnt { .. } => Status::Memory,
             Fault::Partial { .. } => Status::Negative,
@@ -118,18 +146,29 @@ impl fmt::Display for Fault {
             Fault::BadId => f.write_str("bad id"),
             Fault::BadRandom => f.write_str("bad random"),
             Fault::BadWorkers => f.write_str("bad workers"),
+            Fault::BadCounter => f.write_str("bad counter"),
             Fault::BadPublicKey => f.write_str("bad public key"),
             Fault::BadEndorsement => f.write_str("bad endorsement"),
             Fault::BadSignature => f.write_str("bad signature"),
             Fault::BadJob { line } => write!(f, "{}", JobsFault::BadJob { line }),
             Fault::TooManyJobs => write!(f, "{}", JobsFault::TooManyJobs),
             Fault::StateExists => f.write_str("state exists"),
+            Fault::WitnessExists => f.write_str("witness exists"),
             Fault::StateInUse => f.write_str("state in use"),
             Fault::ReadState => write!(f, "{}", OpenFault::Store),
             Fault::BadState(fault) => write!(f, "{}", OpenFault::Image(fault)),
             Fault::WriteState => write!(f, "{StoreFault}"),
             Fault::WriteStateBurnt { start, len } => {
                 write!(f, "{}", BookFault::Store { start, len })
+            }
+            Fault::ReadWitness => f.write_str("cannot read witness"),
+            Fault::BadWitness => f.write_str("bad witness"),
+            Fault::StateOlder => f.write_str("state is older than its witness"),
+            Fault::StateNotOlder => f.write_str("state is not older than its witness"),
+            Fault::OtherCounter { counter } => write!(f, "counter is {counter}"),
+            Fault::WriteWitness => f.write_str("cannot write witness"),
+            Fault::WriteWitnessBurnt { first, last } => {
+                write!(f, "cannot write witness: {first} to {last} burnt")
             }
             Fault::Exhausted { left } => write!(f, "{}", BookFault::Exhausted { left }),
             Fault::OutOfMemory => write!(f, "{OutOfMemory}"),

@@ -9,6 +9,7 @@ mod files;
 mod keeping;
 mod resources;
 mod status;
+mod witness;
 
 pub use crate::fault::{Fault, print_fault};
 pub use crate::files::{
@@ -17,3 +18,4 @@ pub use crate::files::{
 pub use crate::keeping::{keep_trees, kept_text};
 pub use crate::resources::Resources;
 pub use crate::status::Status;
+pub use crate::witness::{Witness, discard, note, open_watched, see_witness};

@@ -1,4 +1,8 @@
 //! A draft beside a file, and how it replaces the file.
+ghost use Rattle.std.specs.Prelude.{OnOk};
+ghost use Rattle.std.specs.Io.KnownBytes.{Appends};
+ghost use Rattle.lms_file_store.specs.FileStores.{AreWrittenTo};
+
 use crate::paths::OWNER_ONLY;
 use std::fs::{OpenFile, OpenOptions};
 use std::io::{ErrorKind, Write};
@@ -29,8 +33,10 @@ pub(crate) fn place_draft<R: Files>(
     text: &[u8],
     draft: &str,
     name: &str,
-) -> io::Result<()> {
-    let placed = fill(file, text).and_then(|()| fs::rename(files, draft, name));
+) -> io::Result<()>
+    ensures { OnOk result (AreWrittenTo R.File R.File.contents file text.now) }
+{
+    let placed = fill_and_close(file, text).and_then(|()| fs::rename(files, draft, name));
     if placed.is_err() {
         let _ = fs::remove_file(files, draft);
     }
@@ -38,8 +44,17 @@ pub(crate) fn place_draft<R: Files>(
 }
 
 /// Writes the bytes to a file, flushes it and closes it.
-fn fill<F: OpenFile + Write + Drop>(file: F, text: &[u8]) -> io::Result<()> {
+pub(crate) fn fill_and_close<F: OpenFile + Write + Drop>(file: F, text: &[u8]) -> io::Result<()>
+    ensures { OnOk result (AreWrittenTo F F.contents file text.now) }
+{
     let mut file = file;
+    fill(&mut file, text)
+}
+
+/// Writes the bytes to a file and flushes it.
+fn fill<F: OpenFile + Write>(file: &mut F, text: &[u8]) -> io::Result<()>
+    ensures { OnOk result (Appends (F.contents file.old) (F.contents file.new) text.now) }
+{
     file.write_all(text)?;
     file.sync_all()
 }

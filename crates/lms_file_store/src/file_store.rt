@@ -1,10 +1,10 @@
 //! A store in a file.
-ghost use Rattle.std.specs.Prelude.{◌≡◌, IfOk};
-ghost use Rattle.lms_file_store.specs.FileStores.{fresh, giving, failed};
+ghost use Rattle.std.specs.Prelude.{◌≡◌, IfOk, OnOk};
+ghost use Rattle.lms_file_store.specs.FileStores.{AreLeft, AreLeftIn, AreWritten, fresh, giving, failed};
 
 use crate::drafts::{make_draft, place_draft};
 use crate::locking::StateLock;
-use crate::paths::{folder_of, sibling};
+use crate::paths::{DRAFT, folder_of, sibling};
 use crate::record::Record;
 use lms_book::{LastRead, ReadFault, StateStore, StoreFault, StoredBytes};
 use lms_params::OutOfMemory;
@@ -54,7 +54,7 @@ impl<'a, R: Files> FileStore<'a, R> {
         ensures { IfOk result (λ store. store ≡ fresh) }
     {
         let state = String::from_str(alloc, lock.path())?;
-        let draft = sibling(alloc, state.as_str(), ".new")?;
+        let draft = sibling(alloc, state.as_str(), DRAFT)?;
         let folder = String::from_str(alloc, folder_of(state.as_str()))?;
         Ok(FileStore {
             files,
@@ -68,11 +68,10 @@ impl<'a, R: Files> FileStore<'a, R> {
     }
 
     /// All bytes of the file.
-    fn fetch(&self, alloc: Global) -> io::Result<Vec<u8>> {
-        let mut file = fs::open(self.files, self.state.as_str())?;
-        let mut text = Vec::new(alloc);
-        file.read_to_end(&mut text)?;
-        Ok(text)
+    fn fetch(&self, alloc: Global) -> io::Result<Vec<u8>>
+        ensures { IfOk result (λ text. AreLeft R.File R.File.remaining text.items) }
+    {
+        read_rest(alloc, fs::open(self.files, self.state.as_str())?)
     }
 
     /// Writes the bytes beside the state, flushes them, and renames them over the state. A crash
@@ -80,7 +79,9 @@ impl<'a, R: Files> FileStore<'a, R> {
     /// the folder it leaves the old or the new one. Where a step up to the rename fails no draft is
     /// left if possible. The folder is opened first, so that nothing changes where it can't be
     /// opened.
-    fn put(&self, text: &[u8]) -> io::Result<()> {
+    fn put(&self, text: &[u8]) -> io::Result<()>
+        ensures { OnOk result (AreWritten R.File R.File.contents text.now) }
+    {
         let folder = fs::open(self.files, self.folder.as_str())?;
         let (draft, state) = (self.draft.as_str(), self.state.as_str());
         let file = make_draft(self.files, draft)?;
@@ -103,6 +104,15 @@ impl<'a, R: Files> FileStore<'a, R> {
     }
 }
 
+/// All that is left in a file, which it closes.
+fn read_rest<F: Read + Drop>(alloc: Global, file: F) -> io::Result<Vec<u8>>
+    ensures { IfOk result (λ text. AreLeftIn F F.remaining file text.items) }
+{
+    let (mut file, mut text) = (file, Vec::new(alloc));
+    file.read_to_end(&mut text)?;
+    Ok(text)
+}
+
 impl<R: Files + Sync> StateStore for FileStore<'_, R> {
     ghost use Rattle.std.specs.Prelude.{true};
     ghost use Rattle.lms_file_store.specs.FileStores.{view_of, ReadsKnown, RecordsWrite};
@@ -120,6 +130,7 @@ impl<R: Files + Sync> StateStore for FileStore<'_, R> {
     fn read(&mut self, alloc: Global) -> Result<Vec<u8>, ReadFault>
         ensures seen { ReadsStore true (view_of self.old) result (view_of self.new) }
         ensures known { ReadsKnown self.old result self.new }
+        ensures left { IfOk result (λ text. AreLeft R.File R.File.remaining text.items) }
     {
         match self.fetch(alloc) {
             Ok(text) if self.writes.knows(&text) => {
@@ -142,6 +153,7 @@ impl<R: Files + Sync> StateStore for FileStore<'_, R> {
     fn replace(&mut self, text: &[u8]) -> Result<(), StoreFault>
         ensures writes { WritesStore text.now (view_of self.old) result (view_of self.new) }
         ensures recorded { RecordsWrite self.old text.now result self.new }
+        ensures written { OnOk result (AreWritten R.File R.File.contents text.now) }
     {
         let Some(kept) = StoredBytes::new(text) else {
             self.fail();

@@ -1,9 +1,10 @@
-//! A key's state in a file, the lock on it, the nodes of its trees that are kept beside it, and
-//! other files, which never take a state's place.
+//! A key's state in a file, the lock on it, the nodes of its trees and the witness that are kept
+//! beside it, and other files, which never take a state's place.
 //!
 //! A store is made from the lock on its file. Hold the lock as long as the store is used: two
 //! stores in one file give an index twice. So does an older copy of the file that is put back, or a
-//! second name of it by a hard link; nothing here can see these.
+//! second name of it by a hard link; no store can see these, and only who compares the state with
+//! its witness sees the former.
 //!
 //! No contract knows a disk. What is proved is about the bytes written through a store, under two
 //! assumptions: a rename replaces the file whole, so that a crash within it leaves the old file or
@@ -19,9 +20,11 @@ mod nodes;
 mod outputs;
 mod paths;
 mod record;
+mod witness;
 
 pub use crate::fault::LockFault;
 pub use crate::file_store::FileStore;
 pub use crate::locking::{StateLock, TryLock, lock};
 pub use crate::outputs::{write_flushed, write_output};
+pub use crate::witness::{MOST_WITNESS, WitnessDraft, make_witness};
 pub use lms_params::OutOfMemory;

@@ -2,21 +2,16 @@
 //!
 //! A reader does not depend on it: it may be missing, and a check value in it has to show whether
 //! it is what was written.
-ghost use Rattle.std.specs.Prelude.{◌≤◌, length, IfSome};
+ghost use Rattle.std.specs.Prelude.{◌≤◌, length, IfOk, IfSome, OnOk};
+ghost use Rattle.lms_file_store.specs.FileStores.{AreLeft, AreLeftIn, AreWritten};
 
 use crate::drafts::{make_draft, place_draft};
 use crate::locking::StateLock;
-use crate::paths::sibling;
+use crate::paths::{NODES, NODES_DRAFT, sibling};
 use std::alloc::Global;
 use std::io::Read;
 use std::rt::Files;
 use std::{fs, io};
-
-/// The name of the file after that of the state.
-const NODES: &str = ".nodes";
-
-/// The same of its draft.
-const DRAFT: &str = ".nodes.new";
 
 impl<F> StateLock<F> {
     /// The bytes of the file `NAME.nodes` beside the state, where NAME is that of the state's file
@@ -29,11 +24,12 @@ impl<F> StateLock<F> {
     /// `most`.
     pub fn read_nodes<R: Files>(&self, files: &R, alloc: Global, most: usize) -> Option<Vec<u8>>
         ensures at_most { IfSome result (λ text. length text.items ≤ most) }
+        ensures left { IfSome result (λ text. AreLeft R.File R.File.remaining text.items) }
     {
         let name = sibling(alloc, self.path(), NODES).ok()?;
         let size = plain_size(files, name.as_str(), most)?;
-        let text = read_up_to(files, alloc, name.as_str(), size).ok()?;
-        if text.len() <= size { Some(text) } else { None }
+        let file = fs::open(files, name.as_str()).ok()?;
+        read_at_most(alloc, file, size).ok()?
     }
 
     /// Makes these the bytes of that file. They are written to a new file `NAME.nodes.new`, which
@@ -44,9 +40,11 @@ impl<F> StateLock<F> {
     ///
     /// An error where a step fails, and where memory for the paths is refused. Then the file is as
     /// it was, and the new one is removed where possible.
-    pub fn write_nodes<R: Files>(&self, files: &R, alloc: Global, text: &[u8]) -> io::Result<()> {
+    pub fn write_nodes<R: Files>(&self, files: &R, alloc: Global, text: &[u8]) -> io::Result<()>
+        ensures { OnOk result (AreWritten R.File R.File.contents text.now) }
+    {
         let name = sibling(alloc, self.path(), NODES)?;
-        let draft = sibling(alloc, self.path(), DRAFT)?;
+        let draft = sibling(alloc, self.path(), NODES_DRAFT)?;
         let file = make_draft(files, draft.as_str())?;
         place_draft(files, file, text, draft.as_str(), name.as_str())
     }
@@ -66,11 +64,22 @@ fn plain_size<R: Files>(files: &R, name: &str, most: usize) -> Option<usize>
     }
 }
 
-/// The first bytes of a file, up to one more than `size`, in memory for these.
-fn read_up_to<R: Files>(files: &R, alloc: Global, name: &str, size: usize) -> io::Result<Vec<u8>> {
-    let most = size.saturating_add(1);
-    let mut text = Vec::with_capacity(alloc, most)?;
-    let file = fs::open(files, name)?;
-    file.take(most as u64).read_to_end(&mut text)?;
-    Ok(text)
+/// All that is left in a file, which it closes. `None` where that is over `most` bytes. It takes memory
+/// for one byte more than these.
+pub(crate) fn read_at_most<F: Read + Drop>(
+    alloc: Global,
+    file: F,
+    most: usize,
+) -> io::Result<Option<Vec<u8>>>
+    ensures at_most { IfOk result (λ found. IfSome found (λ text. length text.items ≤ most)) }
+    ensures left { IfOk result (λ found.
+        IfSome found (λ text. AreLeftIn F F.remaining file text.items)) }
+{
+    let limit = most.saturating_add(1);
+    let mut text = Vec::with_capacity(alloc, limit)?;
+    file.take(limit as u64).read_to_end(&mut text)?;
+    if text.len() >= limit {
+        return Ok(None);
+    }
+    Ok(Some(text))
 }

@@ -8,6 +8,15 @@ use std::path::Path;
 use std::rt::Files;
 use std::{fs, io};
 
+/// The name of a draft after that of the file that it is to replace.
+pub(crate) const DRAFT: &str = ".new";
+
+/// The name of the file of kept nodes after that of the state.
+pub(crate) const NODES: &str = ".nodes";
+
+/// The same of its draft.
+pub(crate) const NODES_DRAFT: &str = ".nodes.new";
+
 /// Reading and writing for the owner alone, since the state holds the secret seed.
 pub(crate) const OWNER_ONLY: u32 = 0o600;
 

@@ -1,6 +1,7 @@
 mod locks;
 mod nodes;
 mod outputs;
+mod witness;
 
 use lms_book::{ReadFault, StateStore, StoreFault};
 use lms_file_store::{FileStore, LockFault, StateLock, lock};

@@ -48,7 +48,7 @@ joins_in_memory names old new earlier now (parts, joined, last, reads, joins, ca
       joins = joins;
       file = written_file names.out joined old.files new.files is.files;
       only = same_held (record old { files = new.files }) new refl is.state is.may_fail is.in_use
-          is.nodes is.nodes_fault;
+          is.nodes is.nodes_fault is.witness;
     }
 
 module _ (names : JoinNames) (earlier : WorldCalls) (old new : Held) where
@@ -62,14 +62,14 @@ module _ (names : JoinNames) (earlier : WorldCalls) (old new : Held) where
       let is = told old new (record { calls = first; are = calls }) follows in
       let why = read_refused fault names.public old.files refused is.tell.1 in (
         ⊎_elim inl (λ at. inr (inl (at.0, inl at.1))) why,
-        same_held old new is.files is.state is.may_fail is.in_use is.nodes is.nodes_fault,
+        same_held old new is.files is.state is.may_fail is.in_use is.nodes is.nodes_fault is.witness,
       )
   unjoined fault now (inl (inl (refused, inr (one, calls)))) follows =
       let first = Read names.endorsement (Err (read_cause fault)) ∷ Read names.public (Ok one) ∷ [] in
       let is = told old new (record { calls = first; are = calls }) follows in
       let why = read_refused fault names.endorsement old.files refused is.tell.1 in (
         ⊎_elim inl (λ at. inr (inl (at.0, inr (inl at.1)))) why,
-        same_held old new is.files is.state is.may_fail is.in_use is.nodes is.nodes_fault,
+        same_held old new is.files is.state is.may_fail is.in_use is.nodes is.nodes_fault is.witness,
       )
   unjoined fault now (inl (inr (one, two, last, reads, (refused, inl calls)))) follows =
       let first = Read names.endorsement (Ok two) ∷ Read names.public (Ok one) ∷ [] in
@@ -77,7 +77,7 @@ module _ (names : JoinNames) (earlier : WorldCalls) (old new : Held) where
       let is = told old new (and_then both calls) follows in
       let why = read_refused fault names.signer old.files refused is.tell.1 in (
         ⊎_elim inl (λ at. inr (inl (at.0, inr (inr (inl at.1))))) why,
-        same_held old new is.files is.state is.may_fail is.in_use is.nodes is.nodes_fault,
+        same_held old new is.files is.state is.may_fail is.in_use is.nodes is.nodes_fault is.witness,
       )
   unjoined fault now (inl (inr (one, two, last, reads, (refused, inr (three, calls))))) follows =
       let first = Read names.endorsement (Ok two) ∷ Read names.public (Ok one) ∷ [] in
@@ -86,13 +86,13 @@ module _ (names : JoinNames) (earlier : WorldCalls) (old new : Held) where
       let is = told old new (and_then then calls) follows in
       let why = read_refused fault names.signature old.files refused is.tell.1 in (
         ⊎_elim inl (λ at. inr (inl (at.0, inr (inr (inr at.1))))) why,
-        same_held old new is.files is.state is.may_fail is.in_use is.nodes is.nodes_fault,
+        same_held old new is.files is.state is.may_fail is.in_use is.nodes is.nodes_fault is.witness,
       )
   unjoined fault now (inr (parts, last, reads, inl (why, none))) follows =
       let added : Adds earlier now = record { calls = four_reads names parts; are = none ∙ reads } in
       let is = told old new added follows in (
         inr (inr (parts, held_parts names parts old new is, inl why)),
-        same_held old new is.files is.state is.may_fail is.in_use is.nodes is.nodes_fault,
+        same_held old new is.files is.state is.may_fail is.in_use is.nodes is.nodes_fault is.witness,
       )
   unjoined fault now (inr (parts, last, reads, inr (joined, joins, refused, calls))) follows =
       let is = told old new (and_then (read_so names parts reads) calls) follows in
@@ -102,8 +102,8 @@ module _ (names : JoinNames) (earlier : WorldCalls) (old new : Held) where
         signer = is.tell.0.0.1;
         signature = is.tell.0.1;
       } in (
-        inr (inr (parts, held, inr (refused, (joined, joins)))),
-        same_held old new is.files is.state is.may_fail is.in_use is.nodes is.nodes_fault,
+        inr (inr (parts, held, inr (refused, is.tell.1, (joined, joins)))),
+        same_held old new is.files is.state is.may_fail is.in_use is.nodes is.nodes_fault is.witness,
       )
 
 pub fails_to_join_in_memory : FailsToJoinInMemory
@@ -129,7 +129,7 @@ joins_keys_in_memory public signer out old new earlier now
       joinable = joinable;
       file = written_file out (joined_public top_public signer_public) old.files new.files is.files;
       only = same_held (record old { files = new.files }) new refl is.state is.may_fail is.in_use
-          is.nodes is.nodes_fault;
+          is.nodes is.nodes_fault is.witness;
     }
 
 pub fails_to_join_keys_in_memory : FailsToJoinKeysInMemory
@@ -138,14 +138,14 @@ fails_to_join_keys_in_memory public signer out fault old new earlier now (inl (r
     let is = told old new (record { calls = first; are = calls }) follows in
     let why = read_refused fault public old.files refused is.tell.1 in (
       ⊎_elim inl (λ at. inr (inl (at.0, inl at.1))) why,
-      same_held old new is.files is.state is.may_fail is.in_use is.nodes is.nodes_fault,
+      same_held old new is.files is.state is.may_fail is.in_use is.nodes is.nodes_fault is.witness,
     )
 fails_to_join_keys_in_memory public signer out fault old new earlier now (inl (refused, inr (one, calls))) follows =
     let first = Read signer (Err (read_cause fault)) ∷ Read public (Ok one) ∷ [] in
     let is = told old new (record { calls = first; are = calls }) follows in
     let why = read_refused fault signer old.files refused is.tell.1 in (
       ⊎_elim inl (λ at. inr (inl (at.0, inr at.1))) why,
-      same_held old new is.files is.state is.may_fail is.in_use is.nodes is.nodes_fault,
+      same_held old new is.files is.state is.may_fail is.in_use is.nodes is.nodes_fault is.witness,
     )
 fails_to_join_keys_in_memory public signer out fault old new earlier now
     (inr (top_public, signer_public, last, reads, inl (at, apart, none))) follows =
@@ -153,11 +153,11 @@ fails_to_join_keys_in_memory public signer out fault old new earlier now
     let added : Adds earlier now = record { calls = first; are = none ∙ reads } in
     let is = told old new added follows in (
       inr (inr (top_public, signer_public, is.tell.0.1, is.tell.1, inl (at, apart))),
-      same_held old new is.files is.state is.may_fail is.in_use is.nodes is.nodes_fault,
+      same_held old new is.files is.state is.may_fail is.in_use is.nodes is.nodes_fault is.witness,
     )
 fails_to_join_keys_in_memory public signer out fault old new earlier now
     (inr (top_public, signer_public, last, reads, inr (joinable, refused, calls))) follows =
     let is = told old new (and_then (both_read public signer top_public signer_public reads) calls) follows in (
-      inr (inr (top_public, signer_public, is.tell.0.0.1, is.tell.0.1, inr (refused, joinable))),
-      same_held old new is.files is.state is.may_fail is.in_use is.nodes is.nodes_fault,
+      inr (inr (top_public, signer_public, is.tell.0.0.1, is.tell.0.1, inr (refused, is.tell.1, joinable))),
+      same_held old new is.files is.state is.may_fail is.in_use is.nodes is.nodes_fault is.witness,
     )

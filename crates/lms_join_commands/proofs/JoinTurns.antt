@@ -5,10 +5,10 @@ use Rattle.lms_join.specs.Joined.{joined_public}
 use Rattle.lms_join.specs.Keys.{AreJoinable}
 use Rattle.lms_world.specs.Names.{Bytes}
 use Rattle.lms_world.specs.Events.{Read, Writing, Written}
-use Rattle.lms_commands.specs.Histories.{StoresNothing, hands_out, store_calls, written_in}
+use Rattle.lms_commands.specs.Histories.{StoresNothing, hands_out, written_in}
 use Rattle.lms_commands.specs.Logs.{WorldCalls, read_cause, write_cause}
 use Rattle.lms_commands.specs.declared.fault.Fault.{Fault}
-use Rattle.lms_commands.proofs.Turns.{Ends, idle_as, one_more}
+use Rattle.lms_commands.proofs.Turns.{Ends, idle_as, kept_calls, one_more}
 use Rattle.lms_join_commands.specs.JoinLogs.{JoinNames, JoinParts, JoinsParts, LogsJoin, LogsJoinFailed, LogsJoinKeys}
 use Rattle.lms_join_commands.specs.JoinLogs.{LogsJoinKeysFailed, ReadsParts, ReadsTwo}
 use Rattle.lms_join_commands.specs.Joined.{HandsJoined, HandsJoinedKey, WasRead}
@@ -17,7 +17,7 @@ use Rattle.lms_join_commands.specs.Joined.{HandsJoined, HandsJoinedKey, WasRead}
 
 module _ (names : JoinNames) (before printed : List ℕ) (same : printed ≡ before) where
   -- nothing is written
-  quiet : (whole calls : WorldCalls) → whole ≡ calls → store_calls calls ≡ [] → list_any hands_out calls ≡ false
+  quiet : (whole calls : WorldCalls) → whole ≡ calls → kept_calls calls ≡ [] → list_any hands_out calls ≡ false
       → written_in calls ≡ [] → Ends (HandsJoined names.signature) whole before printed
   quiet whole calls is none silent no_file =
       (StoresNothing, idle_as whole calls is none silent, (same, inl (ap written_in is ∙ no_file)))
@@ -61,7 +61,7 @@ module _ (names : JoinNames) (before printed : List ℕ) (same : printed ≡ bef
 -- ---- `join-public`
 
 module _ (public signer out : Bytes) (before printed : List ℕ) (same : printed ≡ before) where
-  no_key : (whole calls : WorldCalls) → whole ≡ calls → store_calls calls ≡ [] → list_any hands_out calls ≡ false
+  no_key : (whole calls : WorldCalls) → whole ≡ calls → kept_calls calls ≡ [] → list_any hands_out calls ≡ false
       → written_in calls ≡ [] → Ends HandsJoinedKey whole before printed
   no_key whole calls is none silent no_file =
       (StoresNothing, idle_as whole calls is none silent, (same, inl (ap written_in is ∙ no_file)))

@@ -3,9 +3,9 @@ use Rattle.std.specs.Prelude.{ℕ, ◌≡◌, ◌⊎◌, List, Some, Ok}
 use Rattle.lms_join.specs.Joined.{joined_public}
 use Rattle.lms_join.specs.Keys.{AreJoinable}
 use Rattle.lms_world.specs.Names.{Bytes}
-use Rattle.lms_world.specs.Held.{Follows, Held, answer_in}
+use Rattle.lms_world.specs.Held.{Follows, Held, MayRefuse, answer_in}
 use Rattle.lms_commands.specs.InMemory.{IsUnreadable, OnlyFiles, WritesFile}
-use Rattle.lms_commands.specs.Logs.{IsWriteRefused, WorldCalls}
+use Rattle.lms_commands.specs.Logs.{IsWriteRefused, WorldCalls, write_cause}
 use Rattle.lms_commands.specs.declared.fault.Fault.{Fault}
 use Rattle.lms_commands.specs.declared.fault.Fault.TheVariants.{BadPublicKey, OutOfMemory, ReadInput}
 use Rattle.lms_join_commands.specs.JoinLogs.{AreUnjoined, JoinNames, JoinParts, JoinsParts, LogsJoin, LogsJoinFailed}
@@ -43,7 +43,8 @@ FailsToJoin names fault held =
     ⊎ (IsUnreadable names.signer held ⊎ IsUnreadable names.signature held))))
     ⊎ ((parts : JoinParts) × HoldsParts names parts held
     × (AreUnjoined parts fault
-    ⊎ (IsWriteRefused fault × ((joined : List ℕ) × JoinsParts parts joined)))))
+    ⊎ (IsWriteRefused fault × MayRefuse held names.out (write_cause fault)
+    × ((joined : List ℕ) × JoinsParts parts joined)))))
 
 -- of a world in memory, this is why `join` fails, and changes nothing
 abbrev pub FailsToJoinInMemory : Type 0
@@ -72,14 +73,15 @@ JoinsKeysInMemory = (public signer out : Bytes) (old new : Held) (earlier now : 
     → JoinsKeysIn public signer out old new
 
 -- why no keys are joined
-abbrev pub FailsToJoinKeys : Bytes → Bytes → Fault → Held → Type 0
-FailsToJoinKeys public signer fault held =
+abbrev pub FailsToJoinKeys : Bytes → Bytes → Bytes → Fault → Held → Type 0
+FailsToJoinKeys public signer out fault held =
     (fault ≡ OutOfMemory)
     ⊎ (((fault ≡ ReadInput) × (IsUnreadable public held ⊎ IsUnreadable signer held))
     ⊎ ((top_public signer_public : List ℕ) × (answer_in held.files public ≡ Ok top_public)
     × (answer_in held.files signer ≡ Ok signer_public)
     × (((fault ≡ BadPublicKey) × ¬ AreJoinable top_public signer_public)
-    ⊎ (IsWriteRefused fault × AreJoinable top_public signer_public))))
+    ⊎ (IsWriteRefused fault × MayRefuse held out (write_cause fault)
+    × AreJoinable top_public signer_public))))
 
 -- of a world in memory, this is why `join-public` fails, and changes nothing
 abbrev pub FailsToJoinKeysInMemory : Type 0
@@ -87,4 +89,4 @@ FailsToJoinKeysInMemory = (public signer out : Bytes) (fault : Fault) (old new :
     (earlier now : WorldCalls)
     → LogsJoinKeysFailed public signer out fault earlier now
     → Follows (Some old) earlier (Some new) now
-    → FailsToJoinKeys public signer fault old × (new ≡ old)
+    → FailsToJoinKeys public signer out fault old × (new ≡ old)

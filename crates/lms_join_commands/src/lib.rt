@@ -5,7 +5,7 @@
 mod files;
 mod join;
 mod join_public;
-mod laws;
+pub mod laws;
 
 pub use crate::join::{JoinRequest, join_signature};
 pub use crate::join_public::join_public_keys;

@@ -1,3 +1,4 @@
 pub mod Laws
+pub mod Planned
 pub mod Signed
 pub mod Ways

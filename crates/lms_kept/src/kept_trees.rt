@@ -13,6 +13,7 @@ use crate::kept_level::KeptLevel;
 use crate::kept_text::{CHECK_LEN, HEADER_LEN, check_value, checked_rest, header};
 use crate::levels::{leaves_from, level_len, shared_levels, signed_len};
 use crate::planned_level::{PlannedLevel, planned_levels};
+use crate::planned_trees::PlannedTrees;
 use lms_hss::{HSS_KEY_LEN, HssKey, Progress, public_key_bytes, verify};
 use lms_params::{HASH_LEN, OutOfMemory};
 use lms_tree::{Begun, bottom_height};
@@ -83,12 +84,8 @@ impl KeptTrees {
         ensures way { IfOk result IsWay }
         ensures genuine { IfOk result AreGenuine }
     {
-        let mut levels = Vec::with_capacity(alloc, key.levels.as_slice().len())?;
-        let top = PlannedLevel::new(alloc, &key, at, 0)?;
-        let below = planned_levels(alloc, &key, at, 1)?;
-        let begun = Begun::new(progress, leaves_from(&key, 0));
-        levels.push_reserved(KeptLevel::top(rt, top, &begun));
-        Ok(KeptTrees::completed(rt, key, at, levels, below, &begun))
+        let planned = PlannedTrees::new(alloc, key, at)?;
+        Ok(planned.compute(rt, progress))
     }
 
     /// Whether all levels are there and their nodes sign index g.
@@ -254,7 +251,7 @@ impl KeptTrees {
 
     /// Computes the planned levels that are missing, each below the one above it. The list of
     /// levels has room for all.
-    fn completed(
+    pub(crate) fn completed(
         rt: &(impl Threads + Sync),
         key: HssKey,
         at: u64,

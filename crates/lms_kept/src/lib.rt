@@ -12,6 +12,7 @@ mod kept_trees;
 pub mod laws;
 mod levels;
 mod planned_level;
+mod planned_trees;
 mod signing;
 
 pub use crate::kept_text::MOST_TEXT_LEN;

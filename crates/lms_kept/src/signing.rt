@@ -5,6 +5,7 @@ ghost use Rattle.lms_hss.specs.Keys.{hss_key_of};
 ghost use Rattle.lms_kept.specs.Signed.{AreTreesOf, IsNotRight, IsSignedByText};
 
 use crate::kept_trees::KeptTrees;
+use crate::planned_trees::PlannedSignature;
 use lms_book::Lease;
 use lms_hss::{HssKey, Progress};
 use lms_params::{HASH_LEN, OutOfMemory};
@@ -96,17 +97,8 @@ fn sign_anew(
         (text : Option (List ℕ)) → IsNotRight text key
         → IsSignedByText text key index c.now msg.now s.signature.items s.trees) }
 {
-    let memory = Vec::with_capacity(alloc, key.sig_len())?;
-    let trees = KeptTrees::compute(rt, alloc, key, index, progress)?;
-    let Some(signature) = trees.sign_in(memory, index, c, msg) else {
-        // Signatures by computed trees are accepted.
-        unreachable!()
-    };
-    Ok(KeptSignature {
-        index,
-        signature,
-        trees: Some(trees),
-    })
+    let planned = PlannedSignature::new(alloc, key, index)?;
+    Ok(planned.sign(rt, c, msg, progress))
 }
 
 /// Signs a message by the nodes in `text`. `None` where it is of another key, or its nodes are not

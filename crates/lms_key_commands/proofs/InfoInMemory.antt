@@ -33,6 +33,7 @@ found state before read {earlier} old new is calls follows =
         nodes = all.nodes;
         in_use = all.in_use;
         nodes_fault = all.nodes_fault;
+        witness = all.witness;
       };
     } in
     (all.tell.0.0.0.0.1, (finds, refl))

@@ -5,3 +5,10 @@ pub mod Logged
 pub mod NodesStaying
 pub mod PublicInMemory
 pub mod PublicTurns
+pub mod ResumeInMemory
+pub mod ResumeLogged
+pub mod ResumePieces
+pub mod ResumeStops
+pub mod ResumeTurns
+pub mod WitnessInMemory
+pub mod WitnessTurns

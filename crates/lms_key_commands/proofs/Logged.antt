@@ -1,5 +1,5 @@
 -- What `keygen` logged, by what its steps did.
-use Rattle.std.proofs.Common.{◌≡◌, ◌∙◌, inl, inr, Ok, Err, sym, ℕ, ◌+◌, ◌-◌, ◌≤◌, List, ◌∷◌}
+use Rattle.std.proofs.Common.{inl, inr, Ok, Err, sym, ℕ, List, ◌∷◌}
 use Rattle.std.proofs.Common.{subst}
 use Rattle.lms_world.specs.Events.{Writing, Written}
 use Rattle.lms_world.specs.Names.{Bytes}
@@ -20,6 +20,6 @@ pub unmade : (key : KeyOfCode) (public : Bytes) (before printed : List ℕ) (old
 unmade key public before printed old kept new writes fault (inl (refused, calls, same)) =
     let written = subst (λ (log : WorldCalls). WritesKey key public (Err (write_cause fault)) old log) (sym calls)
     (writes (Err (write_cause fault))) in
-    inl (same, inr (inr (refused, written)))
+    inl (same, inr (inr (inr (refused, written))))
 unmade key public before printed old kept new writes fault (inr (at, calls, line)) =
     inr (at, record { until_written = _; writes = writes (Ok tt); prints = calls }, line)

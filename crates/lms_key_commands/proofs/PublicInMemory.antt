@@ -10,7 +10,7 @@ use Rattle.lms_world.specs.Events.{Acquired, Event, Locked, Printing, PutBack, T
 use Rattle.lms_world.specs.Held.{Follows, Held}
 use Rattle.lms_commands.specs.InMemory.{FindsState}
 use Rattle.lms_key_commands.specs.KeygenLogs.{capacity_line}
-use Rattle.lms_commands.specs.Logs.{KeyState, WorldCalls}
+use Rattle.lms_commands.specs.Logs.{KeyState, WorldCalls, write_cause}
 use Rattle.lms_key_commands.specs.PublicInMemory.{FailsToPublishKeyInMemory, PublishesKeyIn, PublishesKeyInMemory}
 use Rattle.lms_key_commands.specs.PublicLogs.{ReadsKey}
 use Rattle.lms_commands.proofs.AtState.{locked_still, not_locked, unopened}
@@ -26,6 +26,7 @@ unwritten is = record {
   nodes = is.nodes;
   in_use = is.in_use;
   nodes_fault = is.nodes_fault;
+  witness = is.witness;
   may_fail = is.may_fail;
 }
 
@@ -57,6 +58,7 @@ module _ {state : Bytes} {read : KeyState} {earlier last : WorldCalls} (is : Rea
             nodes = all.nodes;
             in_use = all.in_use;
             nodes_fault = all.nodes_fault;
+            witness = all.witness;
           };
         },
       )
@@ -78,6 +80,7 @@ module _ {state : Bytes} {read : KeyState} {earlier last : WorldCalls} (is : Rea
         state_stays = same_state old new found all.state;
         nodes = all.nodes;
         in_use = all.in_use;
+        witness = all.witness;
       } in
       (all.tell.0.0.0.0.0.1, (publishes, refl))
 
@@ -99,11 +102,12 @@ fails_to_publish_key_in_memory state public before printed fault old new earlier
     (inr (read, last, is, inl (at, none, same))) follows =
     let added : Adds earlier now = record { calls = (all_calls is).calls; are = none ∙ (all_calls is).are } in
     let found = finds is old new (told old new added follows) in
-    inr (found.0, inr (inl (inr at, found.1)))
+    inr (found.0, inr (inl (inr at, inr (ap write_cause at), found.1)))
 fails_to_publish_key_in_memory state public before printed fault old new earlier now
     (inr (read, last, is, inr (inl (refused, calls, same)))) follows =
-    let found = finds is old new (unwritten (told old new (and_then (all_calls is) calls) follows)) in
-    inr (found.0, inr (inl (refused, found.1)))
+    let all = told old new (and_then (all_calls is) calls) follows in
+    let found = finds is old new (unwritten all) in
+    inr (found.0, inr (inl (refused, all.tell.1, found.1)))
 fails_to_publish_key_in_memory state public before printed fault old new earlier now
     (inr (read, last, is, inr (inr (at, calls, line)))) follows =
     let done = published is public before old new calls follows in

@@ -1,5 +1,5 @@
 -- What `keygen` leaves in a world in memory, by its calls.
-use Rattle.std.specs.Prelude.{ℕ, ◌≡◌, ◌⊎◌, List, true, false, Option, Some}
+use Rattle.std.specs.Prelude.{ℕ, ◌≡◌, ◌⊎◌, List, true, false, Option, Some, None, Ok}
 use Rattle.lms_spec.specs.Profile.{hss_public_key}
 use Rattle.lms_hss.specs.Keys.{hss_key_of}
 use Rattle.lms_hss.specs.declared.key.HssKey.{HssKey as KeyOfCode}
@@ -10,15 +10,18 @@ use Rattle.lms_world.specs.Names.{Bytes}
 use Rattle.lms_world.specs.Held.{Follows, Held, MayRefuse, is_there}
 use Rattle.lms_commands.specs.InMemory.{FailsToLock, KeepsNodes, KeepsRight, Stays, WritesFile}
 use Rattle.lms_key_commands.specs.KeygenLogs.{AreGenuineTrees, LogsKeygen, LogsKeygenFailed}
+use Rattle.lms_key_commands.specs.WitnessInMemory.{WitnessWasThere}
 use Rattle.lms_commands.specs.Logs.{IsWriteRefused, WorldCalls, write_cause}
 use Rattle.lms_commands.specs.declared.fault.Fault.{Fault}
 use Rattle.lms_commands.specs.declared.fault.Fault.TheVariants.{OutOfMemory, StateExists, WriteOutput, WriteState}
 
--- there was no state, and now there is this key's, of which no index is used; nodes of its trees
--- may be kept
+-- there was neither a state nor a witness, and now there is this key's state, of which no index is
+-- used; nodes of its trees may be kept
 pub record MakesKey (key : KeyOfCode) (old new : Held) : Type 0 where
   pub free : old.in_use ≡ false
   pub none_was : is_there old.state ≡ false
+  pub unwatched : old.witness ≡ Ok None
+  pub witness : new.witness ≡ old.witness
   pub stored : new.state ≡ only (image_of key 0 0 0)
   pub trees : Option Way
   pub genuine : AreGenuineTrees key trees
@@ -37,10 +40,12 @@ MakesKeyInMemory = (key : KeyOfCode) (state public : Bytes) (before printed : Li
     → Follows (Some old) earlier (Some new) now
     → MakesKey key old new × PublishesIn key public old new
 
--- there was no state, and now there may be the key's, or may not: its store failed
+-- there was neither, and now there may be the key's state, or may not: its store failed
 pub record MayMakeKey (key : KeyOfCode) (old new : Held) : Type 0 where
   pub free : old.in_use ≡ false
   pub none_was : is_there old.state ≡ false
+  pub unwatched : old.witness ≡ Ok None
+  pub witness : new.witness ≡ old.witness
   pub files : new.files ≡ old.files
   pub nodes : new.nodes ≡ old.nodes
   pub left : (new.state ≡ old.state) ⊎ IsLeftBy (image_of key 0 0 0) old.state new.state
@@ -50,7 +55,8 @@ abbrev pub FailsToMakeKey : KeyOfCode → Bytes → Fault → Held → Held → 
 FailsToMakeKey key public fault old new =
     FailsToLock fault old new
     ⊎ (((fault ≡ StateExists) × (old.in_use ≡ false) × (is_there old.state ≡ true) × (new ≡ old))
-    ⊎ (((fault ≡ OutOfMemory) × (old.in_use ≡ false) × (is_there old.state ≡ false) × Stays old new)
+    ⊎ ((((fault ≡ OutOfMemory) ⊎ WitnessWasThere fault old) × (old.in_use ≡ false)
+    × (is_there old.state ≡ false) × Stays old new)
     ⊎ (((fault ≡ WriteState) × MayMakeKey key old new)
     ⊎ (MakesKey key old new
     × ((IsWriteRefused fault × MayRefuse old public (write_cause fault) × (new.files ≡ old.files))

@@ -11,8 +11,10 @@ use Rattle.lms_texts.specs.Descriptions.{number_line}
 use Rattle.lms_book.specs.Stops.{StoreView, FailsToWrite, after_write}
 use Rattle.lms_world.specs.Names.{Bytes}
 use Rattle.lms_world.specs.Events.{Acquired, Written, Locked, Unlocked, Asked, Taken, Taking, Printing, Writing, after}
+use Rattle.lms_world.specs.Events.{WitnessRead}
 use Rattle.lms_commands.specs.Logs.{IsLockRefused, IsWriteRefused, WorldCalls, LogsKeeping, PutsBack, lock_answer}
 use Rattle.lms_commands.specs.Logs.{write_cause}
+use Rattle.lms_key_commands.specs.WitnessLogs.{LogsWitnessThere}
 use Rattle.lms_commands.specs.declared.fault.Fault.{Fault}
 use Rattle.lms_commands.specs.declared.fault.Fault.TheVariants.{StateExists, WriteState, OutOfMemory, WriteOutput}
 
@@ -40,6 +42,10 @@ abbrev pub AreGenuineTrees : KeyOfCode → Option Way → Type 0
 AreGenuineTrees key trees =
     IfSome trees (λ way. IsWay way × (way.key ≡ key) × AreGenuine way)
 
+-- there is neither a state nor a witness
+abbrev pub finding_none : WorldCalls → WorldCalls
+finding_none old = after (Asked false ∷ WitnessRead (Ok None) ∷ []) old
+
 -- it is stored where there was none, trees of the key may be kept, and then the public key is
 -- written to its file, once
 pub record WritesKey (key : KeyOfCode) (public : Bytes) (answer : Writing)
@@ -48,7 +54,7 @@ pub record WritesKey (key : KeyOfCode) (public : Bytes) (answer : Writing)
   pub genuine : AreGenuineTrees key trees
   pub until_stored : WorldCalls
   pub until_kept : WorldCalls
-  pub stores : StoresKey key (after (Asked false ∷ []) old) until_stored
+  pub stores : StoresKey key (finding_none old) until_stored
   pub keeps : LogsKeeping trees until_stored until_kept
   pub writes : new
       ≡ after (Written public (hss_public_key (hss_key_of key)) answer ∷ []) until_kept
@@ -70,8 +76,9 @@ abbrev pub LogsUnmade : KeyOfCode → Bytes → List ℕ → List ℕ → Fault 
 LogsUnmade key public before printed fault old new =
     ((printed ≡ before)
     × (((fault ≡ StateExists) × (new ≡ after (Asked true ∷ []) old))
-    ⊎ (LogsUnstored key fault (after (Asked false ∷ []) old) new
-    ⊎ (IsWriteRefused fault × WritesKey key public (Err (write_cause fault)) old new))))
+    ⊎ (LogsWitnessThere fault (after (Asked false ∷ []) old) new
+    ⊎ (LogsUnstored key fault (finding_none old) new
+    ⊎ (IsWriteRefused fault × WritesKey key public (Err (write_cause fault)) old new)))))
     ⊎ ((fault ≡ WriteOutput) × PublishesKey key public before old new
     × AppendsFront (Some before) (Some printed) (capacity_line key))
 

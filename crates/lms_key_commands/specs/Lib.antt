@@ -6,3 +6,10 @@ pub mod KeygenInMemory
 pub mod KeygenLogs
 pub mod PublicInMemory
 pub mod PublicLogs
+pub mod ResumeInMemory
+pub mod ResumeLogs
+pub mod ResumePieces
+pub mod ResumeStops
+pub mod ResumeTurns
+pub mod WitnessInMemory
+pub mod WitnessLogs

@@ -4,10 +4,10 @@ use Rattle.lms_spec.specs.Profile.{hss_public_key}
 use Rattle.lms_hss.specs.Keys.{hss_key_of}
 use Rattle.lms_blocks.specs.Writing.{AppendsFront}
 use Rattle.lms_world.specs.Names.{Bytes}
-use Rattle.lms_world.specs.Held.{Follows, Held}
+use Rattle.lms_world.specs.Held.{Follows, Held, MayRefuse}
 use Rattle.lms_commands.specs.InMemory.{FailsToLock, FailsToOpen, FindsState, WasState, WritesFile}
 use Rattle.lms_key_commands.specs.KeygenLogs.{capacity_line}
-use Rattle.lms_commands.specs.Logs.{IsWriteRefused, KeyState, WorldCalls}
+use Rattle.lms_commands.specs.Logs.{IsWriteRefused, KeyState, WorldCalls, write_cause}
 use Rattle.lms_key_commands.specs.PublicLogs.{LogsPublic, LogsPublicFailed}
 use Rattle.lms_commands.specs.declared.fault.Fault.{Fault}
 use Rattle.lms_commands.specs.declared.fault.Fault.TheVariants.{WriteOutput}
@@ -20,6 +20,7 @@ pub record PublishesKeyIn (public : Bytes) (old new : Held) : Type 0 where
   pub state_stays : new.state ≡ old.state
   pub nodes : new.nodes ≡ old.nodes
   pub in_use : new.in_use ≡ old.in_use
+  pub witness : new.witness ≡ old.witness
 
 -- of a world in memory, `public` at status 0 publishes the state's key, and prints its capacity
 abbrev pub PublishesKeyInMemory : Type 0
@@ -36,7 +37,7 @@ abbrev pub FailsToPublishKey : Bytes → List ℕ → List ℕ → Fault → Hel
 FailsToPublishKey public before printed fault old new =
     FailsToLock fault old new
     ⊎ ((old.in_use ≡ false) × (FailsToOpen fault old new
-    ⊎ ((IsWriteRefused fault × FindsState old new)
+    ⊎ ((IsWriteRefused fault × MayRefuse old public (write_cause fault) × FindsState old new)
     ⊎ ((fault ≡ WriteOutput) × ((publishes : PublishesKeyIn public old new)
     × AppendsFront (Some before) (Some printed) (capacity_line publishes.state.key))))))
 

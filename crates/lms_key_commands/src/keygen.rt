@@ -8,6 +8,7 @@ ghost use Rattle.lms_commands.specs.Logs.{FailsToPublish, Publishes};
 ghost use Rattle.lms_key_commands.specs.KeygenLogs.{AreGenuineTrees, capacity_line, LeavesUnstored, LogsKeygen, LogsKeygenFailed, LogsUnmade, LogsUnstored, PublishesKey, StoresKey};
 ghost use Rattle.lms_world.specs.Held.{Follows};
 
+use crate::watch::see_none;
 use lms_book::{StateStore, StoreFault};
 use lms_commands::{Fault, Resources, keep_trees, lock_state, write_flushed};
 use lms_hss::{HssKey, Levels, Progress};
@@ -61,11 +62,12 @@ fn key_of(levels: Levels, seed: [u8; HASH_LEN], id: [u8; 16]) -> HssKey
 /// Stores the state of a new, unused key, writes its public key to a file and prints its capacity.
 ///
 /// In this order: `StateInUse` where the state's lock is not available, `StateExists` where the
-/// state is there, `WriteState` where it may not have been stored, and `WriteOutput` where the
+/// state is there, `WitnessExists` where a witness is beside it and `ReadWitness` where that can't
+/// be read, `WriteState` where the state may not have been stored, and `WriteOutput` where the
 /// public key can't be written or the capacity not printed: the state is the new key's then.
 /// `OutOfMemory` may come before the state is written, which stays as it was, or while the public
 /// key is written, and then the state is the new key's. No file is written before the state is
-/// stored, and the lock is held to the end.
+/// stored, and the lock is held to the end. A new key has no witness.
 ///
 /// The top tree's nodes are kept beside the state, once that is stored, for the first signature.
 /// Where that can't be done, that is no fault.
@@ -111,6 +113,7 @@ fn make_locked<W: World, O: Write>(
     if world.exists(lock) {
         return Err(Fault::StateExists);
     }
+    see_none(resources.alloc, world, lock)?;
     let trees = store_key(resources, world, lock, key)?;
     keep_trees(resources.alloc, world, lock, &trees);
     let text = trees.public();

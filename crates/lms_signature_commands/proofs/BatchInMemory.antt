@@ -1,56 +1,25 @@
 -- What `batch` leaves in a world in memory, by its calls.
-use Rattle.std.proofs.Common.{◌≡◌, ◌∙◌, ◌≤◌, ◌+◌, ◌∷◌, [], ℕ, zero, suc, List, Option, Some, ap, ap₂, arith, refl}
-use Rattle.std.proofs.Common.{subst₂, sym, inl, inr}
+use Rattle.std.proofs.Common.{◌≡◌, ◌∙◌, ◌∷◌, [], ◌++◌, ℕ, List, Option, Some, ap, ap₂, append_assoc, refl, subst₂, sym}
+use Rattle.std.proofs.Common.{inl, inr}
 use Rattle.std.specs.Prelude.{◌≢◌, ◌⊎◌, false, length}
-use Rattle.lms_spec.specs.Hss.{capacity_of}
-use Rattle.lms_hss.specs.Keys.{hss_key_of}
-use Rattle.lms_book.specs.Stops.{StoreView, Texts, after_write}
+use Rattle.lms_book.specs.Stops.{Texts}
 use Rattle.lms_batch.specs.Jobs.{JobText}
 use Rattle.lms_batch.specs.declared.collector.Batch.{Batch}
 use Rattle.lms_lines.specs.JobsTexts.{ReadsJobs}
 use Rattle.lms_world.specs.Names.{Bytes}
-use Rattle.lms_world.specs.Events.{Acquired, Locked, PutBack, Taken, Taking, Unlocked}
+use Rattle.lms_world.specs.Events.{Acquired, Event, Locked, Unlocked}
 use Rattle.lms_world.specs.Held.{Follows, Held}
-use Rattle.lms_signature_commands.specs.BatchLogs.{AnswersJobs, AreUnread, LogsNoBatch, LogsUnprinted, UsesAll}
+use Rattle.lms_signature_commands.specs.BatchLogs.{AnswersJobs, AreUnread, LogsNoBatch, LogsUnprinted}
 use Rattle.lms_signature_commands.specs.BatchInMemory.{CountsIndices, FailsToSignJobsInMemory, SignsJobs}
 use Rattle.lms_signature_commands.specs.BatchInMemory.{SignsJobsInMemory}
 use Rattle.lms_signature_commands.specs.BatchInMemory.{SignsInPart}
-use Rattle.lms_commands.specs.InMemory.{FailsToOpen, FindsState, SignsNone}
-use Rattle.lms_commands.specs.Logs.{KeyState, ReadsState, WorldCalls}
+use Rattle.lms_commands.specs.InMemory.{FailsToWatch, FindsState, IsWatched, SignsNone}
+use Rattle.lms_commands.specs.Logs.{WorldCalls}
 use Rattle.lms_commands.specs.declared.fault.Fault.{Fault}
 use Rattle.lms_commands.specs.declared.fault.Fault.TheVariants.{Partial}
-use Rattle.lms_commands.proofs.AtState.{finds, locked_still, not_locked, unopened, unsigned}
+use Rattle.lms_commands.proofs.AtState.{finds_watched, locked_still, not_locked, unsigned_watched, unwatched}
 use Rattle.lms_commands.proofs.Telling.{Adds, and_then, nothing_done, told, was_state}
-
--- the state is read, and n indices of it are used, or none
-pub record UsesSo (n : ℕ) (state : KeyState) (before now : WorldCalls) : Type 0 where
-  pub taken : Taking
-  pub read : StoreView
-  pub left : StoreView
-  pub reads : ReadsState state taken.view read
-  pub within : state.index + n ≤ capacity_of (hss_key_of state.key)
-  pub counted : CountsIndices n state taken.view.now left.now
-  pub calls : now ≡ PutBack left ∷ Taken (Some taken) ∷ before
-
-pub uses_so : (n : ℕ) (state : KeyState) {before now : WorldCalls} → UsesAll n state before now → UsesSo n state before now
-uses_so zero state (taken, read, reads, calls) = record {
-  taken = taken;
-  read = read;
-  left = read;
-  reads = reads;
-  within = omega (arith, reads.counted.within);
-  counted = ap (λ (v : StoreView). v.now) reads.given;
-  calls = calls;
-}
-uses_so (suc n) state (taken, read, reads, within, calls) = record {
-  taken = taken;
-  read = read;
-  left = after_write _ read;
-  reads = reads;
-  within = within;
-  counted = refl;
-  calls = calls;
-}
+use Rattle.lms_signature_commands.proofs.Using.{uses_so}
 
 -- from the lock on until it is handed back
 module _ (state : Bytes) (input rest : Option (List ℕ)) {earlier last now : WorldCalls} (calls : now ≡ Unlocked ∷ last)
@@ -65,12 +34,16 @@ module _ (state : Bytes) (input rest : Option (List ℕ)) {earlier last now : Wo
       let signs = answers.signs in
       let n = length signs.jobs in
       let uses = uses_so n signs.state signs.uses in
-      let first = PutBack uses.left ∷ Taken (Some uses.taken) ∷ Locked state Acquired ∷ [] in
-      let used : Adds earlier answers.until_signed = record { calls = first; are = uses.calls } in
+      let lock : List Event = Locked state Acquired ∷ [] in
+      let used : Adds earlier answers.until_signed = record {
+        calls = uses.calls ++ lock;
+        are = uses.are ∙ sym (append_assoc uses.calls lock earlier);
+      } in
       let is = told old new (and_then (and_then used answers.prints) calls) follows in
-      let found = is.tell.0.0.0.1.0 in
+      let tell = uses.tell lock old is.tell.0.0 in
+      let found = tell.1 in
       let made : SignsJobs input rest batch old new = record {
-        free = is.tell.0.0.0.0.1;
+        free = tell.0.1;
         state = signs.state;
         was = was_state signs.state uses.reads found;
         jobs = signs.jobs;
@@ -78,9 +51,12 @@ module _ (state : Bytes) (input rest : Option (List ℕ)) {earlier last now : Wo
         answer = signs.answer;
         next = signs.next;
         within = uses.within;
-        files = is.files;
-        nodes = is.nodes;
-        counted = subst₂ (λ (a b : Texts). CountsIndices n signs.state a b) found (sym is.state) uses.counted;
+        files = is.files ∙ uses.files lock old.files;
+        nodes = is.nodes ∙ uses.nodes lock old.nodes;
+        counted = subst₂ (λ (a b : Texts). CountsIndices n signs.state a b) found
+            (sym (is.state ∙ uses.state_is lock old.state)) uses.counted;
+        watched = (uses.watch, tell.2, uses.admitted);
+        witness = is.witness ∙ uses.witness lock old.witness tell.2;
       } in
       (made, refl)
 
@@ -96,20 +72,20 @@ module _ (state : Bytes) (input rest : Option (List ℕ)) {earlier last now : Wo
       let is = signed_so before batch answers in (is.0.free, (batch, (is.0, inr (at, lines))))
 
   no_batch : (before printed : List ℕ) (fault : Fault) → LogsNoBatch input rest fault locked last
-      → (old.in_use ≡ false) × ((FailsToOpen fault old new × (rest ≡ input))
-      ⊎ ((AreUnread input fault × FindsState old new)
+      → (old.in_use ≡ false) × ((FailsToWatch fault old new × (rest ≡ input))
+      ⊎ ((AreUnread input fault × ((found : FindsState old new) × IsWatched found.state old.witness))
       ⊎ (((jobs : List JobText) × ReadsJobs input rest jobs × SignsNone (length jobs) fault old new)
       ⊎ SignsInPart input rest before printed fault old new)))
   no_batch before printed fault (inl (never, unread)) =
-      let is = unopened (Locked state Acquired ∷ []) locked_still {before = earlier} refl calls old new follows
+      let is = unwatched (Locked state Acquired ∷ []) locked_still {before = earlier} refl calls old new follows
       fault never in
       (is.0.1, inl (is.1, unread))
   no_batch before printed fault (inr (found, inl (unread, leaves))) =
-      let is = finds (Locked state Acquired ∷ []) locked_still {before = earlier} refl calls old new follows
+      let is = finds_watched (Locked state Acquired ∷ []) locked_still {before = earlier} refl calls old new follows
       found leaves in
-      (is.0.1, inr (inl (unread, is.1.0)))
+      (is.0.1, inr (inl (unread, (is.1.0, is.1.2))))
   no_batch before printed fault (inr (found, inr (jobs, reads, some, never))) =
-      let is = unsigned (Locked state Acquired ∷ []) locked_still {before = earlier} refl calls old new follows
+      let is = unsigned_watched (Locked state Acquired ∷ []) locked_still {before = earlier} refl calls old new follows
       (length jobs) found fault never in
       (is.0.1, inr (inr (inl (jobs, reads, is.1.1))))
 

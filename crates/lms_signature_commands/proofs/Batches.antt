@@ -1,5 +1,5 @@
 -- What a list of jobs did to a book.
-use Rattle.std.proofs.Common.{◌≡◌, ◌∙◌, inl, inr, ℕ, zero, suc, ◌-◌, ◌≤◌, List, [], ◌∷◌, ◌++◌, drop, take, length}
+use Rattle.std.proofs.Common.{◌≡◌, ◌∙◌, inl, inr, ℕ, zero, suc, ◌+◌, ◌-◌, ◌≤◌, List, [], ◌∷◌, ◌++◌, drop, take, length}
 use Rattle.std.proofs.Common.{Option, None, Some, Result, Ok, Err, refl, sym, ap, ap₂, subst, arith}
 use Rattle.std.specs.Prelude.{IfSome, min}
 use Rattle.std.specs.Io.KnownBytes.{Appends, Keeps}
@@ -30,7 +30,8 @@ use Rattle.lms_commands.specs.Faults.{of_lines}
 use Rattle.lms_commands.specs.declared.fault.Fault.{Fault}
 use Rattle.lms_commands.specs.declared.fault.Fault.TheVariants.{Exhausted, OutOfMemoryBurnt, WriteStateBurnt}
 use Rattle.lms_signature_commands.specs.BatchLogs.{AnswersJobs, LogsBatch, LogsJobsUnsigned, LogsUnprinted, UsesAll}
-use Rattle.lms_commands.specs.Logs.{LeavesState, WorldCalls, OpensState, StoresUse, TriesUse, state_of}
+use Rattle.lms_commands.specs.Logs.{LeavesState, WorldCalls, StoresUse, TriesUse, state_of}
+use Rattle.lms_commands.specs.Watching.{Admits, FailsToNote, OpensWatched, Watch, notes, watched}
 use Rattle.lms_world.specs.Events.{PutBack}
 use Rattle.lms_commands.proofs.Logged.{left_so, stored, tried}
 use Rattle.lms_signature_commands.specs.SharedBooks.{IsRefusedBy, IsSignedByBook, at_one_desk}
@@ -127,40 +128,67 @@ refused_so start n fault could =
     go new (Ok lease) is follows = absurd follows
     go new (Err refused) is follows = (new, subst (λ (f : BookFault). Reserves n start (Err f) new) (sym follows) is)
 
+-- a witness is written of one index at least
+notes_some_only : (n : ℕ) (watch : Watch) (id : List ℕ) (start : ℕ) (fault : Fault) (log new : WorldCalls)
+    → FailsToNote n watch id start fault log new → 1 ≤ n
+notes_some_only zero watch id start fault log new never = absurd never
+notes_some_only (suc n) watch id start fault log new fails = omega arith
+
 -- what a list of jobs did to a book, in terms of the calls that were made
-module _ (start left : BookState) (view : StoreView) (before opened back : WorldCalls)
-    (opens : OpensState start before opened) (is_fresh : IsJustOpened start)
+module _ (watch : Watch) (start left : BookState) (view : StoreView) (old opened back : WorldCalls)
+    (opens : OpensWatched watch start old opened) (is_fresh : IsJustOpened start)
     (view_is : view ≡ left.store) (back_is : back ≡ PutBack view ∷ opened) where
-  leaves_none : (sum : Sums) → sum ≡ sums 0 0 0 → IsSettled start sum left → LeavesState (state_of start) before back
+  abbrev by : Admits (state_of start)
+  by = record { watch = watch; admitted = opens.0 }
+
+  abbrev from_there : WorldCalls
+  from_there = watched by old
+
+  leaves_none : (sum : Sums) → sum ≡ sums 0 0 0 → IsSettled start sum left
+      → LeavesState (state_of start) from_there back
   leaves_none sum none settled =
       let same = no_entry start settled.entries left settled.after (settled.all ∙ none) in
-      left_so start left view before opened back opens is_fresh view_is back_is same
+      left_so start left view from_there opened back opens.1 is_fresh view_is back_is same
 
-  stores_some : (n : ℕ) → 1 ≤ n → IsSettled start (sums 1 n 0) left → StoresUse n (state_of start) before back
+  stores_some : (n : ℕ) → 1 ≤ n → IsSettled start (sums 1 n 0) left → StoresUse n (state_of start) from_there back
   stores_some n some settled =
       let made = (one_given start n settled.entries left some settled.after settled.all).reservation in
-      stored start left view before opened back opens is_fresh view_is back_is n made.0 made.3
+      stored start left view from_there opened back opens.1 is_fresh view_is back_is n made.0 made.3
 
-  tries_some : (n : ℕ) → 1 ≤ n → IsSettled start (sums 1 0 n) left → TriesUse n (state_of start) before back
+  tries_some : (n : ℕ) → 1 ≤ n → IsSettled start (sums 1 0 n) left → TriesUse n (state_of start) from_there back
   tries_some n some settled =
       let made = (one_burnt start n settled.entries left some settled.after settled.all).reservation in
-      tried start left view before opened back opens is_fresh view_is back_is n made.0 made.4
+      tried start left view from_there opened back opens.1 is_fresh view_is back_is n made.0 made.4
 
-  uses_all : (n : ℕ) (sum : Sums) → sum ≡ plus (sums 0 0 0) (sums (min 1 n) n 0) → IsSettled start sum left
-      → UsesAll n (state_of start) before back
-  uses_all zero sum is settled = leaves_none sum is settled
-  uses_all (suc n) sum is settled =
-      stores_some (suc n) (omega arith) (subst (λ (s : Sums). IsSettled start s left) (is ∙ from_some n) settled)
+  stores_all : (n : ℕ) (sum : Sums) → 1 ≤ n → sum ≡ plus (sums 0 0 0) (sums (min 1 n) n 0) → IsSettled start sum left
+      → StoresUse n (state_of start) from_there back
+  stores_all zero sum some is settled = absurd (omega (arith, some))
+  stores_all (suc n) sum some is settled =
+      stores_some (suc n) some (subst (λ (s : Sums). IsSettled start s left) (is ∙ from_some n) settled)
 
-  pub log_batch : (input rest : Option (List ℕ)) (signed : SignedJobs) → IsSignedByBook start input rest signed left
-      → (signs : LogsBatch input rest signed.batch before back) × (signs.state ≡ state_of start)
+  -- and the witness was written, of no jobs it was not
+  uses_all : (n : ℕ) (sum : Sums) (new : WorldCalls) → sum ≡ plus (sums 0 0 0) (sums (min 1 n) n 0)
+      → IsSettled start sum left → new ≡ notes n watch start.key.i start.base (Ok tt) ++ back
+      → UsesAll n (state_of start) old new
+  uses_all zero sum new is settled noted = (
+    by,
+    subst (λ (log : WorldCalls). LeavesState (state_of start) from_there log) (sym noted) (leaves_none sum is settled),
+  )
+  uses_all (suc n) sum new is settled noted =
+      (by, back, stores_all (suc n) sum (omega arith) is settled, noted)
+
+  pub log_batch : (input rest : Option (List ℕ)) (signed : SignedJobs) (new : WorldCalls)
+      → IsSignedByBook start input rest signed left
+      → new ≡ notes signed.asked watch start.key.i start.base (Ok tt) ++ back
+      → (signs : LogsBatch input rest signed.batch old new) × (signs.state ≡ state_of start)
       × (signed.asked ≡ length signs.jobs)
-  log_batch input rest signed (sum, (is, asked), settled) = (
+  log_batch input rest signed new (sum, (is, asked), settled) noted = (
     record {
       state = state_of start;
       jobs = is.jobs;
       read = is.read;
-      uses = uses_all (length is.jobs) sum is.counted settled;
+      uses = uses_all (length is.jobs) sum new is.counted settled
+          (subst (λ (n : ℕ). new ≡ notes n watch start.key.i start.base (Ok tt) ++ back) asked noted);
       answer = is.answer;
       next = λ some. starts_at start (length is.jobs) signed.batch (is.reserved some) ∙ is_fresh.used;
     },
@@ -168,15 +196,31 @@ module _ (start left : BookState) (view : StoreView) (before opened back : World
     asked,
   )
 
+  -- the witness was not written
+  pub log_unnoted : (input rest : Option (List ℕ)) (signed : SignedJobs) (fault : Fault) (new : WorldCalls)
+      → IsSignedByBook start input rest signed left
+      → FailsToNote signed.asked watch start.key.i start.base fault back new
+      → LogsJobsUnsigned input rest fault (state_of start) old new
+  log_unnoted input rest signed fault new (sum, (is, asked), settled) fails =
+      let failed = subst (λ (n : ℕ). FailsToNote n watch start.key.i start.base fault back new) asked fails in
+      let some = notes_some_only (length is.jobs) watch start.key.i start.base fault back new failed in
+      inr (
+        is.jobs,
+        is.read,
+        some,
+        inr (by, inr (back, stores_all (length is.jobs) sum some is.counted settled, failed)),
+      )
+
   log_lines : (input rest : Option (List ℕ)) (fault : LinesFault) (sum : Sums)
       → IsUnsigned (at_one_desk start) input rest (sums 0 0 0) sum fault
-      → IsSettled start sum left → LogsJobsUnsigned input rest (of_lines fault) (state_of start) before back
-  log_lines input rest (lines.Jobs jobs.Read) sum is settled = inl (inl (inl refl), leaves_none sum is.1 settled)
+      → IsSettled start sum left → LogsJobsUnsigned input rest (of_lines fault) (state_of start) old back
+  log_lines input rest (lines.Jobs jobs.Read) sum is settled = inl (inl (inl refl), (by, leaves_none sum is.1 settled))
   log_lines input rest (lines.Jobs (jobs.BadJob line)) sum is settled =
-      inl (inr (inl (line, refl, is.0)), leaves_none sum is.1 settled)
+      inl (inr (inl (line, refl, is.0)), (by, leaves_none sum is.1 settled))
   log_lines input rest (lines.Jobs jobs.TooManyJobs) sum is settled =
-      inl (inr (inr (refl, is.0)), leaves_none sum is.1 settled)
-  log_lines input rest (lines.Jobs jobs.OutOfMemory) sum is settled = inl (inl (inr refl), leaves_none sum is.1 settled)
+      inl (inr (inr (refl, is.0)), (by, leaves_none sum is.1 settled))
+  log_lines input rest (lines.Jobs jobs.OutOfMemory) sum is settled =
+      inl (inl (inr refl), (by, leaves_none sum is.1 settled))
   log_lines input rest (lines.Batch unsigned.TooMany) sum is settled = absurd (is.few refl)
   log_lines input rest (lines.Batch (unsigned.Book (book.Exhausted count))) sum is settled =
       let (full, count_is, same) = (refused_so start (length is.jobs) (book.Exhausted count) is.reserved).1 in
@@ -185,33 +229,52 @@ module _ (start left : BookState) (view : StoreView) (before opened back : World
         is.jobs,
         is.read,
         is.some,
-        inl (inl (
-          ap (λ (n : ℕ). Exhausted n) left_is,
-          omega (arith, full, is_fresh.used),
-          leaves_none sum is.counted settled,
-        )),
+        inl (
+          by,
+          inl (
+            ap (λ (n : ℕ). Exhausted n) left_is,
+            omega (arith, full, is_fresh.used),
+            leaves_none sum is.counted settled,
+          ),
+        ),
       )
   log_lines input rest (lines.Batch (unsigned.Book book.OutOfMemory)) sum is settled =
-      inl (inl (inr refl), leaves_none sum is.counted settled)
+      inl (inl (inr refl), (by, leaves_none sum is.counted settled))
   log_lines input rest (lines.Batch (unsigned.Book (book.Store first len))) sum is settled =
       let n = length is.jobs in
       let refused = (refused_so start n (book.Store first len) is.reserved).1 in
       let tries = tries_some n is.some
       (subst (λ (s : Sums). IsSettled start s left) (is.counted.1 ∙ from_none _) settled) in
       let at = ap₂ (λ (a b : ℕ). WriteStateBurnt a b) (refused.1 ∙ is_fresh.used) is.counted.0 in
-      inr (is.jobs, is.read, is.some, inr (inl (at, tries)))
+      inr (is.jobs, is.read, is.some, inr (by, inl (inl (at, tries))))
   log_lines input rest (lines.Batch (unsigned.OutOfMemory burnt)) sum is settled =
       let n = length is.jobs in
       let stores = stores_some n is.some
       (subst (λ (s : Sums). IsSettled start s left) (is.counted.1 ∙ from_none _) settled) in
-      inr (is.jobs, is.read, is.some, inr (inr (ap (λ (m : ℕ). OutOfMemoryBurnt m) is.counted.0, stores)))
+      inr (is.jobs, is.read, is.some, inr (by, inl (inr (ap (λ (m : ℕ). OutOfMemoryBurnt m) is.counted.0, stores))))
   log_lines input rest lines.Write sum is settled = absurd is
 
-  pub log_refused : (input rest : Option (List ℕ)) (fault : Fault) → IsRefusedBy start input rest fault left
-      → LogsJobsUnsigned input rest fault (state_of start) before back
-  log_refused input rest fault (sum, (lines, same, is), settled) =
-      subst (λ (f : Fault). LogsJobsUnsigned input rest f (state_of start) before back) (sym same)
-      (log_lines input rest lines sum is settled)
+  pub log_refused : (input rest : Option (List ℕ)) (fault : Fault) (new : WorldCalls)
+      → IsRefusedBy start input rest fault left → new ≡ back
+      → LogsJobsUnsigned input rest fault (state_of start) old new
+  log_refused input rest fault new (sum, (lines, same, is), settled) calls =
+      subst (λ (log : WorldCalls). LogsJobsUnsigned input rest fault (state_of start) old log) (sym calls)
+      (subst (λ (f : Fault). LogsJobsUnsigned input rest f (state_of start) old back) (sym same)
+      (log_lines input rest lines sum is settled))
+
+-- what the jobs use is within the key's capacity
+pub uses_some : (start left : BookState) → IsJustOpened start → (input rest : Option (List ℕ)) (signed : SignedJobs)
+    → IsSignedByBook start input rest signed left → 1 ≤ signed.asked → start.base + signed.asked ≤ capacity start
+uses_some start left is_fresh input rest signed (sum, (is, asked), settled) some =
+    go (length is.jobs) is.counted (subst (λ (n : ℕ). 1 ≤ n) asked some) asked
+  where
+    go : (n : ℕ) → sum ≡ plus (sums 0 0 0) (sums (min 1 n) n 0) → 1 ≤ n → signed.asked ≡ n
+        → start.base + signed.asked ≤ capacity start
+    go zero counted some all = absurd (omega (arith, some))
+    go (suc n) counted some all =
+        let given = (one_given start (suc n) settled.entries left some settled.after
+        ((settled.all ∙ counted) ∙ from_some n)).reservation in
+        omega (arith, given.0, is_fresh.used, all)
 
 -- the only desk of a shared book counts all that was reserved
 pub settled_one : (start book left : BookState) (desks : List Sums) (counted : Sums) → book ≡ start

@@ -10,5 +10,6 @@ pub mod ServingCalls
 pub mod ServingTurns
 pub mod SignInMemory
 pub mod SigningTurns
+pub mod Using
 pub mod VerifyInMemory
 pub mod VerifyTurns

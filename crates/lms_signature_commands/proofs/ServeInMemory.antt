@@ -1,20 +1,22 @@
 -- What `serve` leaves in a world in memory, by its calls.
 use Rattle.std.proofs.Common.{◌≡◌, ◌∙◌, ◌∷◌, [], ◌++◌, ℕ, List, Option, Some, None, ap, ap₂, refl, subst, subst₂, sym}
-use Rattle.std.proofs.Common.{append_assoc, inl, inr, length, map}
-use Rattle.std.specs.Prelude.{◌⊎◌, false}
+use Rattle.std.proofs.Common.{append-nil, append_assoc, inl, inr, length, map}
+use Rattle.std.specs.Prelude.{false}
 use Rattle.std.proofs.lemmas.List.{append_cancel_right}
 use Rattle.lms_book.specs.Stops.{Texts}
 use Rattle.lms_batch.specs.declared.collector.Batch.{Batch}
 use Rattle.lms_lines.specs.SignedLines.{signatures_in}
-use Rattle.lms_world.specs.Events.{Acquired, Locked, PutBack, Taken, Unlocked}
+use Rattle.lms_world.specs.Events.{Acquired, Event, Locked, Unlocked}
 use Rattle.lms_world.specs.Held.{Follows, Held, Replays}
 use Rattle.lms_world.specs.Names.{Bytes}
-use Rattle.lms_commands.specs.InMemory.{FailsToOpen, FindsState, SignsNone}
-use Rattle.lms_commands.specs.Logs.{KeyState, LogsUnopened, LogsUnsigned, LeavesState, WorldCalls}
+use Rattle.lms_world.specs.Outcomes.{files_after, nodes_after, state_after, witness_after}
+use Rattle.lms_commands.specs.InMemory.{FailsToWatch, FindsState, IsWatched, SignsNone}
+use Rattle.lms_commands.specs.Logs.{KeyState, WorldCalls}
+use Rattle.lms_commands.specs.Watching.{LeavesWatched, LogsUnwatched, UnsignedWatched}
 use Rattle.lms_commands.specs.declared.fault.Fault.{Fault}
 use Rattle.lms_commands.specs.declared.fault.Fault.TheVariants.{Partial}
-use Rattle.lms_commands.proofs.AtState.{AreStill, finds, not_locked, unopened, unsigned}
-use Rattle.lms_commands.proofs.Telling.{Adds, and_then, nothing_done, told, was_state}
+use Rattle.lms_commands.proofs.AtState.{AreStill, finds_watched, not_locked, unsigned_watched, unwatched}
+use Rattle.lms_commands.proofs.Telling.{Adds, AllTell, and_then, nothing_done, told, was_state}
 use Rattle.lms_signature_commands.specs.BatchInMemory.{CountsIndices, SignsInPart, SignsJobs}
 use Rattle.lms_signature_commands.specs.BatchLogs.{AnswersJobs}
 use Rattle.lms_signature_commands.specs.Batches.{IsUnprinted}
@@ -22,7 +24,7 @@ use Rattle.lms_signature_commands.specs.ServeInMemory.{FailsToServeInMemory, Gro
 use Rattle.lms_signature_commands.specs.ServeInMemory.{ServesInMemory, TriesInMemory}
 use Rattle.lms_signature_commands.specs.Serving.{AnyState, Due, FailsGroup, Group, IsDue, LogsGroup, LogsGroups, Only}
 use Rattle.lms_signature_commands.specs.Serving.{answered, having_used}
-use Rattle.lms_signature_commands.proofs.BatchInMemory.{uses_so}
+use Rattle.lms_signature_commands.proofs.Using.{uses_so}
 use Rattle.lms_signature_commands.proofs.ServingCalls.{Keeps, fails_to_serve, group_keeps, groups_keep, keeps_none}
 
 -- ---- a part of the calls
@@ -61,7 +63,13 @@ then_unlocked old new follows =
     }
 
 none_still : AreStill []
-none_still = record { files = λ f. refl; state = λ s. refl; nodes = λ n. refl; may_fail = λ a b is. is }
+none_still = record {
+  files = λ f. refl;
+  state = λ s. refl;
+  nodes = λ n. refl;
+  witness = λ w. refl;
+  may_fail = λ a b is. is;
+}
 
 -- ---- one group
 
@@ -75,10 +83,11 @@ module _ (text : List ℕ) {earlier now : WorldCalls} (old new : Held) (free : o
       let signs = answers.signs in
       let n = length signs.jobs in
       let uses = uses_so n signs.state signs.uses in
-      let used : Adds earlier answers.until_signed =
-      record { calls = PutBack uses.left ∷ Taken (Some uses.taken) ∷ []; are = uses.calls } in
+      let used : Adds earlier answers.until_signed = record { calls = uses.calls; are = uses.are } in
       let is = told old new (and_then used answers.prints) follows in
-      let found = is.tell.0.0.1.0 in
+      let none : uses.calls ++ [] ≡ uses.calls = append-nil uses.calls in
+      let tell = uses.tell [] old (subst (λ (log : List Event). AllTell log old) (sym none) is.tell.0) in
+      let found = tell.1 in
       let made : SignsJobs (Some text) rest batch old new = record {
         free = free;
         state = signs.state;
@@ -88,24 +97,31 @@ module _ (text : List ℕ) {earlier now : WorldCalls} (old new : Held) (free : o
         answer = signs.answer;
         next = signs.next;
         within = uses.within;
-        files = is.files;
-        nodes = is.nodes;
-        counted = subst₂ (λ (a b : Texts). CountsIndices n signs.state a b) found (sym is.state) uses.counted;
+        files = is.files ∙ (ap (λ (log : List Event). files_after log old.files) (sym none) ∙ uses.files [] old.files);
+        nodes = is.nodes ∙ (ap (λ (log : List Event). nodes_after log old.nodes) (sym none) ∙ uses.nodes [] old.nodes);
+        counted = subst₂ (λ (a b : Texts). CountsIndices n signs.state a b) found
+            (sym (is.state ∙ (ap (λ (log : List Event). state_after log old.state) (sym none)
+            ∙ uses.state_is [] old.state))) uses.counted;
+        watched = (uses.watch, tell.2, uses.admitted);
+        witness = is.witness ∙ (ap (λ (log : List Event). witness_after log old.witness) (sym none)
+            ∙ uses.witness [] old.witness tell.2);
       } in
       (made, refl, refl)
 
-  found_so : (state : KeyState) → LeavesState state earlier now → (found : FindsState old new) × (found.state ≡ state)
+  found_so : (state : KeyState) → LeavesWatched state earlier now
+      → (found : FindsState old new) × (found.state ≡ state) × IsWatched found.state old.witness
   found_so state leaves =
-      (finds [] none_still {before = earlier} refl refl old new (then_unlocked old new follows) state leaves).1
+      (finds_watched [] none_still {before = earlier} refl refl old new (then_unlocked old new follows) state leaves).1
 
-  unsigned_so : (n : ℕ) (state : KeyState) (fault : Fault) → LogsUnsigned n fault state earlier now
+  unsigned_so : (n : ℕ) (state : KeyState) (fault : Fault) → UnsignedWatched n fault state earlier now
       → SignsNone n fault old new
   unsigned_so n state fault is =
-      (unsigned [] none_still {before = earlier} refl refl old new (then_unlocked old new follows) n state fault is).1.1
+      (unsigned_watched [] none_still {before = earlier} refl refl old new
+      (then_unlocked old new follows) n state fault is).1.1
 
-  unopened_so : (cause : Fault) → LogsUnopened cause earlier now → FailsToOpen cause old new
+  unopened_so : (cause : Fault) → LogsUnwatched cause earlier now → FailsToWatch cause old new
   unopened_so cause is =
-      (unopened [] none_still {before = earlier} refl refl old new (then_unlocked old new follows) cause is).1
+      (unwatched [] none_still {before = earlier} refl refl old new (then_unlocked old new follows) cause is).1
 
   in_part : (rest : Option (List ℕ)) (before printed : List ℕ) (fault : Fault) (batch : Batch)
       → (answers : AnswersJobs (Some text) rest before batch earlier now)
@@ -124,10 +140,13 @@ module _ (text : List ℕ) {earlier now : WorldCalls} (old new : Held) (free : o
       inl (same, inl (cause, unopened_so cause never, at))
   fails_so fault due next before printed (inl (same, inl (inr (at, (state, left, other)), is))) =
       let found = found_so state left in
-      inl (same, inr (inl (at, (found.0, λ due_is. other (subst (λ (s : KeyState). IsDue due s) found.1 due_is)))))
+      inl (
+        same,
+        inr (inl (at, (found.0, found.2, λ due_is. other (subst (λ (s : KeyState). IsDue due s) found.1 due_is)))),
+      )
   fails_so fault due next before printed (inl (same, inr (state, of, inl (unread, left), is))) =
       let found = found_so state left in
-      inl (same, inr (inr (inl (unread, (found.0, subst (λ (s : KeyState). IsDue due s) (sym found.1) of)))))
+      inl (same, inr (inr (inl (unread, (found.0, found.2, subst (λ (s : KeyState). IsDue due s) (sym found.1) of)))))
   fails_so fault due next before printed (inl (same, inr (state, of, inr (rest, jobs, reads, some, left), is))) =
       inl (same, inr (inr (inr (rest, jobs, reads, unsigned_so (length jobs) state fault (inl left)))))
   fails_so fault due next before printed (inr ((state, of, inl (rest, jobs, reads, some, burns, same)), is)) =

@@ -1,5 +1,6 @@
 -- Groups of lines that are answered one after another.
-use Rattle.std.proofs.Common.{◌≡◌, ◌⊎◌, ◌∙◌, ◌+◌, ◌≤◌, ℕ, zero, suc, arith, List, [], ◌∷◌, ◌++◌, length, Option, Some}
+use Rattle.std.proofs.Common.{◌≡◌, ◌⊎◌, ◌∙◌, ◌+◌, ◌≤◌, ℕ, zero, suc, arith, List, [], ◌∷◌, ◌++◌, length, Option, None}
+use Rattle.std.proofs.Common.{Some}
 use Rattle.std.proofs.Common.{inl, inr}
 use Rattle.std.proofs.Common.{Bool, true, false, ap, refl, sym, subst, append-nil, append_assoc, length-append}
 use Rattle.std.proofs.lemmas.Bool.{true≢false}
@@ -9,6 +10,7 @@ use Rattle.lms_lines.specs.Pieces.{EndsLine}
 use Rattle.lms_lines.specs.TextLines.{lines_of}
 use Rattle.lms_lines.proofs.Cutting.{lines-both-or}
 use Rattle.lms_commands.specs.Logs.{BurnsUnsigned, KeyState, WorldCalls, state_in}
+use Rattle.lms_commands.specs.Watching.{BurnsWatched, FailsToNote, Watch, watched}
 use Rattle.lms_batch.specs.declared.collector.Batch.{Batch}
 use Rattle.lms_spec.specs.Hss.{capacity_of}
 use Rattle.lms_hss.specs.Keys.{hss_key_of}
@@ -59,6 +61,19 @@ burns_none n fault state old new (inl (left, is)) (inr (at, burns)) = cc (sym is
 burns_none n fault state old new (inr (line, is)) (inl (at, burns)) = cc (sym is ∙ at)
 burns_none n fault state old new (inr (line, is)) (inr (at, burns)) = cc (sym is ∙ at)
 
+notes_all : (n : ℕ) (watch : Watch) (id : List ℕ) (start : ℕ) (fault : Fault) (old new : WorldCalls) → IsSparing fault
+    → FailsToNote n watch id start fault old new → ⊥
+notes_all zero watch id start fault old new sparing never = never
+notes_all (suc n) None id start fault old new sparing never = never
+notes_all (suc n) (Some text) id start fault old new (inl (left, is)) (at, calls) = cc (sym is ∙ at)
+notes_all (suc n) (Some text) id start fault old new (inr (line, is)) (at, calls) = cc (sym is ∙ at)
+
+spares_all : (n : ℕ) (fault : Fault) (state : KeyState) (old new : WorldCalls) → IsSparing fault
+    → BurnsWatched n fault state old new → ⊥
+spares_all n fault state old new sparing (by, inl burns) = burns_none n fault state (watched by old) new sparing burns
+spares_all n fault state old new sparing (by, inr (last, uses, fails)) =
+    notes_all n by.watch state.key.i state.index fault last new sparing fails
+
 prints_none : (batch : Batch) (asked : ℕ) (before printed : Option (List ℕ)) (fault : Fault) → IsSparing fault
     → IsUnprinted batch asked before printed fault → ⊥
 prints_none batch asked before printed fault (inl (left, is)) (inl (at, differ, lines)) = cc (sym is ∙ at)
@@ -69,7 +84,7 @@ prints_none batch asked before printed fault (inr (line, is)) (inr (at, lines)) 
 uses_none : (text : List ℕ) (fault : Fault) (state : KeyState) (before printed : List ℕ) (old new : WorldCalls)
     → IsSparing fault → UsesGroup text fault state before printed old new → ⊥
 uses_none text fault state before printed old new sparing (inl (rest, jobs, reads, some, burns, same)) =
-    burns_none (length jobs) fault state old new sparing burns
+    spares_all (length jobs) fault state old new sparing burns
 uses_none text fault state before printed old new sparing (inr (rest, batch, answers, of, lines)) =
     prints_none batch (length answers.signs.jobs) (Some before) (Some printed) fault sparing lines
 
@@ -166,8 +181,8 @@ answers_more input until rest texts held left due next before between printed ol
 
 uses_within : (n : ℕ) (state : KeyState) (old new : WorldCalls) → UsesAll n state old new
     → state.index + n ≤ capacity_of (hss_key_of state.key)
-uses_within zero state old new (taken, read, reads, calls) = omega (arith, reads.counted.within)
-uses_within (suc n) state old new (taken, read, reads, within, calls) = within
+uses_within zero state old new (by, (taken, read, reads, calls)) = omega (arith, reads.counted.within)
+uses_within (suc n) state old new (by, last, (taken, read, reads, within, calls), noted) = within
 
 pub batch_within : {input rest : Option (List ℕ)} {batch : Batch} {old new : WorldCalls} (read : Image) (asked : ℕ)
     (signs : LogsBatch input rest batch old new) → signs.state ≡ state_in read → asked ≡ length signs.jobs

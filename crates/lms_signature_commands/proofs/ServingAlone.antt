@@ -1,10 +1,14 @@
 -- The calls of a group of lines, without those before them.
-use Rattle.std.proofs.Common.{◌≡◌, ◌∙◌, ℕ, zero, suc, List, [], ◌∷◌, ◌++◌, Option, Some, None, length, ap, refl, sym}
-use Rattle.std.proofs.Common.{inl, inr, subst}
+use Rattle.std.proofs.Common.{◌≡◌, ◌∙◌, ℕ, zero, suc, List, [], ◌∷◌, ◌++◌, Option, Some, None, Ok, Err, length, ap}
+use Rattle.std.proofs.Common.{refl}
+use Rattle.std.proofs.Common.{append_assoc, inl, inr, subst, sym}
 use Rattle.lms_batch.specs.Jobs.{JobText}
 use Rattle.lms_batch.specs.declared.collector.Batch.{Batch}
-use Rattle.lms_world.specs.Events.{Printing, PutBack, Taken}
-use Rattle.lms_commands.specs.Logs.{BurnsUnsigned, KeyState, LeavesState, LeavesUnsigned, LogsUnopened, WorldCalls}
+use Rattle.lms_world.specs.Events.{Printing, PutBack, Taken, WitnessDrafted, WitnessRead}
+use Rattle.lms_commands.specs.Logs.{BurnsUnsigned, KeyState, LeavesState, LeavesUnsigned, LogsUnopened, StoresUse}
+use Rattle.lms_commands.specs.Logs.{WorldCalls}
+use Rattle.lms_commands.specs.Watching.{BurnsWatched, FailsToNote, LeavesWatched, LogsUnwatched, SparesWatched, Watch}
+use Rattle.lms_commands.specs.Watching.{notes, watch_calls, watched}
 use Rattle.lms_commands.specs.declared.fault.Fault.{Fault}
 use Rattle.lms_signature_commands.specs.BatchLogs.{AnswersJobs, UsesAll}
 use Rattle.lms_signature_commands.specs.Batches.{IsUnprinted}
@@ -15,37 +19,117 @@ use Rattle.lms_signature_commands.specs.Serving.{LogsGroup, Only, UsesGroup, hav
 abbrev Alone : (WorldCalls → WorldCalls → Type 0) → WorldCalls → WorldCalls → Type 0
 Alone Logs old new = (added : WorldCalls) × (new ≡ added ++ old) × Logs [] added
 
-leaves : (state : KeyState) (old new : WorldCalls) → LeavesState state old new → Alone (LeavesState state) old new
-leaves state old new (taken, read, reads, calls) =
-    (PutBack read ∷ Taken (Some taken) ∷ [], calls, (taken, read, reads, refl))
+-- calls that are the same after others
+abbrev After : (WorldCalls → WorldCalls → Type 0) → WorldCalls → WorldCalls → WorldCalls → Type 0
+After Logs old new base = (added : WorldCalls) × (new ≡ added ++ old) × Logs base (added ++ base)
+
+module _ (old new base : WorldCalls) where
+  leaves_after : (state : KeyState) → LeavesState state old new → After (LeavesState state) old new base
+  leaves_after state (taken, read, reads, calls) =
+      (PutBack read ∷ Taken (Some taken) ∷ [], calls, (taken, read, reads, refl))
+
+  uses_after : (n : ℕ) (state : KeyState) → StoresUse n state old new → After (StoresUse n state) old new base
+  uses_after n state (taken, read, reads, within, calls) =
+      (PutBack _ ∷ Taken (Some taken) ∷ [], calls, (taken, read, reads, within, refl))
+
+  unopened_after : (fault : Fault) → LogsUnopened fault old new → After (LogsUnopened fault) old new base
+  unopened_after fault (inl (at, calls)) = (Taken None ∷ [], calls, inl (at, refl))
+  unopened_after fault (inr (taken, inl (at, calls))) =
+      (PutBack _ ∷ Taken (Some taken) ∷ [], calls, inr (taken, inl (at, refl)))
+  unopened_after fault (inr (taken, inr (inl (at, fails, calls)))) =
+      (PutBack _ ∷ Taken (Some taken) ∷ [], calls, inr (taken, inr (inl (at, fails, refl))))
+  unopened_after fault (inr (taken, inr (inr (bad, text, at, may, is, calls)))) =
+      (PutBack _ ∷ Taken (Some taken) ∷ [], calls, inr (taken, inr (inr (bad, text, at, may, is, refl))))
+
+  spares_after : (n : ℕ) (fault : Fault) (state : KeyState) → LeavesUnsigned n fault state old new
+      → After (LeavesUnsigned n fault state) old new base
+  spares_after n fault state (inl (at, lacks, is)) =
+      let one = leaves_after state is in (one.0, one.1, inl (at, lacks, one.2))
+  spares_after n fault state (inr (at, is)) = let one = leaves_after state is in (one.0, one.1, inr (at, one.2))
+
+  burns_after : (n : ℕ) (fault : Fault) (state : KeyState) → BurnsUnsigned n fault state old new
+      → After (BurnsUnsigned n fault state) old new base
+  burns_after n fault state (inl (at, (taken, read, left, reads, within, fails, calls))) =
+      (PutBack left ∷ Taken (Some taken) ∷ [], calls, inl (at, (taken, read, left, reads, within, fails, refl)))
+  burns_after n fault state (inr (at, is)) = let one = uses_after n state is in (one.0, one.1, inr (at, one.2))
+
+  unsaid_after : (n : ℕ) (watch : Watch) (id : List ℕ) (start : ℕ) (fault : Fault)
+      → FailsToNote n watch id start fault old new → After (FailsToNote n watch id start fault) old new base
+  unsaid_after zero watch id start fault never = absurd never
+  unsaid_after (suc n) None id start fault never = absurd never
+  unsaid_after (suc n) (Some text) id start fault (at, inl same) = ([], same, (at, inl refl))
+  unsaid_after (suc n) (Some text) id start fault (at, inr (cause, calls)) =
+      (notes (suc n) (Some text) id start (Err cause), calls, (at, inr (cause, refl)))
+
+-- calls once a witness was read, alone
+once_read : (watch : Watch) (added old : WorldCalls)
+    → added ++ (watch_calls watch ++ old) ≡ (added ++ (watch_calls watch ++ [])) ++ old
+once_read watch added old =
+    sym (append_assoc added (watch_calls watch ++ []) old
+    ∙ ap (λ (log : WorldCalls). added ++ log) (append_assoc (watch_calls watch) [] old))
+
+alone_after : (Logs : WorldCalls → WorldCalls → Type 0) (watch : Watch) (old new : WorldCalls)
+    → After Logs (watch_calls watch ++ old) new (watch_calls watch ++ [])
+    → (added : WorldCalls) × (new ≡ added ++ old) × Logs (watch_calls watch ++ []) added
+alone_after Logs watch old new (added, calls, is) =
+    (added ++ (watch_calls watch ++ []), calls ∙ once_read watch added old, is)
+
+leaves : (state : KeyState) (old new : WorldCalls) → LeavesWatched state old new → Alone (LeavesWatched state) old new
+leaves state old new (by, is) =
+    let one = alone_after (LeavesState state) by.watch old new
+    (leaves_after (watched by old) new (watched by []) state is) in
+    (one.0, one.1, (by, one.2))
+
+-- calls more
+more_calls : (added first last old new : WorldCalls) → new ≡ added ++ last → last ≡ first ++ old
+    → new ≡ (added ++ first) ++ old
+more_calls added first last old new calls before =
+    calls ∙ (ap (λ (log : WorldCalls). added ++ log) before ∙ sym (append_assoc added first old))
 
 uses : (n : ℕ) (state : KeyState) (old new : WorldCalls) → UsesAll n state old new → Alone (UsesAll n state) old new
 uses zero state old new is = leaves state old new is
-uses (suc n) state old new (taken, read, reads, within, calls) =
-    (PutBack _ ∷ Taken (Some taken) ∷ [], calls, (taken, read, reads, within, refl))
+uses (suc n) state old new (by, last, is, noted) =
+    let one = alone_after (StoresUse (suc n) state) by.watch old last
+    (uses_after (watched by old) last (watched by []) (suc n) state is) in
+    let noting = notes (suc n) by.watch state.key.i state.index (Ok tt) in
+    (noting ++ one.0, more_calls noting one.0 last old new noted one.1, (by, one.0, one.2, refl))
 
-unopened : (fault : Fault) (old new : WorldCalls) → LogsUnopened fault old new → Alone (LogsUnopened fault) old new
-unopened fault old new (inl (at, calls)) = (Taken None ∷ [], calls, inl (at, refl))
-unopened fault old new (inr (taken, inl (at, calls))) =
-    (PutBack _ ∷ Taken (Some taken) ∷ [], calls, inr (taken, inl (at, refl)))
-unopened fault old new (inr (taken, inr (inl (at, fails, calls)))) =
-    (PutBack _ ∷ Taken (Some taken) ∷ [], calls, inr (taken, inr (inl (at, fails, refl))))
-unopened fault old new (inr (taken, inr (inr (bad, text, at, may, is, calls)))) =
-    (PutBack _ ∷ Taken (Some taken) ∷ [], calls, inr (taken, inr (inr (bad, text, at, may, is, refl))))
+unopened : (fault : Fault) (old new : WorldCalls) → LogsUnwatched fault old new → Alone (LogsUnwatched fault) old new
+unopened fault old new (inl (inl (at, calls))) = (WitnessRead _ ∷ [], calls, inl (inl (at, refl)))
+unopened fault old new (inl (inr (at, calls))) = (WitnessRead _ ∷ [], calls, inl (inr (at, refl)))
+unopened fault old new (inr (inl (text, inl (at, calls)))) =
+    (WitnessDrafted _ ∷ WitnessRead _ ∷ [], calls, inr (inl (text, inl (at, refl))))
+unopened fault old new (inr (inl (text, inr (at, inl same)))) =
+    (WitnessRead _ ∷ [], same, inr (inl (text, inr (at, inl refl))))
+unopened fault old new (inr (inl (text, inr (at, inr calls)))) =
+    (WitnessDrafted _ ∷ WitnessRead _ ∷ [], calls, inr (inl (text, inr (at, inr refl))))
+unopened fault old new (inr (inr (inl (watch, is)))) =
+    let one = alone_after (LogsUnopened fault) watch old new
+    (unopened_after (watch_calls watch ++ old) new (watch_calls watch ++ []) fault is) in
+    (one.0, one.1, inr (inr (inl (watch, one.2))))
+unopened fault old new (inr (inr (inr (watch, state, refused, is)))) =
+    let one = alone_after (LeavesState state) watch old new
+    (leaves_after (watch_calls watch ++ old) new (watch_calls watch ++ []) state is) in
+    (one.0, one.1, inr (inr (inr (watch, state, refused, one.2))))
 
-spares : (n : ℕ) (fault : Fault) (state : KeyState) (old new : WorldCalls) → LeavesUnsigned n fault state old new
-    → Alone (LeavesUnsigned n fault state) old new
-spares n fault state old new (inl (at, lacks, is)) =
-    let one = leaves state old new is in (one.0, one.1, inl (at, lacks, one.2))
-spares n fault state old new (inr (at, is)) =
-    let one = leaves state old new is in (one.0, one.1, inr (at, one.2))
+spares : (n : ℕ) (fault : Fault) (state : KeyState) (old new : WorldCalls) → SparesWatched n fault state old new
+    → Alone (SparesWatched n fault state) old new
+spares n fault state old new (by, is) =
+    let one = alone_after (LeavesUnsigned n fault state) by.watch old new
+    (spares_after (watched by old) new (watched by []) n fault state is) in
+    (one.0, one.1, (by, one.2))
 
-burns : (n : ℕ) (fault : Fault) (state : KeyState) (old new : WorldCalls) → BurnsUnsigned n fault state old new
-    → Alone (BurnsUnsigned n fault state) old new
-burns n fault state old new (inl (at, (taken, read, left, reads, within, fails, calls))) =
-    (PutBack left ∷ Taken (Some taken) ∷ [], calls, inl (at, (taken, read, left, reads, within, fails, refl)))
-burns n fault state old new (inr (at, (taken, read, reads, within, calls))) =
-    (PutBack _ ∷ Taken (Some taken) ∷ [], calls, inr (at, (taken, read, reads, within, refl)))
+burns : (n : ℕ) (fault : Fault) (state : KeyState) (old new : WorldCalls) → BurnsWatched n fault state old new
+    → Alone (BurnsWatched n fault state) old new
+burns n fault state old new (by, inl is) =
+    let one = alone_after (BurnsUnsigned n fault state) by.watch old new
+    (burns_after (watched by old) new (watched by []) n fault state is) in
+    (one.0, one.1, (by, inl one.2))
+burns n fault state old new (by, inr (last, is, fails)) =
+    let one = alone_after (StoresUse n state) by.watch old last
+    (uses_after (watched by old) last (watched by []) n state is) in
+    let unsaid = unsaid_after last new one.0 n by.watch state.key.i state.index fault fails in
+    (unsaid.0 ++ one.0, more_calls unsaid.0 one.0 last old new unsaid.1 one.1, (by, inr (one.0, one.2, unsaid.2)))
 
 answers_jobs : (input rest : Option (List ℕ)) (before : List ℕ) (batch : Batch) (old new : WorldCalls)
     (is : AnswersJobs input rest before batch old new)

@@ -1,18 +1,25 @@
 -- The calls of `serve` write no file and no nodes.
-use Rattle.std.proofs.Common.{◌≡◌, ◌∙◌, ℕ, zero, suc, List, [], ◌∷◌, ◌++◌, length, map, Option, Some, None, ap, refl}
+use Rattle.std.proofs.Common.{◌≡◌, ◌∙◌, ℕ, zero, suc, List, [], ◌∷◌, ◌++◌, length, map, Option, Some, None, Ok, Err, ap}
+use Rattle.std.proofs.Common.{refl}
+use Rattle.std.specs.Prelude.{Result}
 use Rattle.std.proofs.Common.{sym, inl, inr}
 use Rattle.std.proofs.Common.{append-nil}
 use Rattle.std.proofs.lemmas.List.{append_cancel_right}
 use Rattle.lms_book.specs.Stops.{StoreView}
 use Rattle.lms_world.specs.Names.{Bytes}
 use Rattle.lms_world.specs.Events.{Acquired, Event, Locked, Locking, Printing, PutBack, Taken, Taking, Unlocked}
+use Rattle.lms_world.specs.Events.{WitnessDrafted, WitnessRead, Writing}
+use Rattle.lms_world.specs.declared.fault.WorldFault.{WorldFault}
 use Rattle.lms_world.specs.Held.{Answers, Follows, Held}
 use Rattle.lms_world.specs.Outcomes.{files_after, nodes_after}
 use Rattle.lms_world.proofs.Outcomes.{holds_what_is_logged}
 use Rattle.lms_batch.specs.declared.collector.Batch.{Batch}
 use Rattle.lms_signature_commands.specs.BatchLogs.{AnswersJobs, UsesAll}
 use Rattle.lms_commands.specs.Histories.{written_in}
-use Rattle.lms_commands.specs.Logs.{BurnsUnsigned, KeyState, LeavesState, LeavesUnsigned, LogsUnopened, WorldCalls}
+use Rattle.lms_commands.specs.Logs.{BurnsUnsigned, KeyState, LeavesState, LeavesUnsigned, LogsUnopened, StoresUse}
+use Rattle.lms_commands.specs.Logs.{WorldCalls}
+use Rattle.lms_commands.specs.Watching.{BurnsWatched, FailsToNote, LeavesWatched, LogsUnwatched, SparesWatched, Watch}
+use Rattle.lms_commands.specs.Watching.{notes, watch_calls}
 use Rattle.lms_signature_commands.specs.Serving.{AnyState, Due, FailsGroup, FailsToServe, Group, LeavesGroup, LogsGroup}
 use Rattle.lms_signature_commands.specs.Serving.{LogsGroups, LogsServe, LogsServeFailed, ServesNone, UsesGroup}
 use Rattle.lms_signature_commands.specs.Serving.{answered}
@@ -93,27 +100,99 @@ module _ {base old new : WorldCalls} (was : Keeps base old) where
     unwritten = was.unwritten;
   }
 
+-- that a witness was read, and drafted, or that it is written
+keeps_read : {base old : WorldCalls} (was : Keeps base old) (answer : Result (Option (List ℕ)) WorldFault)
+    → Keeps base (WitnessRead answer ∷ old)
+keeps_read was answer = record {
+  added = WitnessRead answer ∷ was.added;
+  are = ap (λ (log : WorldCalls). WitnessRead answer ∷ log) was.are;
+  files = was.files;
+  nodes = was.nodes;
+  unwritten = was.unwritten;
+}
+
+keeps_drafted : {base old : WorldCalls} (was : Keeps base old) (answer : Writing)
+    → Keeps base (WitnessDrafted answer ∷ old)
+keeps_drafted was answer = record {
+  added = WitnessDrafted answer ∷ was.added;
+  are = ap (λ (log : WorldCalls). WitnessDrafted answer ∷ log) was.are;
+  files = was.files;
+  nodes = was.nodes;
+  unwritten = was.unwritten;
+}
+
+keeps_watch : {base old : WorldCalls} (was : Keeps base old) (watch : Watch) → Keeps base (watch_calls watch ++ old)
+keeps_watch was None = keeps_read was (Ok None)
+keeps_watch was (Some text) = keeps_drafted (keeps_read was (Ok (Some text))) (Ok tt)
+
+keeps_note : {base old : WorldCalls} (was : Keeps base old) (n : ℕ) (watch : Watch) (id : List ℕ) (start : ℕ)
+    (answer : Writing) → Keeps base (notes n watch id start answer ++ old)
+keeps_note was zero watch id start answer = was
+keeps_note was (suc n) None id start answer = was
+keeps_note was (suc n) (Some text) id start answer = record {
+  added = notes (suc n) (Some text) id start answer ++ was.added;
+  are = ap (λ (log : WorldCalls). notes (suc n) (Some text) id start answer ++ log) was.are;
+  files = was.files;
+  nodes = was.nodes;
+  unwritten = was.unwritten;
+}
+
 module _ {base old new : WorldCalls} (was : Keeps base old) where
-  leaves : (state : KeyState) → LeavesState state old new → Keeps base new
-  leaves state (taken, read, reads, calls) = keeps_store was taken read calls
+  left_raw : (state : KeyState) → LeavesState state old new → Keeps base new
+  left_raw state (taken, read, reads, calls) = keeps_store was taken read calls
+
+  stored_raw : (n : ℕ) (state : KeyState) → StoresUse n state old new → Keeps base new
+  stored_raw n state (taken, read, reads, within, calls) = keeps_store was taken _ calls
+
+  unopened_raw : (fault : Fault) → LogsUnopened fault old new → Keeps base new
+  unopened_raw fault (inl (at, calls)) = keeps_untaken was calls
+  unopened_raw fault (inr (taken, inl (at, calls))) = keeps_store was taken _ calls
+  unopened_raw fault (inr (taken, inr (inl (at, fails, calls)))) = keeps_store was taken _ calls
+  unopened_raw fault (inr (taken, inr (inr (bad, text, at, may, is, calls)))) = keeps_store was taken _ calls
+
+  spared_raw : (n : ℕ) (fault : Fault) (state : KeyState) → LeavesUnsigned n fault state old new → Keeps base new
+  spared_raw n fault state (inl (at, lacks, is)) = left_raw state is
+  spared_raw n fault state (inr (at, is)) = left_raw state is
+
+  burnt_raw : (n : ℕ) (fault : Fault) (state : KeyState) → BurnsUnsigned n fault state old new → Keeps base new
+  burnt_raw n fault state (inl (at, (taken, read, left, reads, within, fails, calls))) =
+      keeps_store was taken left calls
+  burnt_raw n fault state (inr (at, uses)) = stored_raw n state uses
+
+  unsaid : (n : ℕ) (watch : Watch) (id : List ℕ) (start : ℕ) (fault : Fault)
+      → FailsToNote n watch id start fault old new → Keeps base new
+  unsaid zero watch id start fault never = absurd never
+  unsaid (suc n) None id start fault never = absurd never
+  unsaid (suc n) (Some text) id start fault (at, inl same) = keeps_as was same
+  unsaid (suc n) (Some text) id start fault (at, inr (cause, calls)) =
+      keeps_as (keeps_note was (suc n) (Some text) id start (Err cause)) calls
+
+module _ {base old new : WorldCalls} (was : Keeps base old) where
+  leaves : (state : KeyState) → LeavesWatched state old new → Keeps base new
+  leaves state (by, is) = left_raw (keeps_watch was by.watch) state is
 
   uses : (n : ℕ) (state : KeyState) → UsesAll n state old new → Keeps base new
   uses zero state is = leaves state is
-  uses (suc n) state (taken, read, reads, within, calls) = keeps_store was taken _ calls
+  uses (suc n) state (by, last, is, noted) =
+      keeps_as (keeps_note (stored_raw (keeps_watch was by.watch) (suc n) state is) (suc n) by.watch state.key.i
+      state.index (Ok tt)) noted
 
-  unopened : (fault : Fault) → LogsUnopened fault old new → Keeps base new
-  unopened fault (inl (at, calls)) = keeps_untaken was calls
-  unopened fault (inr (taken, inl (at, calls))) = keeps_store was taken _ calls
-  unopened fault (inr (taken, inr (inl (at, fails, calls)))) = keeps_store was taken _ calls
-  unopened fault (inr (taken, inr (inr (bad, text, at, may, is, calls)))) = keeps_store was taken _ calls
+  unopened : (fault : Fault) → LogsUnwatched fault old new → Keeps base new
+  unopened fault (inl (inl (at, calls))) = keeps_as (keeps_read was _) calls
+  unopened fault (inl (inr (at, calls))) = keeps_as (keeps_read was _) calls
+  unopened fault (inr (inl (text, inl (at, calls)))) = keeps_as (keeps_drafted (keeps_read was _) _) calls
+  unopened fault (inr (inl (text, inr (at, inl same)))) = keeps_as (keeps_read was _) same
+  unopened fault (inr (inl (text, inr (at, inr calls)))) = keeps_as (keeps_drafted (keeps_read was _) _) calls
+  unopened fault (inr (inr (inl (watch, is)))) = unopened_raw (keeps_watch was watch) fault is
+  unopened fault (inr (inr (inr (watch, state, refused, is)))) = left_raw (keeps_watch was watch) state is
 
-  spares : (n : ℕ) (fault : Fault) (state : KeyState) → LeavesUnsigned n fault state old new → Keeps base new
-  spares n fault state (inl (at, lacks, is)) = leaves state is
-  spares n fault state (inr (at, is)) = leaves state is
+  spares : (n : ℕ) (fault : Fault) (state : KeyState) → SparesWatched n fault state old new → Keeps base new
+  spares n fault state (by, is) = spared_raw (keeps_watch was by.watch) n fault state is
 
-  burns : (n : ℕ) (fault : Fault) (state : KeyState) → BurnsUnsigned n fault state old new → Keeps base new
-  burns n fault state (inl (at, (taken, read, left, reads, within, fails, calls))) = keeps_store was taken left calls
-  burns n fault state (inr (at, (taken, read, reads, within, calls))) = keeps_store was taken _ calls
+  burns : (n : ℕ) (fault : Fault) (state : KeyState) → BurnsWatched n fault state old new → Keeps base new
+  burns n fault state (by, inl is) = burnt_raw (keeps_watch was by.watch) n fault state is
+  burns n fault state (by, inr (last, is, fails)) =
+      unsaid (stored_raw (keeps_watch was by.watch) n state is) n by.watch state.key.i state.index fault fails
 
 answers_jobs : {base old new : WorldCalls} (was : Keeps base old) (input rest : Option (List ℕ)) (before : List ℕ)
     (batch : Batch) → AnswersJobs input rest before batch old new → Keeps base new

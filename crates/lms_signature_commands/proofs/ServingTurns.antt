@@ -12,10 +12,12 @@ use Rattle.lms_world.specs.Events.{Acquired, Locked, Unlocked}
 use Rattle.lms_commands.specs.Histories.{AreLinked, AreWholeTurns, Continues, IsTurn, Prints, Signature, StoresNothing}
 use Rattle.lms_commands.specs.Histories.{TakenTurn, Turn, Uses, signature_lines, stored_last, turn_signatures}
 use Rattle.lms_commands.specs.Histories.{whole_calls, written_in}
-use Rattle.lms_commands.specs.Logs.{BurnsUnsigned, KeyState, WorldCalls}
+use Rattle.lms_commands.specs.Logs.{KeyState, WorldCalls}
+use Rattle.lms_commands.specs.Watching.{BurnsWatched, Watch}
 use Rattle.lms_commands.specs.declared.fault.Fault.{Fault}
 use Rattle.lms_commands.specs.declared.fault.Fault.TheVariants.{BadJob, WriteOutput}
-use Rattle.lms_commands.proofs.Turns.{IsQuiet, burnt, idle_as, kept, left_so, no_text, one_more, unopened, whole_text}
+use Rattle.lms_commands.proofs.Turns.{IsQuiet, burnt, idle_as, left_watched, no_text, one_more, spared, unwatched}
+use Rattle.lms_commands.proofs.Turns.{whole_text}
 use Rattle.lms_signature_commands.specs.BatchLogs.{AnswersJobs}
 use Rattle.lms_signature_commands.specs.Serving.{AnswersGroup, AnyState, Due, FailsGroup, FailsToServe, FindsNoState}
 use Rattle.lms_signature_commands.specs.Serving.{Group, IsDue}
@@ -45,24 +47,24 @@ one_spelling : (text image : List ℕ) (state : KeyState) → IsImage text state
 one_spelling text image state (inl second) is opened = second ∙ sym is
 one_spelling text image state (inr (first, none, lost)) is opened = absurd (omega (arith, none, opened))
 
-reads_last : (n : ℕ) (state : KeyState) (text : List ℕ) (last : Option (List ℕ)) (due : Due)
+reads_last : (n : ℕ) (state : KeyState) (text : List ℕ) (watch : Watch) (last : Option (List ℕ)) (due : Due)
     → IsImage text state.key state.index state.openings state.burnt → IsDue due state → Agrees last due
-    → Continues (Uses n state text) last
-reads_last n state text None due is was agrees = tt
-reads_last n state text (Some image) AnyState is was agrees = absurd agrees
-reads_last n state text (Some image) (Only other) is was agrees =
+    → Continues (Uses n state text watch) last
+reads_last n state text watch None due is was agrees = tt
+reads_last n state text watch (Some image) AnyState is was agrees = absurd agrees
+reads_last n state text watch (Some image) (Only other) is was agrees =
     one_spelling text image state is
     (subst (λ (s : KeyState). image ≡ image_of s.key s.index s.openings s.burnt) (sym was) agrees.0)
     (subst (λ (s : KeyState). 1 ≤ s.openings) (sym was) agrees.1)
-reads_last n state text (Some image) NoState is was agrees = absurd was
+reads_last n state text watch (Some image) NoState is was agrees = absurd was
 
 -- a turn that uses so many indices of a state that is due reads what was stored last
 continues : (n : ℕ) (state : KeyState) (turn : Turn) (last : Option (List ℕ)) (due : Due) → IsUseOf n state turn
     → IsDue due state → Agrees last due → Continues turn last
 continues zero state turn last due is was agrees =
     subst (λ (t : Turn). Continues t last) (sym is) tt
-continues (suc n) state turn last due (text, image, is) was agrees =
-    subst (λ (t : Turn). Continues t last) (sym is) (reads_last (suc n) state text last due image was agrees)
+continues (suc n) state turn last due (text, watch, image, is) was agrees =
+    subst (λ (t : Turn). Continues t last) (sym is) (reads_last (suc n) state text watch last due image was agrees)
 
 -- a state that is due, and is read, is due still
 still_due : (last : Option (List ℕ)) (due : Due) (state : KeyState) → IsDue due state → Agrees last due
@@ -80,7 +82,7 @@ agrees_then : (n : ℕ) (state : KeyState) (turn : Turn) (last : Option (List �
     → IsDue due state → Agrees last due → Agrees (stored_last turn last) (Only (having_used n state))
 agrees_then zero state turn last due is was agrees =
     subst (λ (t : Turn). Agrees (stored_last t last) (Only state)) (sym is) (still_due last due state was agrees)
-agrees_then (suc n) state turn last due (text, image, is) was agrees =
+agrees_then (suc n) state turn last due (text, watch, image, is) was agrees =
     let some : 1 ≤ state.openings + 1 = omega arith in
     subst (λ (t : Turn). Agrees (stored_last t last) (Only (having_used (suc n) state))) (sym is) (refl, some)
 
@@ -246,14 +248,14 @@ module _ (last : Option (List ℕ)) (due : Due) (agrees : Agrees last due) (befo
 
   -- indices are used, and nothing is signed
   burnt_group : (n : ℕ) (fault : Fault) (state : KeyState) → 1 ≤ n → IsDue due state
-      → BurnsUnsigned n fault state [] calls → printed ≡ before → GroupTurn last NoState before printed calls
+      → BurnsWatched n fault state [] calls → printed ≡ before → GroupTurn last NoState before printed calls
   burnt_group n fault state some was burns same =
-      let is = burnt [] refl refl n state calls some fault burns in record {
+      let is = burnt [] refl refl refl n state calls some fault burns in record {
         takes = record {
-          turn = Uses n state is.0;
+          turn = Uses n state is.text is.watch;
           signatures = [];
-          takes = is.2.takes;
-          goes_on = reads_last n state is.0 last due is.1 was agrees;
+          takes = is.turn.takes;
+          goes_on = reads_last n state is.text is.watch last due is.image was agrees;
         };
         later_due = tt;
         lines = nothing_printed same;
@@ -267,8 +269,8 @@ module _ (last : Option (List ℕ)) (due : Due) (agrees : Agrees last due) (befo
     abbrev count : ℕ
     count = length answers.signs.jobs
 
-    abbrev made : BatchTurn [] refl refl refl (Some text) rest before printed count state batch calls
-    made = batch_turn [] refl refl refl (Some text) rest before printed batch calls answers
+    abbrev made : BatchTurn [] refl refl refl refl (Some text) rest before printed count state batch calls
+    made = batch_turn [] refl refl refl refl (Some text) rest before printed batch calls answers
 
     abbrev batch_next : NextTurn last calls
     batch_next = record {
@@ -292,9 +294,9 @@ module _ (last : Option (List ℕ)) (due : Due) (agrees : Agrees last due) (befo
 
   left_group : (text : List ℕ) (fault : Fault) (state : KeyState) → LeavesGroup text fault state [] calls
       → IsQuiet StoresNothing [] calls
-  left_group text fault state (inl (unread, leaves)) = left_so [] refl refl state calls leaves
+  left_group text fault state (inl (unread, leaves)) = left_watched [] refl refl refl state calls leaves
   left_group text fault state (inr (rest, jobs, reads, some, leaves)) =
-      kept [] refl refl (length jobs) state calls fault leaves
+      spared [] refl refl refl (length jobs) state calls fault leaves
 
   answered_group : (text : List ℕ) (next : Due) → AnswersGroup text due next before printed [] calls
       → GroupTurn last next before printed calls
@@ -309,10 +311,10 @@ module _ (last : Option (List ℕ)) (due : Due) (agrees : Agrees last due) (befo
   idle_failed : (text : List ℕ) (fault : Fault) (next : Due) → FindsNoState fault due [] calls → printed ≡ before
       → next ≡ due → GroupTurn last next before printed calls
   idle_failed text fault next (inl (cause, never, at)) same is =
-      idle_group next (unopened [] refl refl calls cause never)
+      idle_group next (unwatched [] refl refl refl calls cause never)
       (subst (λ (d : Due). Agrees last d) (sym is) agrees) same
   idle_failed text fault next (inr (at, (state, leaves, other))) same is =
-      idle_group next (left_so [] refl refl state calls leaves)
+      idle_group next (left_watched [] refl refl refl state calls leaves)
       (subst (λ (d : Due). Agrees last d) (sym is) agrees) same
 
   left_failed : (text : List ℕ) (fault : Fault) (next : Due) (state : KeyState) → IsDue due state

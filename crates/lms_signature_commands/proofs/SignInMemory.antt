@@ -1,44 +1,53 @@
 -- What `sign` leaves in a world in memory, by its calls.
-use Rattle.std.proofs.Common.{◌≡◌, ◌∙◌, ◌∷◌, [], ◌++◌, ℕ, List, Option, Some, Ok, Err, ap, refl, subst, sym, inl, inr}
-use Rattle.std.proofs.Common.{⊎_elim}
+use Rattle.std.proofs.Common.{◌≡◌, ◌∙◌, ◌∷◌, [], ◌++◌, ℕ, List, Option, Ok, Err, ap, refl, subst, sym, inl, inr}
+use Rattle.std.proofs.Common.{⊎_elim, append_assoc}
 use Rattle.lms_spec.specs.HashLength.{hash_length}
-use Rattle.lms_book.specs.Stops.{after_write}
 use Rattle.lms_world.specs.Names.{Bytes}
-use Rattle.lms_world.specs.Events.{Acquired, Event, Locked, NodesRead, PutBack, Read, Taken, Writing}
+use Rattle.lms_world.specs.Events.{Acquired, Event, Locked, NodesRead, Read, Writing}
 use Rattle.lms_world.specs.Held.{Answers, Held}
-use Rattle.lms_world.specs.Outcomes.{files_after}
+use Rattle.lms_world.specs.Outcomes.{files_after, nodes_after}
 use Rattle.lms_commands.specs.InMemory.{KeepsNodes}
 use Rattle.lms_texts.specs.Options.{IsHexOf}
-use Rattle.lms_commands.specs.Logs.{WorldCalls, image_using, lock_answer, read_cause}
+use Rattle.lms_commands.specs.Logs.{WorldCalls, lock_answer, read_cause}
 use Rattle.lms_signature_commands.specs.SignInMemory.{FailsToSignInMemory, SignsInMemory, SignsMessage}
 use Rattle.lms_signature_commands.specs.SignLogs.{IsRandomizer, WritesSignature}
-use Rattle.lms_commands.proofs.AtState.{AreStill, lock_refused, unopened, unsigned}
+use Rattle.lms_commands.proofs.AtState.{AreStill, lock_refused, unsigned_watched, unwatched, unwatched_files}
 use Rattle.lms_commands.proofs.Telling.{Adds, KeepsOnly, Told, and_kept, and_then, keeps_only, nothing_done}
 use Rattle.lms_commands.proofs.Telling.{read_refused, same_held, told, unlocked, until_printing, was_state}
 use Rattle.lms_commands.proofs.Telling.{written_file}
+use Rattle.lms_signature_commands.proofs.Using.{UsesSo, uses_so}
 
 -- a signature is written to its file, or its write fails
 module _ {message state out : Bytes} {c text : List ℕ} {answer : Writing} {earlier last : WorldCalls}
     (writes : WritesSignature c text out answer (Locked state Acquired ∷ Read message (Ok text) ∷ earlier) last) where
+  abbrev asked : List Event
+  asked = NodesRead writes.nodes ∷ Locked state Acquired ∷ Read message (Ok text) ∷ []
+
+  abbrev uses : UsesSo 1 writes.signs.state
+      (NodesRead writes.nodes ∷ Locked state Acquired ∷ Read message (Ok text) ∷ earlier)
+      writes.signs.until_stored
+  uses = uses_so 1 writes.signs.state writes.signs.stores
+
   abbrev first : List Event
-  first =
-      PutBack (after_write (image_using 1 writes.signs.state) writes.signs.stores.1)
-      ∷ Taken (Some writes.signs.stores.0) ∷ NodesRead writes.nodes ∷ Locked state Acquired
-      ∷ Read message (Ok text) ∷ []
+  first = uses.calls ++ asked
 
   abbrev keeps : KeepsOnly writes.signs.trees writes.signs.until_stored writes.until_signed
   keeps = keeps_only writes.signs.trees writes.signs.keeps
 
   abbrev all_calls : Adds earlier last
-  all_calls = and_then (and_kept (record { calls = first; are = writes.signs.stores.4 }) keeps) writes.writes
+  all_calls = and_then (and_kept (record {
+    calls = first;
+    are = uses.are ∙ sym (append_assoc uses.calls asked earlier);
+  }) keeps) writes.writes
 
   signs : {random : Bytes} (old new : Held) → IsRandomizer random c → Told all_calls.calls old new
       → SignsMessage random message old new
   signs old new randomizer is =
-      let stores = writes.signs.stores in
       let trees = writes.signs.trees in
-      let tell = keeps.tell first old is.tell.0 in
-      let kept = keeps.nodes first old.nodes in
+      let tell = uses.tell asked old (keeps.tell first old is.tell.0) in
+      let kept = subst
+      (λ (nodes : Option (List ℕ)). KeepsNodes trees nodes (nodes_after (keeps.calls ++ first) old.nodes))
+      (uses.nodes asked old.nodes) (keeps.nodes first old.nodes) in
       record {
         c = c;
         text = text;
@@ -46,23 +55,25 @@ module _ {message state out : Bytes} {c text : List ℕ} {answer : Writing} {ear
         index = writes.index;
         signature = writes.signature;
         randomizer = randomizer;
-        given = tell.0.0.0.0.1;
-        free = tell.0.0.0.1;
-        nodes_were = tell.0.0.1;
+        given = tell.0.0.0.1;
+        free = tell.0.0.1;
+        nodes_were = tell.0.1;
         uses = record {
           state = writes.signs.state;
-          was = was_state writes.signs.state stores.2 tell.0.1.0;
+          was = was_state writes.signs.state uses.reads tell.1;
           next = writes.signs.next;
-          within = stores.3;
+          within = uses.within;
           trees = trees;
           signed = writes.signs.signed;
-          stored = is.state ∙ keeps.state first old.state;
+          stored = is.state ∙ (keeps.state first old.state ∙ (uses.state_is asked old.state ∙ uses.counted));
           kept = subst (λ (nodes : Option (List ℕ)). KeepsNodes trees old.nodes nodes) (sym is.nodes) kept;
+          watched = (uses.watch, tell.2, uses.admitted);
+          witness = is.witness ∙ (keeps.witness first old.witness ∙ uses.witness asked old.witness tell.2);
         };
       }
 
   no_other : (old : Held) → files_after (keeps.calls ++ first) old.files ≡ old.files
-  no_other old = keeps.files first old.files
+  no_other old = keeps.files first old.files ∙ uses.files asked old.files
 
 pub signs_in_memory : SignsInMemory
 unfolding signs
@@ -83,7 +94,7 @@ fails_to_sign_in_memory random message state out before printed fault old new ea
 fails_to_sign_in_memory random message state out before printed fault old new earlier now
     (inr (inl (refused, calls, same, hex))) follows =
     let is = told old new (record { calls = Read message (Err (read_cause fault)) ∷ []; are = calls }) follows in
-    let stays = same_held old new is.files is.state is.may_fail is.in_use is.nodes is.nodes_fault in
+    let stays = same_held old new is.files is.state is.may_fail is.in_use is.nodes is.nodes_fault is.witness in
     let why = read_refused fault message old.files refused is.tell.1 in (
       inr (hex, ⊎_elim (λ memory. inl (memory, stays)) (λ device. inr (inl (device.0, device.1, stays))) why),
       λ other. is.files,
@@ -92,21 +103,21 @@ fails_to_sign_in_memory random message state out before printed fault old new ea
     (inr (inr (inl (text, refused, calls, same, hex)))) follows =
     let first = Locked state (lock_answer fault) ∷ Read message (Ok text) ∷ [] in
     let is = told old new (record { calls = first; are = calls }) follows in
-    let stays = same_held old new is.files is.state is.may_fail is.in_use is.nodes is.nodes_fault in
+    let stays = same_held old new is.files is.state is.may_fail is.in_use is.nodes is.nodes_fault is.witness in
     let never = lock_refused fault state (Read message (Ok text) ∷ []) old new refused is.tell.1 stays in
     (inr (hex, inr (inr (text, is.tell.0.1, inl never))), λ other. is.files)
 fails_to_sign_in_memory random message state out before printed fault old new earlier now
     (inr (inr (inr (c, text, last, randomizer, inl (nodes, never, same), calls)))) follows =
     let base : List Event = NodesRead nodes ∷ Locked state Acquired ∷ Read message (Ok text) ∷ [] in
     let still : AreStill base =
-    record { files = λ f. refl; state = λ s. refl; nodes = λ n. refl; may_fail = λ a b is. is } in
+    record { files = λ f. refl; state = λ s. refl; nodes = λ n. refl; witness = λ w. refl; may_fail = λ a b is. is } in
     let hex : IsHexOf hash_length random = (c, randomizer.0, randomizer.1) in
     ⊎_elim
     (λ unread.
-    let is = unopened base still {before = earlier} refl calls old new follows fault unread in
-    (inr (hex, inr (inr (text, is.0.0.0.1, inr (is.0.0.1, inl is.1)))), λ other. is.1.1.files))
+    let is = unwatched base still {before = earlier} refl calls old new follows fault unread in
+    (inr (hex, inr (inr (text, is.0.0.0.1, inr (is.0.0.1, inl is.1)))), λ other. unwatched_files is.1))
     (λ at.
-    let is = unsigned base still {before = earlier} refl calls old new follows 1 at.0 fault at.1 in
+    let is = unsigned_watched base still {before = earlier} refl calls old new follows 1 at.0 fault at.1 in
     (inr (hex, inr (inr (text, is.0.0.0.1, inr (is.0.0.1, inr (inl is.1.1))))), λ other. is.1.0))
     never
 fails_to_sign_in_memory random message state out before printed fault old new earlier now

@@ -2,7 +2,7 @@
 -- they make.
 use Rattle.std.proofs.Common.{◌≡◌, ◌∙◌, ℕ, zero, suc, ◌+◌, ◌≤◌, false, List, [], ◌∷◌, ◌++◌, length, map, Option, Some}
 use Rattle.std.proofs.Common.{None, Ok}
-use Rattle.std.proofs.Common.{Err, ap, refl, subst, sym, inl, inr, ◌⊎◌, arith}
+use Rattle.std.proofs.Common.{Err, ap, refl, subst, sym, inl, inr, arith}
 use Rattle.std.specs.Prelude.{Vec}
 use Rattle.std.specs.Global.{Global}
 use Rattle.std.specs.List.{list_any}
@@ -21,15 +21,16 @@ use Rattle.lms_world.specs.Events.{Acquired, Event, Locked, NodesRead, Printing,
 use Rattle.lms_signature_commands.specs.BatchLogs.{AnswersJobs, LogsAnswers, LogsJobs, LogsJobsFailed, LogsJobsUnsigned}
 use Rattle.lms_signature_commands.specs.BatchLogs.{LogsNoBatch, LogsUnanswered, LogsUnprinted, UsesAll}
 use Rattle.lms_commands.specs.Histories.{AreDelivered, AreInOrder, ArePrinted, AreWritten, IsSignature, IsTurn, Prints}
-use Rattle.lms_commands.specs.Histories.{StoresNothing, Signature, Turn, Uses, hands_out, is_of_store, signature_lines}
-use Rattle.lms_commands.specs.Histories.{store_calls, written_in}
+use Rattle.lms_commands.specs.Histories.{StoresNothing, Signature, Turn, Uses, found_in, hands_out, signature_lines}
+use Rattle.lms_commands.specs.Histories.{written_in}
+use Rattle.lms_commands.specs.Watching.{Watch}
 use Rattle.lms_commands.specs.Logs.{KeyState, WorldCalls}
 use Rattle.lms_signature_commands.specs.SignLogs.{DeliversSignature, index_line, LogsNotSigned, LogsSign}
 use Rattle.lms_signature_commands.specs.SignLogs.{LogsSignFailed}
 use Rattle.lms_signature_commands.specs.SignLogs.{LogsUndelivered, WritesSignature}
 use Rattle.lms_commands.specs.declared.fault.Fault.{Fault}
-use Rattle.lms_commands.proofs.Turns.{Quietly, idle_as, keeping, left_so, no_text, one_more, unopened, unsigned, used}
-use Rattle.lms_commands.proofs.Turns.{whole_text}
+use Rattle.lms_commands.proofs.Turns.{Quietly, idle_as, is_kept, keeping, kept_calls, left_watched, no_text, one_more}
+use Rattle.lms_commands.proofs.Turns.{unsigned, unwatched, used, whole_text}
 
 -- ---- `sign`
 
@@ -38,8 +39,8 @@ abbrev pub Delivers : List ℕ → List ℕ → WorldCalls → Type 0
 Delivers before printed whole = (turn : Turn) × (signatures : List Signature) × IsTurn turn signatures whole
     × AreDelivered signatures whole before printed
 
-module _ (old : WorldCalls) (quiet : list_any hands_out old ≡ false) (none : store_calls old ≡ [])
-    (no_file : written_in old ≡ []) where
+module _ (old : WorldCalls) (quiet : list_any hands_out old ≡ false) (none : kept_calls old ≡ [])
+    (unseen : found_in old ≡ []) (no_file : written_in old ≡ []) where
   abbrev signature_of : {random message : List ℕ} {out : Bytes} {answer : Writing} {new : WorldCalls}
       → WritesSignature random message out answer old new → Signature
   signature_of writes = record { key = writes.signs.state.key; index = writes.index; bytes = writes.signature }
@@ -53,13 +54,13 @@ module _ (old : WorldCalls) (quiet : list_any hands_out old ≡ false) (none : s
       let made : IsSignature one = (random, message, inr (signs.signed.nodes, signs.signed.signed)) in
       let are : AreInOrder signs.state.key signs.state.index (signs.state.index + 1) (one ∷ []) =
       (made, refl, omega (arith, signs.next), omega (arith, signs.next), tt) in
-      let stored = used (NodesRead writes.nodes ∷ old) quiet none 1 signs.state signs.until_stored signs.stores
+      let stored = used (NodesRead writes.nodes ∷ old) quiet none unseen 1 signs.state signs.until_stored signs.stores
       (omega arith) (one ∷ []) are in
-      let kept = keeping signs.trees signs.until_stored writes.until_signed signs.keeps stored in (
+      let kept = keeping signs.trees signs.until_stored writes.until_signed signs.keeps stored.0 in (
         _,
         one_more new _ refl writes.writes kept.0,
         ap written_in writes.writes ∙ ap (λ (texts : List (List ℕ)). writes.signature ∷ texts)
-            (kept.1 ∙ (ap written_in signs.stores.4 ∙ no_file)),
+            (kept.1 ∙ (stored.1 ∙ no_file)),
       )
 
   delivered : (random message : List ℕ) (out : Bytes) (before printed : List ℕ) (new : WorldCalls)
@@ -75,9 +76,10 @@ module _ (old : WorldCalls) (quiet : list_any hands_out old ≡ false) (none : s
 
   not_signed : (new : WorldCalls) (nodes : Option (List ℕ)) (fault : Fault)
       → LogsNotSigned fault (NodesRead nodes ∷ old) new → Quietly (NodesRead nodes ∷ old) new
-  not_signed new nodes fault (inl never) = (StoresNothing, unopened (NodesRead nodes ∷ old) quiet none new fault never)
+  not_signed new nodes fault (inl never) =
+      (StoresNothing, unwatched (NodesRead nodes ∷ old) quiet none unseen new fault never)
   not_signed new nodes fault (inr (state, never)) =
-      unsigned (NodesRead nodes ∷ old) quiet none 1 state new (omega arith) fault never
+      unsigned (NodesRead nodes ∷ old) quiet none unseen 1 state new (omega arith) fault never
 
   undelivered : (random message : List ℕ) (out : Bytes) (before printed : List ℕ) (fault : Fault) (new : WorldCalls)
       → LogsUndelivered random message out before printed fault old new → Delivers before printed new
@@ -100,10 +102,10 @@ pub sign_turn : (random message state out : Bytes) (before printed : List ℕ) (
     → Delivers before printed whole
 sign_turn random message state out before printed whole (c, text, last, decoded, (delivers, line), calls) =
     unlocked before printed last whole calls
-    (delivered (Locked state Acquired ∷ Read message (Ok text) ∷ []) refl refl refl c text out before printed last
+    (delivered (Locked state Acquired ∷ Read message (Ok text) ∷ []) refl refl refl refl c text out before printed last
     delivers (whole_text before printed (index_line delivers.writes) line))
 
-nothing_delivered : (before printed : List ℕ) (new calls : WorldCalls) → new ≡ calls → store_calls calls ≡ []
+nothing_delivered : (before printed : List ℕ) (new calls : WorldCalls) → new ≡ calls → kept_calls calls ≡ []
     → list_any hands_out calls ≡ false → written_in calls ≡ []
     → printed ≡ before → Delivers before printed new
 nothing_delivered before printed new calls is none quiet no_file same =
@@ -121,7 +123,7 @@ sign_failed_turn random message state out before printed fault whole
 sign_failed_turn random message state out before printed fault whole
     (inr (inr (inr (c, text, last, decoded, never, calls)))) =
     unlocked before printed last whole calls
-    (undelivered (Locked state Acquired ∷ Read message (Ok text) ∷ []) refl refl refl c text out before printed
+    (undelivered (Locked state Acquired ∷ Read message (Ok text) ∷ []) refl refl refl refl c text out before printed
     fault last never)
 
 -- ---- `batch`
@@ -130,8 +132,8 @@ sign_failed_turn random message state out before printed fault whole
 abbrev pub IsUseOf : ℕ → KeyState → Turn → Type 0
 IsUseOf zero state turn = turn ≡ StoresNothing
 IsUseOf (suc n) state turn =
-    (text : List ℕ) × IsImage text state.key state.index state.openings state.burnt
-    × (turn ≡ Uses (suc n) state text)
+    (text : List ℕ) × (watch : Watch) × IsImage text state.key state.index state.openings state.burnt
+    × (turn ≡ Uses (suc n) state text watch)
 
 -- the slots of a batch
 abbrev pub slots_of : Batch → List (Option (List ℕ))
@@ -196,14 +198,14 @@ PrintsAll before printed whole = (turn : Turn) × (signatures : List Signature) 
     × ArePrinted signatures whole before printed
 
 -- a call more, which writes no file
-pub prints_more : (before printed : List ℕ) (log new : WorldCalls) (event : Event) → is_of_store event ≡ false
+pub prints_more : (before printed : List ℕ) (log new : WorldCalls) (event : Event) → is_kept event ≡ false
     → written_in (event ∷ log) ≡ written_in log → new ≡ event ∷ log
     → PrintsAll before printed log → PrintsAll before printed new
 prints_more before printed log new event other silent calls (turn, signatures, is, (no_file, lines)) =
     (turn, signatures, one_more new event other calls is, (ap written_in calls ∙ (silent ∙ no_file), lines))
 
-module _ (old : WorldCalls) (quiet : list_any hands_out old ≡ false) (none : store_calls old ≡ [])
-    (no_file : written_in old ≡ []) (input rest : Option (List ℕ))
+module _ (old : WorldCalls) (quiet : list_any hands_out old ≡ false) (none : kept_calls old ≡ [])
+    (unseen : found_in old ≡ []) (no_file : written_in old ≡ []) (input rest : Option (List ℕ))
     (before printed : List ℕ) where
   quietly_all : (new : WorldCalls) → Quietly old new → printed ≡ before → PrintsAll before printed new
   quietly_all new (turn, is) same = (turn, [], is.takes, (is.unwritten ∙ no_file, no_text before printed [] same))
@@ -214,7 +216,7 @@ module _ (old : WorldCalls) (quiet : list_any hands_out old ≡ false) (none : s
       → (turn : Turn) × IsTurn turn (filled state.key (start_of batch) (slots_of batch)) new × (written_in new ≡ [])
       × IsUseOf (length jobs) state turn
   signed_all batch state [] new answer next uses =
-      let is = left_so old quiet none state new uses in (
+      let is = left_watched old quiet none unseen state new uses in (
         StoresNothing,
         subst (λ (ones : List Signature). IsTurn StoresNothing ones new)
             (sym (nothing_in _ (holds_batch state.key [] batch answer))) is.takes,
@@ -230,11 +232,11 @@ module _ (old : WorldCalls) (quiet : list_any hands_out old ≡ false) (none : s
       let are = in_slots state.key (start_of batch) (job ∷ jobs) (slots_of batch)
       (holds_batch state.key (job ∷ jobs) batch answer) state.index
       (state.index + length (job ∷ jobs)) (omega (arith, at)) (omega (arith, at)) in
-      let text = uses.2.text in (
-        Uses (length (job ∷ jobs)) state text,
-        used old quiet none (length (job ∷ jobs)) state new uses (omega arith) _ are,
-        ap written_in uses.4 ∙ no_file,
-        (text, uses.2.image, refl),
+      let turn = used old quiet none unseen (length (job ∷ jobs)) state new uses (omega arith) _ are in (
+        Uses (length (job ∷ jobs)) state uses.2.2.text uses.0.watch,
+        turn.0,
+        turn.1 ∙ no_file,
+        (uses.2.2.text, uses.0.watch, uses.2.2.image, refl),
       )
 
   -- what is signed as a batch is a turn, once its lines begin to be printed
@@ -283,12 +285,12 @@ module _ (old : WorldCalls) (quiet : list_any hands_out old ≡ false) (none : s
 
   jobs_unsigned : (state : KeyState) (new : WorldCalls) (fault : Fault)
       → LogsJobsUnsigned input rest fault state old new → Quietly old new
-  jobs_unsigned state new fault (inl (unread, is)) = (StoresNothing, left_so old quiet none state new is)
+  jobs_unsigned state new fault (inl (unread, is)) = (StoresNothing, left_watched old quiet none unseen state new is)
   jobs_unsigned state new fault (inr (jobs, read, some, is)) =
-      unsigned old quiet none (length jobs) state new some fault is
+      unsigned old quiet none unseen (length jobs) state new some fault is
 
   no_batch : (new : WorldCalls) (fault : Fault) → LogsNoBatch input rest fault old new → Quietly old new
-  no_batch new fault (inl never) = (StoresNothing, unopened old quiet none new fault never.0)
+  no_batch new fault (inl never) = (StoresNothing, unwatched old quiet none unseen new fault never.0)
   no_batch new fault (inr (state, never)) = jobs_unsigned state new fault never
 
   pub unanswered : (new : WorldCalls) (fault : Fault) → LogsUnanswered input rest before printed fault old new
@@ -301,7 +303,7 @@ pub jobs_turn : (state workers : Bytes) (input rest : Option (List ℕ)) (before
     → PrintsAll before printed whole
 jobs_turn state workers input rest before printed whole (last, count, is, calls, are) =
     prints_more before printed last whole Unlocked refl refl calls
-    (all_answered (Locked state Acquired ∷ []) refl refl refl input rest before printed count count last is)
+    (all_answered (Locked state Acquired ∷ []) refl refl refl refl input rest before printed count count last is)
 
 pub jobs_failed_turn : (state workers : Bytes) (input rest : Option (List ℕ)) (before printed : List ℕ) (fault : Fault)
     (whole : WorldCalls)
@@ -312,4 +314,4 @@ jobs_failed_turn state workers input rest before printed fault whole (inr (inl (
     (StoresNothing, [], idle_as whole _ calls refl refl, (ap written_in calls, no_text before printed [] same))
 jobs_failed_turn state workers input rest before printed fault whole (inr (inr (last, never, calls, are))) =
     prints_more before printed last whole Unlocked refl refl calls
-    (unanswered (Locked state Acquired ∷ []) refl refl refl input rest before printed last fault never)
+    (unanswered (Locked state Acquired ∷ []) refl refl refl refl input rest before printed last fault never)

@@ -1,5 +1,5 @@
 -- What `verify` finds in a world in memory, by its calls.
-use Rattle.std.proofs.Common.{◌≡◌, ◌∙◌, ◌∷◌, ◌++◌, [], ℕ, List, Option, Some, None, Ok, Err, ap}
+use Rattle.std.proofs.Common.{◌≡◌, ◌∙◌, ◌∷◌, [], ℕ, List, Option, Some, None, Ok, Err, ap}
 use Rattle.std.proofs.Common.{sym, inl, inr, ⊎_elim}
 use Rattle.lms_world.specs.Names.{Bytes}
 use Rattle.lms_world.specs.Events.{Opened, Printing, Read}
@@ -38,7 +38,7 @@ module _ (public message signature : Bytes) {earlier : WorldCalls} (old new : He
           signed_is = is.tell.0.1;
           right = right;
         },
-        same_held old new is.files is.state is.may_fail is.in_use is.nodes is.nodes_fault,
+        same_held old new is.files is.state is.may_fail is.in_use is.nodes is.nodes_fault is.witness,
       )
 
   unjudged : (before printed : List ℕ) (fault : Fault) (now : WorldCalls)
@@ -50,21 +50,21 @@ module _ (public message signature : Bytes) {earlier : WorldCalls} (old new : He
       let is = told old new (record { calls = first; are = calls }) follows in
       let why = read_refused fault public old.files refused is.tell.1 in (
         ⊎_elim inl (λ at. inr (inl (at.0, inl at.1))) why,
-        same_held old new is.files is.state is.may_fail is.in_use is.nodes is.nodes_fault,
+        same_held old new is.files is.state is.may_fail is.in_use is.nodes is.nodes_fault is.witness,
       )
   unjudged before printed fault now (inl (refused, same, inr (key, inl calls))) follows =
       let first = Opened message (Err (read_cause fault)) ∷ Read public (Ok key) ∷ [] in
       let is = told old new (record { calls = first; are = calls }) follows in
       let why = read_refused fault message old.files refused is.tell.1 in (
         ⊎_elim inl (λ at. inr (inl (at.0, inr (inl at.1)))) why,
-        same_held old new is.files is.state is.may_fail is.in_use is.nodes is.nodes_fault,
+        same_held old new is.files is.state is.may_fail is.in_use is.nodes is.nodes_fault is.witness,
       )
   unjudged before printed fault now (inl (refused, same, inr (key, inr (inl (held, calls))))) follows =
       let first = Read signature (Err (read_cause fault)) ∷ Opened message (Ok held) ∷ Read public (Ok key) ∷ [] in
       let is = told old new (record { calls = first; are = calls }) follows in
       let why = read_refused fault signature old.files refused is.tell.1 in (
         ⊎_elim inl (λ at. inr (inl (at.0, inr (inr at.1)))) why,
-        same_held old new is.files is.state is.may_fail is.in_use is.nodes is.nodes_fault,
+        same_held old new is.files is.state is.may_fail is.in_use is.nodes is.nodes_fault is.witness,
       )
   unjudged before printed fault now (inl (refused, same, inr (key, inr (inr (signed, calls))))) follows =
       let first = Read signature (Ok signed) ∷ Opened message (Ok None) ∷ Read public (Ok key) ∷ [] in

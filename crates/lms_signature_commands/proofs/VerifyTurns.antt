@@ -1,20 +1,19 @@
 -- That `verify` does nothing with a state, by the calls that it makes.
-use Rattle.std.proofs.Common.{◌++◌, ◌≡◌, ◌∙◌, ℕ, ◌+◌, ◌≤◌, false, List, [], ◌∷◌, Option}
+use Rattle.std.proofs.Common.{◌≡◌, ◌∙◌, ℕ, false, List, [], ◌∷◌, Option}
 use Rattle.std.proofs.Common.{Ok, ap, refl, inl, inr}
-use Rattle.std.specs.Prelude.{◌⊎◌}
 use Rattle.std.specs.List.{list_any}
 use Rattle.lms_world.specs.Names.{Bytes}
 use Rattle.lms_world.specs.Events.{Opened, Printing, Read}
 use Rattle.lms_commands.specs.Histories.{IsTurn}
 use Rattle.lms_signature_commands.specs.VerifyTurns.{HandsVerdict}
 use Rattle.lms_commands.specs.Histories.{StoresNothing}
-use Rattle.lms_commands.specs.Histories.{hands_out, store_calls, written_in}
+use Rattle.lms_commands.specs.Histories.{hands_out, written_in}
 use Rattle.lms_commands.specs.Logs.{WorldCalls}
 use Rattle.lms_signature_commands.specs.VerifyLogs.{LogsVerify, LogsVerifyFailed}
 use Rattle.lms_signature_commands.specs.Verdicts.{line_of}
 use Rattle.lms_commands.specs.declared.fault.Fault.{Fault}
 use Rattle.lms_signature_commands.specs.declared.verdict.Verdict.{Verdict}
-use Rattle.lms_commands.proofs.Turns.{Ends, idle_as, one_more, whole_text}
+use Rattle.lms_commands.proofs.Turns.{Ends, idle_as, kept_calls, one_more, whole_text}
 
 judged : (public message signature : Bytes) (key : List ℕ) (held : Option (List ℕ)) (signed before : List ℕ)
     (last whole : WorldCalls)
@@ -34,7 +33,7 @@ verify_turn public message signature verdict before printed whole
     (StoresNothing, turn.0, (turn.1, inr (verdict, whole_text before printed (line_of verdict) line)))
 
 unread : (before printed : List ℕ) (whole calls : WorldCalls) → printed ≡ before → whole ≡ calls
-    → store_calls calls ≡ [] → list_any hands_out calls ≡ false
+    → kept_calls calls ≡ [] → list_any hands_out calls ≡ false
     → written_in calls ≡ [] → Ends HandsVerdict whole before printed
 unread before printed whole calls same is none quiet no_file =
     (StoresNothing, idle_as whole calls is none quiet, (ap written_in is ∙ no_file, inl same))

@@ -14,7 +14,7 @@ use Rattle.lms_texts.specs.Options.{AreWorkers}
 use Rattle.lms_world.specs.Names.{Bytes}
 use Rattle.lms_world.specs.Held.{Follows, Held}
 use Rattle.lms_signature_commands.specs.BatchLogs.{AreUnread, LogsJobs, LogsJobsFailed}
-use Rattle.lms_commands.specs.InMemory.{FailsToLock, FailsToOpen, FindsState, SignsNone, WasState}
+use Rattle.lms_commands.specs.InMemory.{FailsToLock, FailsToWatch, FindsState, IsWatched, SignsNone, WasState, noted}
 use Rattle.lms_commands.specs.Logs.{KeyState, WorldCalls, image_using}
 use Rattle.lms_commands.specs.declared.fault.Fault.{Fault}
 use Rattle.lms_commands.specs.declared.fault.Fault.TheVariants.{BadWorkers, Partial, WriteOutput}
@@ -24,8 +24,8 @@ abbrev pub CountsIndices : ℕ → KeyState → Texts → Texts → Type 0
 CountsIndices zero state old new = new ≡ old
 CountsIndices (suc n) state old new = new ≡ only (image_using (suc n) state)
 
--- the jobs of an input are signed as a batch by the next indices of the state's key; no file and no
--- nodes are changed
+-- the jobs of an input are signed as a batch by the next indices of the state's key, which its witness
+-- does not refuse, and says afterwards; no file and no nodes are changed
 pub record SignsJobs (input rest : Option (List ℕ)) (batch : Batch) (old new : Held) : Type 0 where
   pub free : old.in_use ≡ false
   pub state : KeyState
@@ -38,6 +38,8 @@ pub record SignsJobs (input rest : Option (List ℕ)) (batch : Batch) (old new :
   pub files : new.files ≡ old.files
   pub nodes : new.nodes ≡ old.nodes
   pub counted : CountsIndices (length jobs) state old.state new.state
+  pub watched : IsWatched state old.witness
+  pub witness : new.witness ≡ noted (length jobs) state old.witness
 
 -- of a world in memory, `batch` at status 0 signs all jobs, and prints their lines
 abbrev pub SignsJobsInMemory : Type 0
@@ -65,8 +67,8 @@ FailsToSignJobs workers input rest before printed fault old new =
     ((fault ≡ BadWorkers) × (¬ AreWorkers workers) × (new ≡ old))
     ⊎ (AreWorkers workers
     × (FailsToLock fault old new
-    ⊎ ((old.in_use ≡ false) × ((FailsToOpen fault old new × (rest ≡ input))
-    ⊎ ((AreUnread input fault × FindsState old new)
+    ⊎ ((old.in_use ≡ false) × ((FailsToWatch fault old new × (rest ≡ input))
+    ⊎ ((AreUnread input fault × ((found : FindsState old new) × IsWatched found.state old.witness))
     ⊎ (((jobs : List JobText) × ReadsJobs input rest jobs × SignsNone (length jobs) fault old new)
     ⊎ SignsInPart input rest before printed fault old new))))))
 

@@ -10,15 +10,15 @@ use Rattle.lms_lines.specs.SignedLines.{signatures_in}
 use Rattle.lms_texts.specs.Options.{AreWorkers}
 use Rattle.lms_world.specs.Names.{Bytes}
 use Rattle.lms_world.specs.Events.{Acquired, Locked, Unlocked, Printing, after}
-use Rattle.lms_commands.specs.Logs.{IsLockRefused, IsReadRefused, KeyState, LeavesState, WorldCalls, LogsUnopened}
-use Rattle.lms_commands.specs.Logs.{LogsUnsigned, StoresUse, lock_answer}
+use Rattle.lms_commands.specs.Logs.{IsLockRefused, IsReadRefused, KeyState, WorldCalls, lock_answer}
+use Rattle.lms_commands.specs.Watching.{LeavesWatched, LogsUnwatched, UnsignedWatched, UsesWatched}
 use Rattle.lms_commands.specs.declared.fault.Fault.{Fault}
 use Rattle.lms_commands.specs.declared.fault.Fault.TheVariants.{BadWorkers, BadJob, TooManyJobs, Partial, WriteOutput}
 
--- the use of n indices is stored for certain; of none, nothing is written
+-- the use of n indices is stored for certain, and said by the witness; of none, nothing is written
 abbrev pub UsesAll : ℕ → KeyState → WorldCalls → WorldCalls → Type 0
-UsesAll zero state old new = LeavesState state old new
-UsesAll (suc n) state old new = StoresUse (suc n) state old new
+UsesAll zero state old new = LeavesWatched state old new
+UsesAll (suc n) state old new = UsesWatched (suc n) state old new
 
 -- the jobs of an input are signed as a batch by the next indices of a state, whose use is stored
 pub record LogsBatch (input rest : Option (List ℕ)) (batch : Batch)
@@ -42,15 +42,15 @@ AreUnread input fault =
 abbrev pub LogsJobsUnsigned : Option (List ℕ) → Option (List ℕ) → Fault → KeyState → WorldCalls
     → WorldCalls → Type 0
 LogsJobsUnsigned input rest fault state old new =
-    (AreUnread input fault × LeavesState state old new)
+    (AreUnread input fault × LeavesWatched state old new)
     ⊎ ((jobs : List JobText) × ReadsJobs input rest jobs × (1 ≤ length jobs)
-    × LogsUnsigned (length jobs) fault state old new)
+    × UnsignedWatched (length jobs) fault state old new)
 
 -- why the jobs of an input are not signed
 abbrev pub LogsNoBatch : Option (List ℕ) → Option (List ℕ) → Fault → WorldCalls → WorldCalls
     → Type 0
 LogsNoBatch input rest fault old new =
-    (LogsUnopened fault old new × (rest ≡ input))
+    (LogsUnwatched fault old new × (rest ≡ input))
     ⊎ ((state : KeyState) × LogsJobsUnsigned input rest fault state old new)
 
 -- the jobs of an input are signed, and then their lines begin to be printed, where this was printed

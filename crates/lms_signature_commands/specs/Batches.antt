@@ -7,7 +7,8 @@ use Rattle.lms_lines.specs.AnswerLines.{answer_text}
 use Rattle.lms_blocks.specs.Writing.{AppendsFront}
 use Rattle.lms_lines.specs.SignedLines.{signatures_in}
 use Rattle.lms_lines.specs.declared.signing.SignedJobs.{SignedJobs}
-use Rattle.lms_commands.specs.Logs.{OpensState, WorldCalls, state_of}
+use Rattle.lms_commands.specs.Logs.{WorldCalls, state_of}
+use Rattle.lms_commands.specs.Watching.{OpensWatched, Watch}
 use Rattle.lms_commands.specs.declared.fault.Fault.{Fault}
 use Rattle.lms_signature_commands.specs.BatchLogs.{LogsBatch, LogsJobsUnsigned}
 use Rattle.lms_commands.specs.declared.fault.Fault.TheVariants.{WriteOutput, Partial}
@@ -19,17 +20,18 @@ IsUnprinted batch asked before after fault =
     × (signatures_in batch ≢ asked) × Appends before after (answer_text batch))
     ⊎ ((fault ≡ WriteOutput) × AppendsFront before after (answer_text batch))
 
--- since this book was opened the jobs of an input were signed, and its store put back
-abbrev pub SignsOpened : BookState → Option (List ℕ) → Option (List ℕ) → SignedJobs → WorldCalls
-    → WorldCalls → Type 0
-SignsOpened book input rest signed opened new =
-    (old : WorldCalls) → OpensState book old opened
+-- since this book was opened with its witness the jobs of an input were signed, its store put back, and
+-- the witness written
+abbrev pub SignsOpened : Watch → BookState → Option (List ℕ) → Option (List ℕ) → SignedJobs
+    → WorldCalls → WorldCalls → Type 0
+SignsOpened watch book input rest signed opened new =
+    (old : WorldCalls) → OpensWatched watch book old opened
     → (signs : LogsBatch input rest signed.batch old new) × (signs.state ≡ state_of book)
     × (signed.asked ≡ length signs.jobs)
 
 -- they were not, and it was put back
-abbrev pub LeavesOpened : BookState → Option (List ℕ) → Option (List ℕ) → Fault → WorldCalls → WorldCalls
-    → Type 0
-LeavesOpened book input rest fault opened new =
-    (old : WorldCalls) → OpensState book old opened
+abbrev pub LeavesOpened : Watch → BookState → Option (List ℕ) → Option (List ℕ) → Fault → WorldCalls
+    → WorldCalls → Type 0
+LeavesOpened watch book input rest fault opened new =
+    (old : WorldCalls) → OpensWatched watch book old opened
     → LogsJobsUnsigned input rest fault (state_of book) old new

@@ -11,7 +11,7 @@ use Rattle.lms_texts.specs.Options.{AreWorkers}
 use Rattle.lms_world.specs.Names.{Bytes}
 use Rattle.lms_world.specs.Events.{Acquired, Locked, Unlocked, after}
 use Rattle.lms_world.specs.Held.{Follows, Held}
-use Rattle.lms_commands.specs.InMemory.{FailsToLock, FailsToOpen, FindsState, SignsNone}
+use Rattle.lms_commands.specs.InMemory.{FailsToLock, FailsToWatch, FindsState, IsWatched, SignsNone}
 use Rattle.lms_commands.specs.Logs.{WorldCalls}
 use Rattle.lms_commands.specs.declared.fault.Fault.{Fault}
 use Rattle.lms_commands.specs.declared.fault.Fault.TheVariants.{BadWorkers, ReadState}
@@ -32,9 +32,11 @@ SignsGroup text due next before printed old new =
 -- lines are not read; or their jobs are not signed
 abbrev pub SignsNoGroup : List ℕ → Fault → Due → Held → Held → Type 0
 SignsNoGroup text fault due old new =
-    ((cause : Fault) × FailsToOpen cause old new × (fault ≡ unopened_fault due cause))
-    ⊎ (((fault ≡ ReadState) × ((found : FindsState old new) × (¬ IsDue due found.state)))
-    ⊎ ((AreUnread (Some text) fault × ((found : FindsState old new) × IsDue due found.state))
+    ((cause : Fault) × FailsToWatch cause old new × (fault ≡ unopened_fault due cause))
+    ⊎ (((fault ≡ ReadState)
+    × ((found : FindsState old new) × IsWatched found.state old.witness × (¬ IsDue due found.state)))
+    ⊎ ((AreUnread (Some text) fault
+    × ((found : FindsState old new) × IsWatched found.state old.witness × IsDue due found.state))
     ⊎ ((rest : Option (List ℕ)) × (jobs : List JobText) × ReadsJobs (Some text) rest jobs
     × SignsNone (length jobs) fault old new)))
 

@@ -18,8 +18,8 @@ use Rattle.lms_world.specs.Names.{Bytes}
 use Rattle.lms_world.specs.Events.{Acquired, Locked, Unlocked, after}
 use Rattle.lms_signature_commands.specs.BatchLogs.{AnswersJobs, AreUnread, LogsAnswers}
 use Rattle.lms_signature_commands.specs.Batches.{IsUnprinted}
-use Rattle.lms_commands.specs.Logs.{BurnsUnsigned, IsLockRefused, KeyState, LeavesState, LeavesUnsigned, LogsUnopened}
-use Rattle.lms_commands.specs.Logs.{WorldCalls, lock_answer, state_in}
+use Rattle.lms_commands.specs.Logs.{IsLockRefused, KeyState, WorldCalls, lock_answer, state_in}
+use Rattle.lms_commands.specs.Watching.{BurnsWatched, LeavesWatched, LogsUnwatched, SparesWatched}
 use Rattle.lms_commands.specs.declared.fault.Fault.{Fault}
 use Rattle.lms_commands.specs.declared.fault.Fault.TheVariants.{BadJob, BadState, BadWorkers, Exhausted, OutOfMemory}
 use Rattle.lms_commands.specs.declared.fault.Fault.TheVariants.{ReadInput, ReadState, TooManyJobs}
@@ -65,7 +65,7 @@ having_used (suc n) state = record {
 
 -- a state is opened that is not due, and left as it is
 abbrev pub FindsAnother : Due → WorldCalls → WorldCalls → Type 0
-FindsAnother due old new = (state : KeyState) × LeavesState state old new × (¬ IsDue due state)
+FindsAnother due old new = (state : KeyState) × LeavesWatched state old new × (¬ IsDue due state)
 
 -- the calls of `batch` for these lines, under a lock, on a state that is due, and what is due then
 abbrev pub AnswersGroup : List ℕ → Due → Due → List ℕ → List ℕ → WorldCalls → WorldCalls → Type 0
@@ -87,21 +87,21 @@ unopened_fault NoState cause = cause
 -- no state is opened that is due: nothing is stored
 abbrev pub FindsNoState : Fault → Due → WorldCalls → WorldCalls → Type 0
 FindsNoState fault due old new =
-    ((cause : Fault) × LogsUnopened cause old new × (fault ≡ unopened_fault due cause))
+    ((cause : Fault) × LogsUnwatched cause old new × (fault ≡ unopened_fault due cause))
     ⊎ ((fault ≡ ReadState) × FindsAnother due old new)
 
 -- these lines are not signed, by a state that is left as it was
 abbrev pub LeavesGroup : List ℕ → Fault → KeyState → WorldCalls → WorldCalls → Type 0
 LeavesGroup text fault state old new =
-    (AreUnread (Some text) fault × LeavesState state old new)
+    (AreUnread (Some text) fault × LeavesWatched state old new)
     ⊎ ((rest : Option (List ℕ)) × (jobs : List JobText) × ReadsJobs (Some text) rest jobs
-    × (1 ≤ length jobs) × LeavesUnsigned (length jobs) fault state old new)
+    × (1 ≤ length jobs) × SparesWatched (length jobs) fault state old new)
 
 -- their indices are used, or perhaps, and they are not all answered
 abbrev pub UsesGroup : List ℕ → Fault → KeyState → List ℕ → List ℕ → WorldCalls → WorldCalls → Type 0
 UsesGroup text fault state before printed old new =
     ((rest : Option (List ℕ)) × (jobs : List JobText) × ReadsJobs (Some text) rest jobs
-    × (1 ≤ length jobs) × BurnsUnsigned (length jobs) fault state old new × (printed ≡ before))
+    × (1 ≤ length jobs) × BurnsWatched (length jobs) fault state old new × (printed ≡ before))
     ⊎ ((rest : Option (List ℕ)) × (batch : Batch)
     × (answers : AnswersJobs (Some text) rest before batch old new)
     × (answers.signs.state ≡ state) × IsUnprinted batch (length answers.signs.jobs) (Some before) (Some printed) fault)

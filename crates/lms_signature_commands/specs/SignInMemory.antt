@@ -10,15 +10,16 @@ use Rattle.lms_texts.specs.Descriptions.{number_line}
 use Rattle.lms_world.specs.Names.{Bytes}
 use Rattle.lms_world.specs.Held.{Follows, Held, answer_in}
 use Rattle.lms_world.specs.declared.fault.WorldFault.TheVariants.{Device}
-use Rattle.lms_commands.specs.InMemory.{FailsToLock, FailsToOpen, KeepsNodes, KeepsRight, SignsNone, WasState}
-use Rattle.lms_commands.specs.InMemory.{WritesFile}
+use Rattle.lms_commands.specs.InMemory.{FailsToLock, FailsToWatch, IsWatched, KeepsNodes, KeepsRight, SignsNone}
+use Rattle.lms_commands.specs.InMemory.{WasState, WritesFile, noted}
 use Rattle.lms_texts.specs.Options.{IsHexOf}
 use Rattle.lms_commands.specs.Logs.{KeyState, WorldCalls, image_using}
 use Rattle.lms_signature_commands.specs.SignLogs.{IsRandomizer, LogsSign, LogsSignFailed}
 use Rattle.lms_commands.specs.declared.fault.Fault.{Fault}
 use Rattle.lms_commands.specs.declared.fault.Fault.TheVariants.{BadRandom, OutOfMemory, ReadInput, WriteOutput}
 
--- the next index of the state's key is used, and signs
+-- the next index of the state's key is used, and signs; its witness does not refuse that, and says so
+-- afterwards
 pub record UsesIndex (nodes : Option (List ℕ)) (random message : List ℕ) (index : ℕ)
     (signature : List ℕ) (old new : Held) : Type 0 where
   pub state : KeyState
@@ -29,6 +30,8 @@ pub record UsesIndex (nodes : Option (List ℕ)) (random message : List ℕ) (in
   pub signed : IsSignedByText nodes state.key index random message signature trees
   pub stored : new.state ≡ only (image_using 1 state)
   pub kept : KeepsNodes trees old.nodes new.nodes
+  pub watched : IsWatched state old.witness
+  pub witness : new.witness ≡ noted 1 state old.witness
 
 -- a message is signed by the next index, by nodes that were kept or by none
 pub record SignsMessage (random message : Bytes) (old new : Held) : Type 0 where
@@ -63,7 +66,7 @@ FailsToSign random message out fault old new =
     ⊎ (((fault ≡ ReadInput) × (answer_in old.files message ≡ Err Device) × (new ≡ old))
     ⊎ ((text : List ℕ) × (answer_in old.files message ≡ Ok text)
     × (FailsToLock fault old new
-    ⊎ ((old.in_use ≡ false) × (FailsToOpen fault old new
+    ⊎ ((old.in_use ≡ false) × (FailsToWatch fault old new
     ⊎ (SignsNone 1 fault old new
     ⊎ ((fault ≡ WriteOutput) × ((signs : SignsMessage random message old new)
     × ((new.files ≡ old.files) ⊎ WritesFile out signs.signature old.files new.files)))))))))))

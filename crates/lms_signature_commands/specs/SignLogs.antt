@@ -8,30 +8,31 @@ use Rattle.lms_world.specs.Names.{Bytes}
 use Rattle.lms_world.specs.declared.fault.WorldFault.{WorldFault}
 use Rattle.lms_world.specs.Events.{Acquired, Read, Written, Locked, Unlocked, NodesRead, Printing, Writing, after}
 use Rattle.lms_texts.specs.Descriptions.{number_line}
-use Rattle.lms_commands.specs.Logs.{IsLockRefused, IsReadRefused, KeyState, WorldCalls, LogsKeeping, LogsUnopened}
-use Rattle.lms_commands.specs.Logs.{LogsUnsigned, StoresUse, lock_answer, read_cause}
+use Rattle.lms_commands.specs.Logs.{IsLockRefused, IsReadRefused, KeyState, WorldCalls, LogsKeeping}
+use Rattle.lms_commands.specs.Logs.{lock_answer, read_cause}
+use Rattle.lms_commands.specs.Watching.{LogsUnwatched, UnsignedWatched, UsesWatched}
 use Rattle.lms_texts.specs.Options.{IsHexOf}
 use Rattle.lms_spec.specs.HashLength.{hash_length}
 use Rattle.lms_commands.specs.declared.fault.Fault.{Fault}
 use Rattle.lms_commands.specs.declared.fault.Fault.TheVariants.{BadRandom, WriteOutput}
 
--- the use of a state's next index is stored for certain, and then trees may be kept; the signature
--- is one by that index of its key: the standard's, where the nodes that were read are right or none
--- were
+-- the use of a state's next index is stored for certain, and said by its witness, where it has one,
+-- and then trees may be kept; the signature is one by that index of its key: the standard's, where the
+-- nodes that were read are right or none were
 pub record LogsSigned (nodes : Option (List ℕ)) (random message : List ℕ) (index : ℕ)
     (signature : List ℕ) (old new : WorldCalls) : Type 0 where
   pub state : KeyState
   pub trees : Option Way
   pub until_stored : WorldCalls
   pub next : index ≡ state.index
-  pub stores : StoresUse 1 state old until_stored
+  pub stores : UsesWatched 1 state old until_stored
   pub keeps : LogsKeeping trees until_stored new
   pub signed : IsSignedByText nodes state.key index random message signature trees
 
 -- why a message is not signed
 abbrev pub LogsNotSigned : Fault → WorldCalls → WorldCalls → Type 0
 LogsNotSigned fault old new =
-    LogsUnopened fault old new ⊎ ((state : KeyState) × LogsUnsigned 1 fault state old new)
+    LogsUnwatched fault old new ⊎ ((state : KeyState) × UnsignedWatched 1 fault state old new)
 
 -- kept nodes are asked for, the message is signed, and then the signature is written to its file,
 -- once

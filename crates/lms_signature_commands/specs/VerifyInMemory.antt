@@ -1,5 +1,5 @@
 -- What `verify` finds in a world in memory, by its calls, and that it changes nothing.
-use Rattle.std.specs.Prelude.{ℕ, ◌≡◌, ◌⊎◌, List, ◌++◌, Some, Ok}
+use Rattle.std.specs.Prelude.{ℕ, ◌≡◌, ◌⊎◌, List, Some, Ok}
 use Rattle.lms_blocks.specs.Writing.{AppendsFront}
 use Rattle.lms_world.specs.Names.{Bytes}
 use Rattle.lms_world.specs.Held.{Follows, Held, answer_in}

@@ -1,5 +1,5 @@
 -- What `verify` hands out.
-use Rattle.std.specs.Prelude.{◌≡◌, ◌⊎◌, ◌+◌, ◌<◌, ◌≤◌, ℕ, List, [], ◌∷◌, ◌++◌, if◌then◌else◌}
+use Rattle.std.specs.Prelude.{◌≡◌, ◌⊎◌, ℕ, List, []}
 use Rattle.lms_signature_commands.specs.Verdicts.{line_of}
 use Rattle.lms_signature_commands.specs.declared.verdict.Verdict.{Verdict}
 use Rattle.lms_commands.specs.Logs.{WorldCalls}

@@ -7,12 +7,15 @@ ghost use Rattle.lms_lines.specs.AnswerLines.{answer_text};
 ghost use Rattle.lms_lines.specs.SignedLines.{signatures_in};
 ghost use Rattle.lms_signature_commands.specs.BatchLogs.{LogsAnswers, LogsBatch, LogsJobs, LogsJobsFailed, LogsNoBatch, LogsUnanswered};
 ghost use Rattle.lms_signature_commands.specs.Batches.{IsUnprinted, LeavesOpened, SignsOpened};
+ghost use Rattle.lms_commands.specs.Watching.{watch_of};
 ghost use Rattle.lms_world.specs.Held.{Follows};
 ghost use Rattle.lms_signature_commands.specs.SharedBooks.{IsRefusedAtDesk, IsRefusedBy, IsSignedAtDesk, IsSignedByBook};
 
 use lms_batch::{SigningService, Trees};
 use lms_book::{Book, StateStore};
-use lms_commands::{Fault, Resources, lock_state, open_state};
+use lms_commands::{
+    Fault, Resources, Witness, discard, image_read, lock_state, note, open_watched,
+};
 use lms_hss::Progress;
 use lms_lines::{SignedJobs, count_signatures, read_and_sign_by, write_batch};
 use lms_shared_book::{Blanks, BookLedger, Desk, SharedBook};
@@ -29,15 +32,16 @@ use std::thread::Threads;
 /// order of the jobs. `workers` is their number, in decimal. One reservation is made, before any
 /// job is signed; where there are no jobs, none.
 ///
-/// Faults, in this order: `BadWorkers`; `StateInUse` where the state's lock is not available;
-/// `ReadState`; `BadState`; `ReadInput` where the input can't be read; `BadJob` with the number of
-/// the first line that is no job line; `TooManyJobs` over 1024; `Exhausted`; `WriteStateBurnt`
-/// where the use of the indices may not have been stored; `OutOfMemoryBurnt` where memory is
-/// refused after that, before any job is signed; `WriteOutput`, maybe after a beginning of the
-/// lines; `Partial` where memory is refused to a worker, after the lines of those that were signed.
-/// `OutOfMemory` may come anywhere before `WriteStateBurnt`. At the last three all indices of the
-/// batch are used; after `WriteStateBurnt` the state may still be the older one, which gives them
-/// again. The state stays locked while the input is read.
+/// Faults, in this order: `BadWorkers`; `StateInUse` where the state's lock is not available; those
+/// of `open_watched`; `ReadInput` where the input can't be read; `BadJob` with the number of the
+/// first line that is no job line; `TooManyJobs` over 1024; `Exhausted`; `WriteStateBurnt` where
+/// the use of the indices may not have been stored; `OutOfMemoryBurnt` where memory is refused
+/// after that, before any job is signed; `WriteWitnessBurnt` where the witness may not say so, after
+/// they are signed; `WriteOutput`, maybe after a beginning of the lines; `Partial` where memory is
+/// refused to a worker, after the lines of those that were signed. `OutOfMemory` may come anywhere
+/// before `WriteStateBurnt`. At the last four all indices of the batch are used; after
+/// `WriteStateBurnt` the state may still be the older one, which gives them again. The state stays
+/// locked while the input is read.
 ///
 /// `resources.progress` gets how many leaves of the trees that the batch needs are computed.
 pub fn sign_jobs<W: World, I: Read, O: Write>(
@@ -135,16 +139,18 @@ fn sign_by_state<W: World, I: Read>(
     ensures follows { Follows (W.memory world.old) (W.events world.old)
         (W.memory world.new) (W.events world.new) }
 {
-    let book = open_state(resources.alloc, world, lock)?;
-    sign_opened(resources, world, lock, book, workers, trees, input)
+    let (book, witness) = open_watched(resources.alloc, world, lock)?;
+    sign_opened(resources, world, lock, book, witness, workers, trees, input)
 }
 
-/// Signs job lines by a book that was just opened, and puts its store back.
+/// Signs job lines by a book that was just opened with its witness, puts its store back, and has the
+/// witness say so. Where the witness can't be written, what was signed is let go.
 pub(crate) fn sign_opened<W: World, I: Read>(
     resources: &Resources<impl Threads + Wait + Sync, impl Progress>,
     world: &mut W,
     lock: &W::Lock,
     book: Book<W::Store>,
+    witness: Option<Witness<W::Draft>>,
     workers: usize,
     trees: &mut Trees,
     input: &mut I,
@@ -152,16 +158,26 @@ pub(crate) fn sign_opened<W: World, I: Read>(
     requires some { 1 ≤ workers }
     requires at_most { workers ≤ most_workers }
     requires fresh { book.history ≡ [] }
-    ensures logged { IfOk result (λ signed. SignsOpened book (I.remaining input.old)
+    ensures logged { IfOk result (λ signed. SignsOpened (watch_of witness) book (I.remaining input.old)
         (I.remaining input.new) signed (W.events world.old) (W.events world.new)) }
-    ensures log_failed { IfErr result (λ fault. LeavesOpened book (I.remaining input.old)
+    ensures log_failed { IfErr result (λ fault. LeavesOpened (watch_of witness) book (I.remaining input.old)
         (I.remaining input.new) fault (W.events world.old) (W.events world.new)) }
     ensures follows { Follows (W.memory world.old) (W.events world.old)
         (W.memory world.new) (W.events world.new) }
 {
+    let read = image_read(&book);
     let (answer, left) = sign_by_book(resources, book, workers, trees, input);
     world.put_back(lock, left.close());
-    answer
+    match answer {
+        Ok(signed) => {
+            note(world, witness, &read, signed.asked as u64)?;
+            Ok(signed)
+        }
+        Err(fault) => {
+            discard(world, witness);
+            Err(fault)
+        }
+    }
 }
 
 /// Signs job lines by a book that is shared meanwhile, with one desk, and hands the book back.

@@ -3,14 +3,15 @@ ghost use Rattle.std.specs.Prelude.{◌≡◌, ◌+◌, ◌⊎◌, ◌≤◌, �
 ghost use Rattle.lms_spec.specs.Hss.{capacity_of};
 ghost use Rattle.lms_hss.specs.Keys.{hss_key_of};
 ghost use Rattle.lms_batch.specs.Jobs.{most_workers};
-ghost use Rattle.lms_commands.specs.Logs.{OpensState, state_in, state_of};
+ghost use Rattle.lms_commands.specs.Logs.{state_in, state_of};
+ghost use Rattle.lms_commands.specs.Watching.{OpensWatched, watch_of};
 ghost use Rattle.lms_signature_commands.specs.Serving.{AnswersAll, AnswersGroup, Due, FailsLines, FailsToServe, FindsNoState, Group, IsDue, IsFront, LogsGroups, LogsServe, LogsServeFailed, ServesNone, ServesPiece, SparesGroup, SpendsGroup, TriesPiece, due_of, having_used, unopened_fault, unread_fault};
 ghost use Rattle.lms_world.specs.Held.{Follows};
 
 use crate::batch::{print_answers, sign_opened};
 use lms_batch::Trees;
 use lms_book::{Book, StateStore};
-use lms_commands::{Fault, Resources, image_read, lock_state, open_state};
+use lms_commands::{Fault, Resources, Witness, discard, image_read, lock_state, open_watched};
 use lms_hss::{Progress, same_key};
 use lms_image::Image;
 use lms_lines::{JobsFault, Pieces, end_of_lines};
@@ -35,7 +36,8 @@ const MOST_GROUPS: u64 = 1 << 53;
 ///
 /// The state is opened, and the trees of the next indices are computed, before the first read. From
 /// then on the state has to say what this call stored last, or opened before it stored anything;
-/// where it doesn't, nothing more is signed.
+/// where it doesn't, nothing more is signed. The state's witness, where it has one, is read anew at
+/// each opening, and written by each group that uses indices.
 ///
 /// Faults are those of `sign_jobs`, each after the answers of earlier groups. `ReadState` comes at
 /// another state than was stored last, too. `BadJob` has the number of the line in the whole input,
@@ -304,41 +306,45 @@ fn sign_group<W: World, O: Write>(
         (W.memory world.new) (W.events world.new) }
 {
     let (resources, lock) = (serving.resources, serving.lock);
-    let book = open_due(resources.alloc, world, lock, &ongoing.due)?;
+    let (book, witness) = open_due(resources.alloc, world, lock, &ongoing.due)?;
     let read = image_read(&book);
     ongoing.due = Some(read);
     let (workers, trees) = (serving.workers, &mut ongoing.trees);
     let mut input = text;
-    let signed = sign_opened(resources, world, lock, book, workers, trees, &mut input)?;
+    let signed = sign_opened(
+        resources, world, lock, book, witness, workers, trees, &mut input,
+    )?;
     ongoing.due = Some(after_use(&read, signed.asked));
     world.begin_printing(output);
     print_answers(&signed, output)
 }
 
-/// Opens the state of a lock, which has to be what is due. `ReadState` where it is another, or no
-/// image where something is due.
+/// Opens the state of a lock with its witness, as `open_watched`. It has to be what is due: `ReadState`
+/// where it is another, or no image where something is due.
 fn open_due<W: World>(
     alloc: Global,
     world: &mut W,
     lock: &W::Lock,
     due: &Option<Image>,
-) -> Result<Book<W::Store>, Fault>
-    ensures logged { IfOk result (λ book. OpensState book (W.events world.old) (W.events world.new)) }
-    ensures due { IfOk result (λ book. IsDue (due_of due.now) (state_of book)) }
+) -> Result<(Book<W::Store>, Option<Witness<W::Draft>>), Fault>
+    ensures logged { IfOk result (λ opened. OpensWatched (watch_of opened.1) opened.0
+        (W.events world.old) (W.events world.new)) }
+    ensures due { IfOk result (λ opened. IsDue (due_of due.now) (state_of opened.0)) }
     ensures refused { IfErr result (λ fault.
         FindsNoState fault (due_of due.now) (W.events world.old) (W.events world.new)) }
-    ensures fresh { IfOk result (λ book. book.history ≡ []) }
+    ensures fresh { IfOk result (λ opened. opened.0.history ≡ []) }
     ensures follows { Follows (W.memory world.old) (W.events world.old)
         (W.memory world.new) (W.events world.new) }
 {
-    let book = match open_state(alloc, world, lock) {
-        Ok(book) => book,
+    let (book, witness) = match open_watched(alloc, world, lock) {
+        Ok(opened) => opened,
         Err(cause) => return Err(unopened(cause, due)),
     };
     if is_due(&image_read(&book), due) {
-        return Ok(book);
+        return Ok((book, witness));
     }
     world.put_back(lock, book.close());
+    discard(world, witness);
     Err(Fault::ReadState)
 }
 

@@ -14,7 +14,8 @@ ghost use Rattle.lms_signature_commands.specs.Signing.{GivesOne, SignsNothing};
 use lms_batch::Job;
 use lms_book::{Book, BookFault, StateStore};
 use lms_commands::{
-    Fault, Resources, keep_trees, kept_text, lock_state, open_state, read_file, write_file,
+    Fault, Resources, discard, image_read, keep_trees, kept_text, lock_state, note, open_watched,
+    read_file, write_file,
 };
 use lms_hss::Progress;
 use lms_kept::{KeptSignature, sign_by_text};
@@ -59,11 +60,12 @@ pub struct SignRequest<'a> {
 /// hexadecimal digits, writes the signature to a file and prints the index.
 ///
 /// Faults, in this order: `BadRandom`; `ReadInput` where the message can't be read; `StateInUse`
-/// where the state's lock is not available; `ReadState`; `BadState`; `Exhausted`; `WriteStateBurnt`
-/// where the use of the index may not have been stored; `OutOfMemoryBurnt` and `WriteOutput` once
-/// it was. `OutOfMemory` may come anywhere before `WriteStateBurnt`. At the last two the index is
-/// used; after `WriteStateBurnt` the state may still be the older one, which gives the index again.
-/// No file is written before the use of the index was stored.
+/// where the state's lock is not available; those of `open_watched`, where nothing is stored;
+/// `Exhausted`; `WriteStateBurnt` where the use of the index may not have been stored; once it was,
+/// `OutOfMemoryBurnt`, `WriteWitnessBurnt` where the witness may not say so, and `WriteOutput`.
+/// `OutOfMemory` may come anywhere before `WriteStateBurnt`. At the last three the index is used;
+/// after `WriteStateBurnt` the state may still be the older one, which gives the index again. The
+/// witness is written once the use of the index was stored, and every other file after that.
 ///
 /// What is kept of the key's trees beside the state is read before the state is opened, and where
 /// the signature needed other nodes it is kept anew once the use of the index was stored, before
@@ -155,7 +157,8 @@ fn deliver<W: World, O: Write>(
     }
 }
 
-/// Signs a message with the next index of the key of a lock's state.
+/// Signs a message with the next index of the key of a lock's state, which its witness does not refuse.
+/// Where the witness can't be written, the signature is let go.
 fn sign_by_state<W: World>(
     resources: &Resources<impl Threads + Sync, impl Progress>,
     world: &mut W,
@@ -171,15 +174,20 @@ fn sign_by_state<W: World>(
     ensures follows { Follows (W.memory world.old) (W.events world.old)
         (W.memory world.new) (W.events world.new) }
 {
-    let mut book = open_state(resources.alloc, world, lock)?;
+    let (mut book, witness) = open_watched(resources.alloc, world, lock)?;
+    let read = image_read(&book);
     let signed = sign_next(resources, &mut book, job, kept);
     world.put_back(lock, book.close());
     match signed {
         Ok(signed) => {
+            note(world, witness, &read, 1)?;
             keep_signers(resources.alloc, world, lock, &signed);
             Ok(signed)
         }
-        Err(fault) => Err(Fault::from(fault)),
+        Err(fault) => {
+            discard(world, witness);
+            Err(Fault::from(fault))
+        }
     }
 }
 

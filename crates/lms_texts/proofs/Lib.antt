@@ -1,4 +1,5 @@
 pub mod LevelTexts
 pub mod Seeds
 pub mod SizedTexts
+pub mod Witnesses
 pub mod Workers

@@ -2,3 +2,4 @@ pub mod Descriptions
 pub mod Faults
 pub mod Options
 pub mod Seeds
+pub mod Witnesses

@@ -1,5 +1,5 @@
 //! Worked cases of a premise, as contracts.
-ghost use Rattle.lms_tool_tests.specs.Worked.{WorkedLink, WorkedRuns, WorkedTurns};
+ghost use Rattle.lms_tool_tests.specs.Worked.{WorkedLink, WorkedOlder, WorkedResume, WorkedRuns, WorkedTurns};
 
 /// Runs one after another can carry along what is stored, with a failed write between them: so the
 /// premise on which no index leaves twice is not one that nothing meets.
@@ -16,4 +16,14 @@ pub fn later_turns_are_linked()
 /// may sign.
 pub fn runs_take_their_turns()
     ensures { WorkedTurns }
+{}
+
+/// A key whose state was put back goes on by its witness, and the premise is met all along.
+pub fn runs_resume_by_their_witness()
+    ensures { WorkedResume }
+{}
+
+/// It is not met where the older state is used with another witness than was written, or with none.
+pub fn an_older_state_is_not_carried_along()
+    ensures { WorkedOlder }
 {}

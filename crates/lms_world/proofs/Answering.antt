@@ -1,14 +1,14 @@
 -- What reads of a name answer.
 use Rattle.std.proofs.Common.{◌≡◌, ◌∙◌, ◌∷◌, [], List, ℕ, Bool, true, false, Option, refl, sym, ap, inl, inr, ⊎_elim}
-use Rattle.std.specs.Prelude.{◌≢◌, Some, cond, map, Result, string_bytes}
+use Rattle.std.specs.Prelude.{◌≢◌, Some, None, IfSome, cond, map, option_map, Result, string_bytes}
 use Rattle.std.specs.List.{find}
 use Rattle.std.specs.Str.{bytes_eq}
 use Rattle.std.proofs.lemmas.Slice.Eq.{bytes_eq-Decides}
 use Rattle.lms_world.specs.Names.{Bytes}
 use Rattle.std.specs.Prelude.{◌⊎◌, IfErr, IfOk, Ok, Err, if◌then◌else◌, is_ok}
 use Rattle.std.specs.Global.{Vec}
-use Rattle.lms_world.specs.Files.{Entry, answer_at, answer_of, entry_answer, held_in}
-use Rattle.lms_world.specs.Events.{Read, Written, NodesWritten, Writing, read_of}
+use Rattle.lms_world.specs.Files.{Entry, answer_at, answer_of, entry_answer, held_in, nodes_in, witness_in}
+use Rattle.lms_world.specs.Events.{Read, Written, NodesRead, NodesWritten, WitnessRead, Writing, read_of, witness_of}
 use Rattle.lms_world.specs.declared.fault.WorldFault.TheVariants.{OutOfMemory}
 use Rattle.lms_world.specs.declared.memory.MemoryWorld.{MemoryWorld}
 use Rattle.lms_world.specs.Held.{Acts, Answers, MayRefuseNodes, answer_in, with_file, with_nodes_kept}
@@ -64,6 +64,22 @@ pub writes_as : (old new : MemoryWorld) (name bytes : Bytes) (answer : Writing)
 writes_as old new name bytes (Ok done) held refused = held
 writes_as old new name bytes (Err fault) held refused =
     (held, ⊎_elim (λ is. inl (sym (answer_found old.entries.items name) ∙ is)) inr refused)
+
+-- a read of nodes
+pub nodes_as : (world : MemoryWorld) (found : Option (Vec ℕ))
+    → IfSome found (λ text. nodes_in world ≡ Some text.items)
+    → Acts (NodesRead (option_map (λ text. text.items) found)) (held_in world) (held_in world)
+nodes_as world (Some text) gives = (refl, gives)
+nodes_as world None gives = refl
+
+-- a read of the witness
+pub witness_as : (world : MemoryWorld) (answer : Result (Option (Vec ℕ)) WorldFault)
+    → IfOk answer (λ found. witness_in world ≡ Ok (option_map (λ text. text.items) found))
+    → IfErr answer (λ fault. (witness_in world ≡ Err fault) ⊎ (fault ≡ OutOfMemory))
+    → Acts (WitnessRead (witness_of answer)) (held_in world) (held_in world)
+witness_as world (Ok (Some text)) gives refused = (refl, gives)
+witness_as world (Ok None) gives refused = (refl, gives)
+witness_as world (Err fault) gives refused = (refl, refused)
 
 -- a write of nodes
 pub keeps_as : (old new : MemoryWorld) (text : List ℕ) (answer : Writing)

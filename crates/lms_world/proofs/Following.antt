@@ -60,3 +60,10 @@ both_added (Some old) (Some mid) (Some new) log then now first last = (
 pub both_follow : {old mid new : Memory} {log then now : List Event}
     → Follows old log mid then → Follows mid then new now → Follows old log new now
 both_follow first last = record { calls = both_added _ _ _ _ _ _ first.calls last.calls }
+
+-- calls, and then nothing
+pub then_nothing : {old mid new : Memory} {log then now : List Event} → Follows old log mid then → now ≡ then
+    → new ≡ mid → Follows old log new now
+then_nothing {old} {mid} {new} {log} {then} {now} follows calls same =
+    subst (λ (memory : Memory). Follows old log memory now) (sym same)
+    (subst (λ (calls : List Event). Follows old log mid calls) (sym calls) follows)

@@ -3,6 +3,7 @@ use Rattle.std.proofs.Common.{◌≡◌, ◌∙◌, ◌∷◌, [], List, None, S
 use Rattle.lms_world.specs.Events.{Event, Read, Opened, Written, Locked, Unlocked, Asked}
 use Rattle.lms_world.specs.Events.{Acquired, NotAvailable, NoMemory}
 use Rattle.lms_world.specs.Events.{Taken, PutBack, NodesRead, NodesWritten, Printing, Printed}
+use Rattle.lms_world.specs.Events.{WitnessDrafted, WitnessMade, WitnessRead, WitnessWritten}
 use Rattle.lms_world.specs.Held.{Acts, Answers, Held, Replays}
 use Rattle.lms_world.specs.Outcomes.{HoldsAfter, HoldsWhatIsLogged}
 
@@ -25,6 +26,7 @@ one_more earlier old between new is (Written name bytes (Ok done)) acts = (
   ap (λ (h : Held). h.nodes) acts ∙ is.2,
   ap (λ (h : Held). h.in_use) acts ∙ is.3,
   ap (λ (h : Held). h.nodes_fault) acts ∙ is.4,
+  ap (λ (h : Held). h.witness) acts ∙ is.5,
 )
 one_more earlier old between new is (Written name bytes (Err fault)) acts = still earlier old between new is acts.0
 one_more earlier old between new is (Locked name Acquired) acts = still earlier old between new is acts.0
@@ -38,6 +40,7 @@ one_more earlier old between new is (Taken (Some store)) acts = (
   ap (λ (h : Held). h.nodes) acts.2 ∙ is.2,
   ap (λ (h : Held). h.in_use) acts.2 ∙ is.3,
   ap (λ (h : Held). h.nodes_fault) acts.2 ∙ is.4,
+  ap (λ (h : Held). h.witness) acts.2 ∙ is.5,
 )
 one_more earlier old between new is (Taken None) acts = still earlier old between new is acts
 one_more earlier old between new is (PutBack store) acts = (
@@ -46,6 +49,7 @@ one_more earlier old between new is (PutBack store) acts = (
   ap (λ (h : Held). h.nodes) acts.1 ∙ is.2,
   ap (λ (h : Held). h.in_use) acts.1 ∙ is.3,
   ap (λ (h : Held). h.nodes_fault) acts.1 ∙ is.4,
+  ap (λ (h : Held). h.witness) acts.1 ∙ is.5,
 )
 one_more earlier old between new is (NodesRead (Some text)) acts = still earlier old between new is acts.0
 one_more earlier old between new is (NodesRead None) acts = still earlier old between new is acts
@@ -55,8 +59,31 @@ one_more earlier old between new is (NodesWritten text (Ok done)) acts = (
   ap (λ (h : Held). h.nodes) acts,
   ap (λ (h : Held). h.in_use) acts ∙ is.3,
   ap (λ (h : Held). h.nodes_fault) acts ∙ is.4,
+  ap (λ (h : Held). h.witness) acts ∙ is.5,
 )
 one_more earlier old between new is (NodesWritten text (Err fault)) acts = still earlier old between new is acts.0
+one_more earlier old between new is (WitnessRead (Ok found)) acts = still earlier old between new is acts.0
+one_more earlier old between new is (WitnessRead (Err fault)) acts = still earlier old between new is acts.0
+one_more earlier old between new is (WitnessDrafted (Ok done)) acts = still earlier old between new is acts
+one_more earlier old between new is (WitnessDrafted (Err fault)) acts = still earlier old between new is acts.0
+one_more earlier old between new is (WitnessWritten text (Ok done)) acts = (
+  ap (λ (h : Held). h.files) acts ∙ is.0,
+  ap (λ (h : Held). h.state) acts ∙ is.1,
+  ap (λ (h : Held). h.nodes) acts ∙ is.2,
+  ap (λ (h : Held). h.in_use) acts ∙ is.3,
+  ap (λ (h : Held). h.nodes_fault) acts ∙ is.4,
+  ap (λ (h : Held). h.witness) acts,
+)
+one_more earlier old between new is (WitnessWritten text (Err fault)) acts = still earlier old between new is acts.0
+one_more earlier old between new is (WitnessMade name text (Ok place)) acts = (
+  ap (λ (h : Held). h.files) acts.0 ∙ is.0,
+  ap (λ (h : Held). h.state) acts.0 ∙ is.1,
+  ap (λ (h : Held). h.nodes) acts.0 ∙ is.2,
+  ap (λ (h : Held). h.in_use) acts.0 ∙ is.3,
+  ap (λ (h : Held). h.nodes_fault) acts.0 ∙ is.4,
+  ap (λ (h : Held). h.witness) acts.0,
+)
+one_more earlier old between new is (WitnessMade name text (Err fault)) acts = still earlier old between new is acts.0
 one_more earlier old between new is (Printing before) acts = still earlier old between new is acts
 one_more earlier old between new is (Printed bytes) acts = still earlier old between new is acts
 
@@ -67,6 +94,7 @@ holds_after old new [] same = (
   ap (λ (h : Held). h.nodes) same,
   ap (λ (h : Held). h.in_use) same,
   ap (λ (h : Held). h.nodes_fault) same,
+  ap (λ (h : Held). h.witness) same,
 )
 holds_after old new (event ∷ earlier) is = one_more earlier old is.0 new (holds_after old is.0 earlier is.1) event is.2
 

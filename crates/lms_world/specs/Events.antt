@@ -1,6 +1,7 @@
 -- The calls that were made on a world, one after another.
 use Rattle.std.specs.Prelude.{ℕ, List, [], ◌∷◌, ◌++◌, Bool, Option, Some, None, Result, Ok, Err}
-use Rattle.std.specs.Global.{Vec}
+use Rattle.std.specs.Prelude.{String, string_bytes}
+use Rattle.std.specs.Global.{Global, Vec}
 use Rattle.lms_book.specs.Stops.{StoreView}
 use Rattle.lms_file_store.specs.declared.fault.LockFault.{LockFault}
 use Rattle.lms_file_store.specs.declared.fault.LockFault.TheVariants as fault
@@ -40,6 +41,13 @@ pub data Event : Type 0 where
   -- what is kept of nodes beside the state was read or written
   NodesRead : (text : Option (List ℕ)) → Event
   NodesWritten : (text : List ℕ) (answer : Writing) → Event
+  -- the witness of the lock's state was read, which may not be there; a draft of it was written; or it
+  -- was replaced by these bytes
+  WitnessRead : (answer : Result (Option (List ℕ)) WorldFault) → Event
+  WitnessDrafted : (answer : Writing) → Event
+  WitnessWritten : (text : List ℕ) (answer : Writing) → Event
+  -- a witness was made in a new file of this name, which is at that place
+  WitnessMade : (name : Bytes) (text : List ℕ) (answer : Result Bytes WorldFault) → Event
   -- from here on an output is printed to, to which these bytes were printed before
   Printing : (before : List ℕ) → Event
   -- of a printer's own log alone: its stream took these bytes
@@ -54,6 +62,22 @@ after (event ∷ later) log = after later (event ∷ log)
 abbrev pub read_of : {E : Type 0} → Result (Vec ℕ) E → Result (List ℕ) E
 read_of (Ok bytes) = Ok bytes.items
 read_of (Err fault) = Err fault
+
+-- what a read of a witness comes to
+abbrev pub witness_of : {E : Type 0} → Result (Option (Vec ℕ)) E → Result (Option (List ℕ)) E
+witness_of (Ok (Some text)) = Ok (Some text.items)
+witness_of (Ok None) = Ok None
+witness_of (Err fault) = Err fault
+
+-- what the making of a witness comes to: where it is
+abbrev pub place_of : {E : Type 0} → Result (String Global) E → Result Bytes E
+place_of (Ok place) = Ok (string_bytes place)
+place_of (Err fault) = Err fault
+
+-- what is done, whatever it gave
+abbrev pub done_of : {T E : Type 0} → Result T E → Result (Unit {0}) E
+done_of (Ok it) = Ok tt
+done_of (Err fault) = Err fault
 
 -- what an opening comes to, where this is known of the files that it gives
 abbrev pub opening_of : {C E : Type 0} → (C → Option (List ℕ)) → Result C E

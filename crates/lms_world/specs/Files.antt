@@ -1,11 +1,11 @@
 -- Files and a state in memory.
-use Rattle.std.specs.Prelude.{ℕ, List, map, Bool, true, Option, Some, None, Result, Err, String, find, option_map}
+use Rattle.std.specs.Prelude.{ℕ, List, map, Bool, true, Option, Some, None, Result, Ok, Err, String, find, option_map}
 use Rattle.std.specs.Prelude.{string_bytes}
 use Rattle.std.specs.Global.{Global, Vec}
 use Rattle.std.specs.Str.{bytes_eq}
 use Rattle.lms_book.specs.Memory.{MemoryState, cannot_read, held}
 use Rattle.lms_world.specs.Names.{Bytes}
-use Rattle.lms_world.specs.Events.{read_of}
+use Rattle.lms_world.specs.Events.{read_of, witness_of}
 use Rattle.lms_world.specs.Held.{Answers, Held}
 use Rattle.lms_world.specs.declared.fault.WorldFault.{WorldFault}
 use Rattle.lms_world.specs.declared.fault.WorldFault.TheVariants.{Device}
@@ -53,6 +53,18 @@ nodes_in world = option_map (λ nodes. nodes.items) world.nodes
 abbrev pub nodes_fault_in : MemoryWorld → Option WorldFault
 nodes_fault_in world = world.nodes_fault
 
+-- the bytes of the witness, or by which fault it can't be read or written
+abbrev pub witness_in : MemoryWorld → Result (Option (List ℕ)) WorldFault
+witness_in world = witness_of world.witness
+
+-- the world with this witness
+abbrev pub with_witness_kept : Vec ℕ → MemoryWorld → MemoryWorld
+with_witness_kept text world = record world { witness = Ok (Some text) }
+
+-- the world in which the witness can't be read or written
+abbrev pub with_failing_witness : WorldFault → MemoryWorld → MemoryWorld
+with_failing_witness fault world = record world { witness = Err fault }
+
 -- the world with this store for its state
 abbrev pub with_store : MemoryState → MemoryWorld → MemoryWorld
 with_store store world = record world { state = Some store }
@@ -87,4 +99,5 @@ held_in world =
       in_use = is_used_elsewhere world;
       nodes = nodes_in world;
       nodes_fault = nodes_fault_in world;
+      witness = witness_in world;
     }

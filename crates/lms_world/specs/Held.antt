@@ -1,12 +1,13 @@
 -- What a world in memory holds, and what each call makes of it. Of a disk nothing is known.
 use Rattle.std.specs.Prelude.{ℕ, ◌≡◌, ◌⊎◌, List, [], ◌∷◌, ◌++◌, Bool, true, false, if◌then◌else◌, Option, Some, None}
-use Rattle.std.specs.Prelude.{Result, Ok, Err}
+use Rattle.std.specs.Prelude.{Result, Ok, Err, ◌≢◌}
 use Rattle.std.specs.Str.{bytes_eq}
 use Rattle.lms_book.specs.Stops.{Texts}
 use Rattle.lms_world.specs.Names.{Bytes}
 use Rattle.lms_world.specs.Events.{Event, Read, Opened, Written, Locked, Unlocked, Asked}
 use Rattle.lms_world.specs.Events.{Acquired, NotAvailable, NoMemory}
 use Rattle.lms_world.specs.Events.{Taken, PutBack, NodesRead, NodesWritten, Printing, Printed}
+use Rattle.lms_world.specs.Events.{WitnessDrafted, WitnessMade, WitnessRead, WitnessWritten}
 use Rattle.lms_world.specs.declared.fault.WorldFault.{WorldFault}
 use Rattle.lms_world.specs.declared.fault.WorldFault.TheVariants.{Device, OutOfMemory}
 
@@ -26,6 +27,8 @@ pub record Held : Type 0 where
   -- what is kept of nodes, and by which fault a write of them fails
   pub nodes : Option (List ℕ)
   pub nodes_fault : Option WorldFault
+  -- the bytes of the witness, or by which fault it can't be read or written
+  pub witness : Result (Option (List ℕ)) WorldFault
 
 -- what is known of a world's files and states: of a disk nothing
 abbrev pub Memory : Type 0
@@ -58,6 +61,17 @@ with_state texts may_fail held = record held { state = texts; may_fail = may_fai
 abbrev pub with_nodes_kept : List ℕ → Held → Held
 with_nodes_kept text held = record held { nodes = Some text }
 
+-- a read or a write of the witness may be refused by this fault
+abbrev pub MayRefuseWitness : Held → WorldFault → Type 0
+MayRefuseWitness held fault = (held.witness ≡ Err fault) ⊎ (fault ≡ OutOfMemory)
+
+-- so may the making of one, also where there is one
+abbrev pub MayRefuseMaking : Held → WorldFault → Type 0
+MayRefuseMaking held fault = MayRefuseWitness held fault ⊎ ((fault ≡ Device) × (held.witness ≢ Ok None))
+
+abbrev pub with_witness : List ℕ → Held → Held
+with_witness text held = record held { witness = Ok (Some text) }
+
 -- what a call makes of what is held, and which answers that allows
 abbrev pub Acts : Event → Held → Held → Type 0
 Acts (Read name (Ok bytes)) old new = (new ≡ old) × (answer_in old.files name ≡ Ok bytes)
@@ -82,6 +96,14 @@ Acts (NodesRead (Some text)) old new = (new ≡ old) × (old.nodes ≡ Some text
 Acts (NodesRead None) old new = new ≡ old
 Acts (NodesWritten text (Ok done)) old new = new ≡ with_nodes_kept text old
 Acts (NodesWritten text (Err fault)) old new = (new ≡ old) × MayRefuseNodes old fault
+Acts (WitnessRead (Ok found)) old new = (new ≡ old) × (old.witness ≡ Ok found)
+Acts (WitnessRead (Err fault)) old new = (new ≡ old) × MayRefuseWitness old fault
+Acts (WitnessDrafted (Ok done)) old new = new ≡ old
+Acts (WitnessDrafted (Err fault)) old new = (new ≡ old) × MayRefuseWitness old fault
+Acts (WitnessWritten text (Ok done)) old new = new ≡ with_witness text old
+Acts (WitnessWritten text (Err fault)) old new = (new ≡ old) × MayRefuseWitness old fault
+Acts (WitnessMade name text (Ok place)) old new = (new ≡ with_witness text old) × (old.witness ≡ Ok None)
+Acts (WitnessMade name text (Err fault)) old new = (new ≡ old) × MayRefuseMaking old fault
 Acts (Printing before) old new = new ≡ old
 Acts (Printed bytes) old new = new ≡ old
 

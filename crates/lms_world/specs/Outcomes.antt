@@ -1,8 +1,9 @@
 -- What a world in memory holds after calls, by the calls alone.
-use Rattle.std.specs.Prelude.{ℕ, ◌≡◌, List, [], ◌∷◌, ◌++◌, Option, Some, Ok}
+use Rattle.std.specs.Prelude.{ℕ, ◌≡◌, List, [], ◌∷◌, ◌++◌, Option, Some, Ok, Result}
 use Rattle.lms_book.specs.Stops.{Texts}
-use Rattle.lms_world.specs.Events.{Event, NodesWritten, PutBack, Taken, Written}
+use Rattle.lms_world.specs.Events.{Event, NodesWritten, PutBack, Taken, WitnessMade, WitnessWritten, Written}
 use Rattle.lms_world.specs.Held.{Answers, Follows, Held}
+use Rattle.lms_world.specs.declared.fault.WorldFault.{WorldFault}
 
 -- the files, the newest call first: what was written, over what there was
 abbrev pub files_after : List Event → Answers → Answers
@@ -23,11 +24,19 @@ nodes_after [] nodes = nodes
 nodes_after (NodesWritten text (Ok done) ∷ earlier) nodes = Some text
 nodes_after (other ∷ earlier) nodes = nodes_after earlier nodes
 
+-- the witness
+abbrev pub witness_after : List Event → Result (Option (List ℕ)) WorldFault
+    → Result (Option (List ℕ)) WorldFault
+witness_after [] witness = witness
+witness_after (WitnessWritten text (Ok done) ∷ earlier) witness = Ok (Some text)
+witness_after (WitnessMade name text (Ok place) ∷ earlier) witness = Ok (Some text)
+witness_after (other ∷ earlier) witness = witness_after earlier witness
+
 abbrev pub HoldsAfter : List Event → Held → Held → Type 0
 HoldsAfter calls old new =
     (new.files ≡ files_after calls old.files) × (new.state ≡ state_after calls old.state)
     × (new.nodes ≡ nodes_after calls old.nodes) × (new.in_use ≡ old.in_use)
-    × (new.nodes_fault ≡ old.nodes_fault)
+    × (new.nodes_fault ≡ old.nodes_fault) × (new.witness ≡ witness_after calls old.witness)
 
 -- a world in memory that followed its log holds what that says
 abbrev pub HoldsWhatIsLogged : Type 0

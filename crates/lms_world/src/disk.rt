@@ -1,6 +1,7 @@
 //! The files of the disk.
-ghost use Rattle.std.specs.Prelude.{[], ◌∷◌, ◌≡◌, ◌≢◌, ℕ, List, None, IfOk, IfSome, OnOk};
+ghost use Rattle.std.specs.Prelude.{[], ◌∷◌, ◌≡◌, ◌≢◌, ℕ, List, None, IfOk, IfSome, IsOk, OnOk};
 ghost use Rattle.std.specs.IoError.{error_kind};
+ghost use Rattle.lms_file_store.specs.FileStores.{AreLeft, AreLeftIn, AreWritten};
 ghost use Rattle.lms_world.specs.Events.{Written};
 
 use crate::contents::{Contents, Taker};
@@ -9,7 +10,10 @@ use crate::log::{Call, Log, OpenedAs, PutIn, TakenOut};
 use crate::printer::{Beginning, Printer};
 use crate::world::World;
 use lms_blocks::read_block;
-use lms_file_store::{FileStore, LockFault, StateLock, TryLock, lock, write_flushed, write_output};
+use lms_file_store::{
+    FileStore, LockFault, StateLock, TryLock, WitnessDraft, lock, make_witness, write_flushed,
+    write_output,
+};
 use lms_params::OutOfMemory;
 use std::alloc::Global;
 use std::fs::OpenFile;
@@ -48,7 +52,8 @@ impl<'a, R: Files> DiskWorld<'a, R> {
         bytes: &[u8],
         answer: io::Result<()>,
     ) -> Result<(), WorldFault>
-        ensures { self.new.log ≡ Written name.now bytes.now result ∷ self.old.log }
+        ensures logged { self.new.log ≡ Written name.now bytes.now result ∷ self.old.log }
+        ensures same { OnOk result (IsOk answer) }
     {
         let answer = answer.map_err(|error| fault_of(&error));
         self.log = self.log.and(&Call::Written {
@@ -70,24 +75,24 @@ where
 
     type Contents = DiskContents<R::File>;
 
+    type Draft = WitnessDraft<R::File>;
+
     ghost events = { λ world. world.log };
 
     ghost memory = { λ _. None };
 
-    // All that was left in a file, where that is known.
-    ghost may_read = { λ bytes. (file : R.File) × IfSome (R.File.remaining file) (λ rest. bytes ≡ rest) };
+    // All that was left in a file from where it stood, where that is known.
+    ghost may_read = { AreLeft R.File R.File.remaining };
+
+    // A file got all of them, where that is known.
+    ghost are_written = { AreWritten R.File R.File.contents };
 
     fn read(&mut self, alloc: Global, name: &str) -> Result<Vec<u8>, WorldFault> {
         let answer = read_whole(self.files, alloc, name).map_err(|error| fault_of(&error));
-        match &answer {
-            Ok(bytes) => self.log = self.log.and(&Call::Given { name, bytes }),
-            Err(fault) => {
-                self.log = self.log.and(&Call::Refused {
-                    name,
-                    fault: *fault,
-                })
-            }
-        }
+        self.log = self.log.and(&Call::Read {
+            name,
+            answer: &answer,
+        });
         answer
     }
 
@@ -170,10 +175,7 @@ where
         most: usize,
     ) -> Option<Vec<u8>> {
         let found = lock.read_nodes(self.files, alloc, most);
-        match &found {
-            Some(text) => self.log = self.log.and(&Call::NodesGiven { text }),
-            None => self.log = self.log.and(&Call::NodesRefused),
-        }
+        self.log = self.log.and(&Call::NodesRead { found: &found });
         found
     }
 
@@ -187,6 +189,72 @@ where
             .write_nodes(self.files, alloc, text)
             .map_err(|error| fault_of(&error));
         self.log = self.log.and(&Call::NodesWritten { text, answer });
+        answer
+    }
+
+    fn read_witness(
+        &mut self,
+        alloc: Global,
+        lock: &StateLock<R::File>,
+    ) -> Result<Option<Vec<u8>>, WorldFault> {
+        let answer = lock
+            .read_witness(self.files, alloc)
+            .map_err(|error| fault_of(&error));
+        self.log = self.log.and(&Call::WitnessRead { answer: &answer });
+        answer
+    }
+
+    fn draft_witness(
+        &mut self,
+        alloc: Global,
+        lock: &StateLock<R::File>,
+    ) -> Result<WitnessDraft<R::File>, WorldFault> {
+        match lock.draft_witness(self.files, alloc) {
+            Ok(draft) => {
+                let answer = Ok(());
+                self.log = self.log.and(&Call::WitnessDrafted { answer });
+                Ok(draft)
+            }
+            Err(error) => {
+                let fault = fault_of(&error);
+                let answer = Err(fault);
+                self.log = self.log.and(&Call::WitnessDrafted { answer });
+                Err(fault)
+            }
+        }
+    }
+
+    fn place_witness(
+        &mut self,
+        draft: WitnessDraft<R::File>,
+        text: &[u8],
+    ) -> Result<(), WorldFault> {
+        let answer = draft
+            .place(self.files, text)
+            .map_err(|error| fault_of(&error));
+        self.log = self.log.and(&Call::WitnessWritten { text, answer });
+        answer
+    }
+
+    fn discard_witness(&mut self, draft: WitnessDraft<R::File>) {
+        draft.discard(self.files);
+    }
+
+    fn make_witness(
+        &mut self,
+        alloc: Global,
+        lock: &StateLock<R::File>,
+        name: &str,
+        text: &[u8],
+    ) -> Result<String, WorldFault> {
+        let answer = make_witness(self.files, alloc, lock, name, text).map_err(|error| fault_of(
+            &error,
+        ));
+        self.log = self.log.and(&Call::WitnessMade {
+            name,
+            text,
+            answer: &answer,
+        });
         answer
     }
 
@@ -205,7 +273,7 @@ impl<F: Read + Drop> Contents for DiskContents<F> {
     ghost holds = { λ _. None };
 
     // All that was left in the file, where that is known.
-    ghost may_give = { λ contents bytes. IfSome (F.remaining contents.file) (λ rest. bytes ≡ rest) };
+    ghost may_give = { λ contents bytes. AreLeftIn F F.remaining contents.file bytes };
 
     fn hand_over<T: Taker>(self, taker: &mut T) -> Result<(), WorldFault> {
         let mut file = self.file;
@@ -216,7 +284,7 @@ impl<F: Read + Drop> Contents for DiskContents<F> {
 /// Hands all that is left in the file over, block by block.
 fn hand_blocks<F: Read, T: Taker>(file: &mut F, taker: &mut T) -> io::Result<()>
     ensures { OnOk result ((bytes : List ℕ)
-        × IfSome (F.remaining file.old) (λ rest. bytes ≡ rest)
+        × AreLeftIn F F.remaining file.old bytes
         × T.after taker.old bytes taker.new) }
 {
     let mut block = [0u8; BLOCK];
@@ -232,20 +300,20 @@ fn hand_blocks<F: Read, T: Taker>(file: &mut F, taker: &mut T) -> io::Result<()>
 
 /// The bytes of a file, whole.
 fn read_whole<R: Files>(files: &R, alloc: Global, path: &str) -> io::Result<Vec<u8>>
-    ensures { IfOk result (λ bytes.
-        (file : R.File) × IfSome (R.File.remaining file) (λ rest. bytes.items ≡ rest)) }
+    ensures { IfOk result (λ bytes. AreLeft R.File R.File.remaining bytes.items) }
 {
-    let mut file = fs::open(files, path)?;
+    let file = fs::open(files, path)?;
     let size = file.metadata()?.len() as usize;
-    read_sized(alloc, &mut file, size)
+    read_sized(alloc, file, size)
 }
 
-/// All that is left in the file, in memory of the size that it says it has and one byte for the
-/// read that finds the end, so that a large file is held once.
-fn read_sized<F: Read>(alloc: Global, file: &mut F, size: usize) -> io::Result<Vec<u8>>
-    ensures { IfOk result (λ bytes. IfSome (F.remaining file.old) (λ rest. bytes.items ≡ rest)) }
+/// All that is left in the file, which it closes, in memory of the size that it says it has and one
+/// byte for the read that finds the end, so that a large file is held once.
+fn read_sized<F: Read + Drop>(alloc: Global, file: F, size: usize) -> io::Result<Vec<u8>>
+    ensures { IfOk result (λ bytes. AreLeftIn F F.remaining file bytes.items) }
 {
     let mut bytes = Vec::with_capacity(alloc, size.saturating_add(1))?;
+    let mut file = file;
     file.read_to_end(&mut bytes)?;
     Ok(bytes)
 }

@@ -29,13 +29,9 @@ impl Model for Event {
 /// All calls but those that take a store out or put it back.
 #[derive(Drop)]
 pub(crate) enum Call<'a> {
-    Given {
+    Read {
         name: &'a str,
-        bytes: &'a [u8],
-    },
-    Refused {
-        name: &'a str,
-        fault: WorldFault,
+        answer: &'a Result<Vec<u8>, WorldFault>,
     },
     NotOpened {
         name: &'a str,
@@ -60,13 +56,27 @@ pub(crate) enum Call<'a> {
         there: bool,
     },
     NotTaken,
-    NodesGiven {
-        text: &'a [u8],
+    NodesRead {
+        found: &'a Option<Vec<u8>>,
     },
-    NodesRefused,
     NodesWritten {
         text: &'a [u8],
         answer: Result<(), WorldFault>,
+    },
+    WitnessRead {
+        answer: &'a Result<Option<Vec<u8>>, WorldFault>,
+    },
+    WitnessDrafted {
+        answer: Result<(), WorldFault>,
+    },
+    WitnessWritten {
+        text: &'a [u8],
+        answer: Result<(), WorldFault>,
+    },
+    WitnessMade {
+        name: &'a str,
+        text: &'a [u8],
+        answer: &'a Result<String, WorldFault>,
     },
     Printed {
         bytes: &'a [u8],

@@ -1,9 +1,9 @@
 //! Files and a state in memory.
-ghost use Rattle.std.specs.Prelude.{ℕ, [], ◌≡◌, ◌≤◌, ◌⊎◌, ◌∷◌, List, IfErr, IfOk, IfSome, OnErr, OnOk, Ok, Err, None, Some, false, if◌then◌else◌, is_ok, length, option_map};
+ghost use Rattle.std.specs.Prelude.{string_bytes, ℕ, [], ◌≡◌, ◌≤◌, ◌⊎◌, ◌∷◌, List, IfErr, IfOk, IfSome, OnErr, OnOk, Ok, Err, None, Some, false, if◌then◌else◌, is_ok, length, option_map};
 ghost use Rattle.lms_book.specs.Memory.{cannot_read, held};
 ghost use Rattle.lms_world.specs.Events.{read_of};
-ghost use Rattle.lms_world.specs.Held.{answer_in, is_there, with_file, with_nodes_kept};
-ghost use Rattle.lms_world.specs.Files.{answer_of, entry_of, files_in, held_in, is_used_elsewhere, nodes_fault_in, nodes_in, state_fails, state_text, store_in, used_elsewhere, with_failing_nodes, with_nodes, with_store};
+ghost use Rattle.lms_world.specs.Held.{MayRefuseMaking, answer_in, is_there, with_file, with_nodes_kept};
+ghost use Rattle.lms_world.specs.Files.{answer_of, entry_of, files_in, held_in, is_used_elsewhere, nodes_fault_in, nodes_in, state_fails, state_text, store_in, used_elsewhere, with_failing_nodes, with_failing_witness, with_nodes, with_store, with_witness_kept, witness_in};
 
 use crate::contents::{Contents, Taker};
 use crate::fault::WorldFault;
@@ -16,11 +16,16 @@ use lms_params::OutOfMemory;
 use std::alloc::{AllocError, Global};
 use std::io::Write;
 
+mod beside;
+
+pub use self::beside::{MemoryDraft, MemoryLock};
+
 /// The capacity of a state's record, in writes.
 const CAPACITY: usize = 8;
 
 /// Files and one state in memory, for tests: what a read of each name answers, the state, whatever
-/// its name, and what is kept of nodes beside it.
+/// its name, and what is kept of nodes and as its witness beside it. These are no files: a witness
+/// that is made has no other bytes under its name.
 #[derive(Drop)]
 pub struct MemoryWorld {
     alloc: Global,
@@ -31,13 +36,11 @@ pub struct MemoryWorld {
     // What is kept of nodes, and by which fault a write of them fails.
     nodes: Option<Vec<u8>>,
     nodes_fault: Option<WorldFault>,
+    // The bytes of the witness, or by which fault it can't be read or written.
+    witness: Result<Option<Vec<u8>>, WorldFault>,
     // The calls that were made on it.
     log: Log,
 }
-
-/// The lock of the state in memory, whatever its name. Only a world gives one.
-#[derive(Drop)]
-pub struct MemoryLock(());
 
 /// The bytes of a file in memory.
 #[derive(Drop)]
@@ -58,12 +61,13 @@ impl Contents for MemoryContents {
 }
 
 impl MemoryWorld {
-    /// No files, where a read of any name answers `Device`, no state, and no nodes.
+    /// No files, where a read of any name answers `Device`, no state, no nodes, and no witness.
     pub fn new(alloc: Global) -> Self
         ensures files { (name : List ℕ) → answer_of result name ≡ Err WorldFault.Device }
         ensures state { state_text (store_in result) ≡ None }
         ensures free { is_used_elsewhere result ≡ false }
         ensures nodes { nodes_in result ≡ None }
+        ensures witness { witness_in result ≡ Ok None }
         ensures uncalled { result.log ≡ [] }
     {
         MemoryWorld {
@@ -73,6 +77,7 @@ impl MemoryWorld {
             in_use: false,
             nodes: None,
             nodes_fault: None,
+            witness: Ok(None),
             log: Log::new(),
         }
     }
@@ -89,37 +94,6 @@ impl MemoryWorld {
         ensures { option_map (λ store. store.now) result ≡ store_in self.now }
     {
         self.state.as_ref()
-    }
-
-    /// Makes the lock one that another program has.
-    pub fn use_elsewhere(&mut self)
-        ensures { self.new ≡ used_elsewhere self.old }
-    {
-        self.in_use = true;
-    }
-
-    /// Makes this what is kept of nodes beside the state.
-    pub fn set_nodes(&mut self, nodes: Vec<u8>)
-        ensures { self.new ≡ with_nodes nodes self.old }
-    {
-        self.nodes = Some(nodes);
-    }
-
-    /// What is kept of nodes beside the state, where any was set or written.
-    pub fn nodes(&self) -> Option<&[u8]>
-        ensures { option_map (λ nodes. nodes.now) result ≡ nodes_in self.now }
-    {
-        match &self.nodes {
-            Some(nodes) => Some(nodes),
-            None => None,
-        }
-    }
-
-    /// Makes each write of nodes fail.
-    pub fn fail_nodes(&mut self, fault: WorldFault)
-        ensures { self.new ≡ with_failing_nodes fault self.old }
-    {
-        self.nodes_fault = Some(fault);
     }
 
     /// Makes each read and each write of a name fail. An error means out of memory.
@@ -201,34 +175,6 @@ impl MemoryWorld {
             None => MemoryStore::new(alloc, None, CAPACITY),
         }
     }
-
-    /// A copy of what is kept of nodes, where it has at most so many bytes.
-    fn copy_of_nodes(&self, alloc: Global, most: usize) -> Option<Vec<u8>>
-        ensures given { IfSome result (λ text. nodes_in self.now ≡ Some text.items) }
-        ensures at_most { IfSome result (λ text. length text.items ≤ most) }
-    {
-        let nodes = self.nodes()?;
-        if nodes.len() > most {
-            return None;
-        }
-        Vec::from_slice(alloc, nodes).ok()
-    }
-
-    /// Keeps these bytes of nodes. After an error what was kept is kept still.
-    fn keep(&mut self, alloc: Global, text: &[u8]) -> Result<(), WorldFault>
-        ensures held { held_in self.new ≡ (if is_ok result
-            then with_nodes_kept text.now (held_in self.old) else held_in self.old) }
-        ensures refused { IfErr result (λ fault.
-            (nodes_fault_in self.old ≡ Some fault) ⊎ (fault ≡ WorldFault.OutOfMemory)) }
-        ensures uncalled { self.new.log ≡ self.old.log }
-    {
-        if let Some(fault) = self.nodes_fault {
-            return Err(fault);
-        }
-        let nodes = Vec::from_slice(alloc, text).map_err(|_| WorldFault::OutOfMemory)?;
-        self.set_nodes(nodes);
-        Ok(())
-    }
 }
 
 impl World for MemoryWorld {
@@ -238,23 +184,22 @@ impl World for MemoryWorld {
 
     type Contents = MemoryContents;
 
+    type Draft = MemoryDraft;
+
     ghost events = { λ world. world.log };
 
     ghost memory = { λ world. Some (held_in world) };
 
     ghost may_read = { λ _. Unit {0} };
 
+    ghost are_written = { λ _. Unit {0} };
+
     fn read(&mut self, alloc: Global, name: &str) -> Result<Vec<u8>, WorldFault> {
         let answer = self.copy_of(alloc, name);
-        match &answer {
-            Ok(bytes) => self.log = self.log.and(&Call::Given { name, bytes }),
-            Err(fault) => {
-                self.log = self.log.and(&Call::Refused {
-                    name,
-                    fault: *fault,
-                })
-            }
-        }
+        self.log = self.log.and(&Call::Read {
+            name,
+            answer: &answer,
+        });
         answer
     }
 
@@ -300,7 +245,7 @@ impl World for MemoryWorld {
             Err(LockFault::InUse)
         } else {
             self.log = self.log.and(&Call::Acquired { name });
-            Ok(MemoryLock(()))
+            Ok(MemoryLock::new())
         }
     }
 
@@ -338,10 +283,7 @@ impl World for MemoryWorld {
 
     fn read_nodes(&mut self, alloc: Global, _lock: &MemoryLock, most: usize) -> Option<Vec<u8>> {
         let found = self.copy_of_nodes(alloc, most);
-        match &found {
-            Some(text) => self.log = self.log.and(&Call::NodesGiven { text }),
-            None => self.log = self.log.and(&Call::NodesRefused),
-        }
+        self.log = self.log.and(&Call::NodesRead { found: &found });
         found
     }
 
@@ -353,6 +295,69 @@ impl World for MemoryWorld {
     ) -> Result<(), WorldFault> {
         let answer = self.keep(alloc, text);
         self.log = self.log.and(&Call::NodesWritten { text, answer });
+        answer
+    }
+
+    fn read_witness(
+        &mut self,
+        alloc: Global,
+        _lock: &MemoryLock,
+    ) -> Result<Option<Vec<u8>>, WorldFault> {
+        let answer = self.copy_of_witness(alloc);
+        self.log = self.log.and(&Call::WitnessRead { answer: &answer });
+        answer
+    }
+
+    fn draft_witness(
+        &mut self,
+        alloc: Global,
+        _lock: &MemoryLock,
+    ) -> Result<MemoryDraft, WorldFault> {
+        match self.draft(alloc) {
+            Ok(draft) => {
+                let answer = Ok(());
+                self.log = self.log.and(&Call::WitnessDrafted { answer });
+                Ok(draft)
+            }
+            Err(fault) => {
+                let answer = Err(fault);
+                self.log = self.log.and(&Call::WitnessDrafted { answer });
+                Err(fault)
+            }
+        }
+    }
+
+    fn place_witness(&mut self, draft: MemoryDraft, text: &[u8]) -> Result<(), WorldFault> {
+        match self.written(draft, text) {
+            Ok(copy) => {
+                let answer = Ok(());
+                self.log = self.log.and(&Call::WitnessWritten { text, answer });
+                self.set_witness(copy);
+                Ok(())
+            }
+            Err(fault) => {
+                let answer = Err(fault);
+                self.log = self.log.and(&Call::WitnessWritten { text, answer });
+                Err(fault)
+            }
+        }
+    }
+
+    fn discard_witness(&mut self, _draft: MemoryDraft) {}
+
+    fn make_witness(
+        &mut self,
+        alloc: Global,
+        _lock: &MemoryLock,
+        name: &str,
+        text: &[u8],
+    ) -> Result<String, WorldFault> {
+        let answer = self.make(alloc, name, text);
+        self.log = self.log.and(&Call::WitnessMade {
+            name,
+            text,
+            answer: &answer,
+        });
         answer
     }
 

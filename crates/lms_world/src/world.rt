@@ -1,6 +1,6 @@
 //! What a world of files and states owes.
-ghost use Rattle.std.specs.Prelude.{◌≡◌, ◌≤◌, ◌∷◌, ℕ, List, option_map, length, IfOk, IfSome};
-ghost use Rattle.lms_world.specs.Events.{Event, Read, Opened, Written, Locked, Unlocked, Asked, PutBack, NodesRead, NodesWritten, Printing, locking_of, opening_of, read_of, taking_of};
+ghost use Rattle.std.specs.Prelude.{◌≡◌, ◌≤◌, ◌∷◌, ℕ, List, option_map, length, IfOk, IfSome, OnOk};
+ghost use Rattle.lms_world.specs.Events.{Event, Read, Opened, Written, Locked, Unlocked, Asked, PutBack, NodesRead, NodesWritten, Printing, WitnessDrafted, WitnessMade, WitnessRead, WitnessWritten, done_of, locking_of, opening_of, place_of, read_of, taking_of, witness_of};
 ghost use Rattle.lms_world.specs.Held.{Does, Memory};
 
 use crate::contents::Contents;
@@ -25,6 +25,9 @@ pub trait World {
     /// A file that was opened to be read.
     type Contents: Contents + Drop;
 
+    /// A witness that is about to be replaced.
+    type Draft: Drop;
+
     // The calls that were made, the newest first.
     ghost events: { Self → List Event };
 
@@ -33,6 +36,9 @@ pub trait World {
 
     // What a read of a file may give.
     ghost may_read: { List ℕ → Type 0 };
+
+    // What is so of these bytes where they were written.
+    ghost are_written: { List ℕ → Type 0 };
 
     /// The bytes of a file.
     ///
@@ -58,13 +64,15 @@ pub trait World {
     /// an error the file may be missing or cut short.
     fn write(&mut self, name: &str, bytes: &[u8]) -> Result<(), WorldFault>
         ensures logged { events self.new ≡ Written name.now bytes.now result ∷ events self.old }
-        ensures acts { Does (Written name.now bytes.now result) (memory self.old) (memory self.new) };
+        ensures acts { Does (Written name.now bytes.now result) (memory self.old) (memory self.new) }
+        ensures written { OnOk result (are_written bytes.now) };
 
     /// The same, and flushes the file where that can be done: a loss of power leaves it then. After a
     /// fault the file may be written.
     fn write_flushed(&mut self, alloc: Global, name: &str, bytes: &[u8]) -> Result<(), WorldFault>
         ensures logged { events self.new ≡ Written name.now bytes.now result ∷ events self.old }
-        ensures acts { Does (Written name.now bytes.now result) (memory self.old) (memory self.new) };
+        ensures acts { Does (Written name.now bytes.now result) (memory self.old) (memory self.new) }
+        ensures written { OnOk result (are_written bytes.now) };
 
     /// Locks the state of this name, without waiting.
     ///
@@ -105,7 +113,8 @@ pub trait World {
     fn read_nodes(&mut self, alloc: Global, lock: &Self::Lock, most: usize) -> Option<Vec<u8>>
         ensures logged { events self.new ≡ NodesRead (option_map (λ text. text.items) result) ∷ events self.old }
         ensures acts { Does (NodesRead (option_map (λ text. text.items) result)) (memory self.old) (memory self.new) }
-        ensures at_most { IfSome result (λ text. length text.items ≤ most) };
+        ensures at_most { IfSome result (λ text. length text.items ≤ most) }
+        ensures given { IfSome result (λ text. may_read text.items) };
 
     /// Keeps these bytes of nodes beside the state of the lock, in place of what was kept there. No
     /// file of a name is changed, and no state.
@@ -119,7 +128,62 @@ pub trait World {
         text: &[u8],
     ) -> Result<(), WorldFault>
         ensures logged { events self.new ≡ NodesWritten text.now result ∷ events self.old }
-        ensures acts { Does (NodesWritten text.now result) (memory self.old) (memory self.new) };
+        ensures acts { Does (NodesWritten text.now result) (memory self.old) (memory self.new) }
+        ensures written { OnOk result (are_written text.now) };
+
+    /// The bytes of the witness beside the state of the lock. `None` where nothing has its name.
+    ///
+    /// `Device` where it can't be read, is longer than any witness, or is a link that leads nowhere;
+    /// `OutOfMemory` where memory for its bytes was refused.
+    fn read_witness(
+        &mut self,
+        alloc: Global,
+        lock: &Self::Lock,
+    ) -> Result<Option<Vec<u8>>, WorldFault>
+        ensures logged { events self.new ≡ WitnessRead (witness_of result) ∷ events self.old }
+        ensures acts { Does (WitnessRead (witness_of result)) (memory self.old) (memory self.new) }
+        ensures given { IfOk result (λ found. IfSome found (λ text. may_read text.items)) };
+
+    /// Makes a draft of the witness, with room for the longest, so that all room and memory is there
+    /// that `place_witness` needs. The witness stays as it is.
+    ///
+    /// `Device` where it can't be written, `OutOfMemory` where memory for that was refused.
+    fn draft_witness(&mut self, alloc: Global, lock: &Self::Lock) -> Result<Self::Draft, WorldFault>
+        ensures logged { events self.new ≡ WitnessDrafted (done_of result) ∷ events self.old }
+        ensures acts { Does (WitnessDrafted (done_of result)) (memory self.old) (memory self.new) };
+
+    /// Makes these the bytes of the witness, whole, by its draft: after `Ok` a loss of power leaves
+    /// them, and at any moment before it leaves them or what was there.
+    ///
+    /// `Device` where it can't be written, `OutOfMemory` where memory for that was refused. After an
+    /// error these may be its bytes, or those before.
+    fn place_witness(&mut self, draft: Self::Draft, text: &[u8]) -> Result<(), WorldFault>
+        ensures logged { events self.new ≡ WitnessWritten text.now result ∷ events self.old }
+        ensures acts { Does (WitnessWritten text.now result) (memory self.old) (memory self.new) }
+        ensures written { OnOk result (are_written text.now) };
+
+    /// Lets a draft go, which is removed if that can be done. The witness stays as it is, and the log
+    /// has no call for it.
+    fn discard_witness(&mut self, draft: Self::Draft)
+        ensures unlogged { events self.new ≡ events self.old }
+        ensures same { memory self.new ≡ memory self.old };
+
+    /// Makes a witness with these bytes in a new file of this name, which the state of the lock has
+    /// from then on. Returns where the file is, after symbolic links.
+    ///
+    /// `Device` where it can't be made, or where something has the name, or the state has a witness, be
+    /// it a link that leads nowhere; `OutOfMemory` where memory for the paths was refused.
+    fn make_witness(
+        &mut self,
+        alloc: Global,
+        lock: &Self::Lock,
+        name: &str,
+        text: &[u8],
+    ) -> Result<String, WorldFault>
+        ensures logged { events self.new ≡ WitnessMade name.now text.now (place_of result) ∷ events self.old }
+        ensures acts { Does (WitnessMade name.now text.now (place_of result))
+            (memory self.old) (memory self.new) }
+        ensures written { OnOk result (are_written text.now) };
 
     /// Records what was printed to an output so far, before more is printed.
     fn begin_printing<O: Write>(&mut self, output: &Printer<O>)

@@ -1,5 +1,6 @@
 mod nodes;
 mod replays;
+mod witness;
 
 use lms_file_store::TryLock;
 use lms_world::{Contents, DiskWorld, Taker, World, WorldFault};

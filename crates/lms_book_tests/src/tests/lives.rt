@@ -3,7 +3,8 @@ ghost use Rattle.std.specs.Prelude.{◌≡◌, ◌≤◌, [], IfOk};
 use super::{burns, counts, gives, has_opened_and_burnt, leaves, refuses, reopened};
 use crate::tests::fixtures::{FIRST_SMALL, LEVELS, first_store, small_store};
 use lms_book::{Book, BookFault, Left, MemoryStore};
-use lms_fixtures::{book_of, key_of, reserved};
+use lms_fixtures::{book_of, image_with, key_of, reserved, store_of};
+use lms_params::{LmsType, OtsType};
 use std::alloc::Global;
 use std::test::Fail;
 
@@ -100,6 +101,23 @@ fn lives_with_a_stop_in_a_write(rt: HostRuntime) -> Result<(), Fail> {
         let mut book = reopened(rt.alloc(), book)?;
         assert!(rt; counts(&book, base, base, base));
         assert!(rt; gives(&mut book, 1, base));
+    }
+    Ok(())
+}
+
+/// By a key of 2^60 indices, half of them used. Each number may have up to 60 bits.
+#[test]
+fn counts_openings_past_32_bits(rt: HostRuntime) -> Result<(), Fail> {
+    let key = key_of(&[(LmsType::H15, OtsType::W8); 4], 0x11)?;
+    let counter = 1 << 59;
+    for openings in [0xffff_fffe, 0xffff_ffff, 1 << 32, 1 << 48, counter] {
+        let image = image_with(key, counter, openings, openings)?;
+        let mut book = book_of(rt.alloc(), store_of(rt.alloc(), image.as_slice())?)?;
+        assert!(rt; has_opened_and_burnt(&book, openings, openings));
+        assert!(rt; gives(&mut book, 1000, counter), "{openings}");
+        assert!(rt; gives(&mut book, 24, counter + 1000), "{openings}");
+        let next = openings.saturating_add(1);
+        assert!(rt; leaves(book, key, counter + 1024, next, openings));
     }
     Ok(())
 }

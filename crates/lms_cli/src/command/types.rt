@@ -41,6 +41,19 @@ pub enum Command {
         state: String,
         workers: String,
     },
+    /// Make a witness of the key whose state is in a file, in the new file `on`. The state has to
+    /// count `counter` indices as used, a number in decimal.
+    Witness {
+        state: String,
+        on: String,
+        counter: String,
+    },
+    /// Burn the indices that the state in a file counts as unused, and its witness as used. That
+    /// has to say that `counter` are, a number in decimal.
+    Resume {
+        state: String,
+        counter: String,
+    },
     /// Verify a signature. Each text names a file.
     Verify {
         public: String,

@@ -6,7 +6,7 @@ use std::os::unix::fs::symlink;
 use std::test::Fail;
 
 /// Whether the file of a name holds these bytes.
-fn holds(rt: &HostRuntime, name: &str, bytes: &[u8]) -> bool {
+pub(super) fn holds(rt: &HostRuntime, name: &str, bytes: &[u8]) -> bool {
     match fs::read(rt, name) {
         Ok(found) => found.as_slice() == bytes,
         Err(_) => false,
@@ -82,6 +82,24 @@ fn a_state_is_not_written_over(rt: HostRuntime) -> Result<(), Fail> {
     assert!(rt; all_go_through(&rt, &longer, true)?);
     assert!(rt; all_go_through(&rt, b"HSS", true)?);
     assert!(rt; all_go_through(&rt, &[7; 180], true)?);
+    fs::remove_dir_all(&rt, "outputs_left")?;
+    Ok(())
+}
+
+/// Nor is a witness, and what only begins as one is.
+#[test]
+fn a_witness_is_not_written_over(rt: HostRuntime) -> Result<(), Fail> {
+    empty_folder(&rt, "outputs_left")?;
+    symlink(&rt, "state", "outputs_left/link")?;
+    let mut longest = [b'0'; 128];
+    longest[..8].copy_from_slice(b"HSS key ");
+    let mut longer = [b'0'; 129];
+    longer[..8].copy_from_slice(b"HSS key ");
+    assert!(rt; all_go_through(&rt, b"HSS key ", false)?);
+    assert!(rt; all_go_through(&rt, &longest, false)?);
+    assert!(rt; all_go_through(&rt, &longer, true)?);
+    assert!(rt; all_go_through(&rt, b"HSS key", true)?);
+    assert!(rt; all_go_through(&rt, b"HSS keys", true)?);
     fs::remove_dir_all(&rt, "outputs_left")?;
     Ok(())
 }

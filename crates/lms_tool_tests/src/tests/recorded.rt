@@ -10,6 +10,7 @@ pub(super) enum Change {
     File { name: String, bytes: Vec<u8> },
     State { text: Vec<u8> },
     Nodes { text: Vec<u8> },
+    Witness { text: Vec<u8> },
 }
 
 /// Hands all calls on to a world, and records those that changed what it holds, where there is
@@ -43,6 +44,11 @@ fn state_change(alloc: Global, store: &MemoryStore) -> Result<Change, AllocError
     Ok(Change::State { text })
 }
 
+fn witness_change(alloc: Global, text: &[u8]) -> Result<Change, AllocError> {
+    let text = Vec::from_slice(alloc, text)?;
+    Ok(Change::Witness { text })
+}
+
 fn nodes_change(alloc: Global, text: &[u8]) -> Result<Change, AllocError> {
     let text = Vec::from_slice(alloc, text)?;
     Ok(Change::Nodes { text })
@@ -55,11 +61,15 @@ impl<W: World<Store = MemoryStore>> World for Recorded<W> {
 
     type Contents = W::Contents;
 
+    type Draft = W::Draft;
+
     ghost events = { λ recorded. W.events recorded.world };
 
     ghost memory = { λ recorded. W.memory recorded.world };
 
     ghost may_read = { W.may_read };
+
+    ghost are_written = { W.are_written };
 
     fn read(&mut self, alloc: Global, name: &str) -> Result<Vec<u8>, WorldFault> {
         self.world.read(alloc, name)
@@ -120,6 +130,44 @@ impl<W: World<Store = MemoryStore>> World for Recorded<W> {
     ) -> Result<(), WorldFault> {
         let answer = self.world.write_nodes(alloc, lock, text);
         if let (Ok(()), Ok(change)) = (answer, nodes_change(self.alloc, text)) {
+            let _ = self.changes.push(change);
+        }
+        answer
+    }
+
+    fn read_witness(
+        &mut self,
+        alloc: Global,
+        lock: &W::Lock,
+    ) -> Result<Option<Vec<u8>>, WorldFault> {
+        self.world.read_witness(alloc, lock)
+    }
+
+    fn draft_witness(&mut self, alloc: Global, lock: &W::Lock) -> Result<W::Draft, WorldFault> {
+        self.world.draft_witness(alloc, lock)
+    }
+
+    fn place_witness(&mut self, draft: W::Draft, text: &[u8]) -> Result<(), WorldFault> {
+        let answer = self.world.place_witness(draft, text);
+        if let (Ok(()), Ok(change)) = (answer, witness_change(self.alloc, text)) {
+            let _ = self.changes.push(change);
+        }
+        answer
+    }
+
+    fn discard_witness(&mut self, draft: W::Draft) {
+        self.world.discard_witness(draft)
+    }
+
+    fn make_witness(
+        &mut self,
+        alloc: Global,
+        lock: &W::Lock,
+        name: &str,
+        text: &[u8],
+    ) -> Result<String, WorldFault> {
+        let answer = self.world.make_witness(alloc, lock, name, text);
+        if let (Ok(_), Ok(change)) = (&answer, witness_change(self.alloc, text)) {
             let _ = self.changes.push(change);
         }
         answer

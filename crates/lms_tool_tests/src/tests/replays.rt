@@ -2,6 +2,7 @@
 use super::arguments::{SIGN, keygen};
 use super::recorded::{Change, Recorded};
 use super::{VERIFY, ends};
+use lms_fixtures::store_of;
 use lms_world::{MemoryWorld, World, WorldFault};
 use std::alloc::Global;
 use std::test::Fail;
@@ -33,6 +34,14 @@ fn nodes_after(changes: &[Change]) -> Option<&[u8]> {
     })
 }
 
+/// The witness that was made or written last.
+fn witness_after(changes: &[Change]) -> Option<&[u8]> {
+    changes.iter().rev().find_map(|change| match change {
+        Change::Witness { text } => Some(text.as_slice()),
+        _ => None,
+    })
+}
+
 /// Whether no call wrote another file than these.
 fn writes_these_alone(changes: &[Change]) -> bool {
     changes.iter().all(|change| match change {
@@ -57,6 +66,7 @@ fn is_as_called(alloc: Global, recorded: &mut Recorded<MemoryWorld>) -> bool {
     let state = recorded.world.state().and_then(|store| store.text());
     state == state_after(&recorded.changes)
         && recorded.world.nodes() == nodes_after(&recorded.changes)
+        && recorded.world.witness() == witness_after(&recorded.changes)
         && writes_these_alone(&recorded.changes)
         && FILES.iter().all(|name| has_file(alloc, recorded, name))
 }
@@ -95,6 +105,58 @@ fn a_memory_ends_as_its_calls_say(rt: HostRuntime) -> Result<(), Fail> {
     assert!(rt; is_as_called(rt.alloc(), &mut world));
     assert!(rt; ends(&rt, &SIGN, &mut world, 0, "index 2\n", ""));
     assert!(rt; ends(&rt, &VERIFY, &mut world, 0, "valid\n", ""));
+    assert!(rt; is_as_called(rt.alloc(), &mut world));
+    Ok(())
+}
+
+/// A state of which a witness is made, and the witness's file.
+const WITNESS: [&str; 8] = [
+    "lms_tool",
+    "witness",
+    "--state",
+    "key.state",
+    "--on",
+    "far.witness",
+    "--counter",
+    "0",
+];
+
+const RESUME: [&str; 6] = [
+    "lms_tool",
+    "resume",
+    "--state",
+    "key.state",
+    "--counter",
+    "2",
+];
+
+/// The bytes of the state.
+fn state_text(alloc: Global, recorded: &Recorded<MemoryWorld>) -> Result<Vec<u8>, Fail> {
+    let state = recorded.world.state().and_then(|store| store.text());
+    Ok(Vec::from_slice(alloc, state.unwrap_or(b""))?)
+}
+
+/// An older state is put back beside a witness, refused, and resumed.
+#[test]
+fn an_older_state_goes_on_from_its_witness(rt: HostRuntime) -> Result<(), Fail> {
+    let mut world = Recorded::new(rt.alloc(), MemoryWorld::new(rt.alloc()));
+    world.write("text", b"abc")?;
+    assert!(rt; ends(&rt, &keygen("5/2"), &mut world, 0, "capacity 32\n", ""));
+    let made =
+        "HSS key 22222222222222222222222222222222 has used all indices below 0\nfar.witness\n";
+    assert!(rt; ends(&rt, &WITNESS, &mut world, 0, made, ""));
+    assert!(rt; is_as_called(rt.alloc(), &mut world));
+    let older = state_text(rt.alloc(), &world)?;
+    assert!(rt; ends(&rt, &SIGN, &mut world, 0, "index 0\n", ""));
+    assert!(rt; ends(&rt, &SIGN, &mut world, 0, "index 1\n", ""));
+    assert!(rt; is_as_called(rt.alloc(), &mut world));
+    world.world.set_state(store_of(rt.alloc(), &older)?);
+    let fault = "error: state is older than its witness\n";
+    assert!(rt; ends(&rt, &SIGN, &mut world, 3, "", fault));
+    assert!(rt; is_as_called(rt.alloc(), &mut world));
+    let burnt = "indices 0 to 1 burnt; right only if the witness is the newest\n";
+    assert!(rt; ends(&rt, &RESUME, &mut world, 0, burnt, ""));
+    assert!(rt; ends(&rt, &SIGN, &mut world, 0, "index 2\n", ""));
     assert!(rt; is_as_called(rt.alloc(), &mut world));
     Ok(())
 }

@@ -50,6 +50,32 @@ returns-in_ok-describe-in-Info-clause-logged g c =
     let logged = rw c.deref-in-Info.ensures at c.in_ok-describe-in-Info.ensures.logged in
     rw c.in-Info.is (refl, logged)
 
+pub returns-in_ok-watch_state-in-Witness-clause-logged : goal.returns-in_ok-watch_state-in-Witness-clause-logged
+returns-in_ok-watch_state-in-Witness-clause-logged g c =
+    let logged = rw (c.deref-in-Witness.ensures, c.deref-in-Witness-2.ensures, c.deref-in-Witness-3.ensures) at
+    c.in_ok-watch_state-in-Witness.ensures.logged in
+    rw c.in-Witness.is (refl, logged)
+
+pub returns-in_err-watch_state-in-Witness-clause-log_failed :
+    goal.returns-in_err-watch_state-in-Witness-clause-log_failed
+returns-in_err-watch_state-in-Witness-clause-log_failed g c =
+    let failed = rw (c.deref-in-Witness.ensures, c.deref-in-Witness-2.ensures, c.deref-in-Witness-3.ensures) at
+    c.in_err-watch_state-in-Witness.ensures.log_failed in
+    rw c.in-Witness.is (passed_up _ _ _ c.from_residual-in_err-watch_state-in-Witness.ensures.1 failed)
+
+pub returns-in_ok-resume_state-in-Resume-clause-logged : goal.returns-in_ok-resume_state-in-Resume-clause-logged
+returns-in_ok-resume_state-in-Resume-clause-logged g c =
+    let logged = rw (c.deref-in-Resume.ensures, c.deref-in-Resume-2.ensures) at
+    c.in_ok-resume_state-in-Resume.ensures.logged in
+    rw c.in-Resume.is (refl, logged)
+
+pub returns-in_err-resume_state-in-Resume-clause-log_failed :
+    goal.returns-in_err-resume_state-in-Resume-clause-log_failed
+returns-in_err-resume_state-in-Resume-clause-log_failed g c =
+    let failed = rw (c.deref-in-Resume.ensures, c.deref-in-Resume-2.ensures) at
+    c.in_err-resume_state-in-Resume.ensures.log_failed in
+    rw c.in-Resume.is (passed_up _ _ _ c.from_residual-in_err-resume_state-in-Resume.ensures.1 failed)
+
 pub returns-in_err-verdict-in-Verify-clause-log_failed : goal.returns-in_err-verdict-in-Verify-clause-log_failed
 returns-in_err-verdict-in-Verify-clause-log_failed g c =
     let failed = rw (c.deref-in-Verify.ensures, c.deref-in-Verify-2.ensures, c.deref-in-Verify-3.ensures) at

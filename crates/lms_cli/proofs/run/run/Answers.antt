@@ -7,7 +7,7 @@ use Rattle.lms_cli.proofs.run.run.Goals as goal
 
 pub returns-in-Ok : goal.returns-in-Ok
 returns-in-Ok g c =
-    runs _ _ _ _ (inl c.in-Ok.ensures.logged) c.answer.ensures.follows (λ low. inl (c.in-Ok.ensures.quiet low))
+    runs _ _ _ _ (inl (c.in-Ok.ensures.logged, c.in-Ok.ensures.usage)) c.answer.ensures.follows (λ low. inl (c.in-Ok.ensures.quiet low))
     c.answer.ensures.unread
 
 pub returns-in-Err : goal.returns-in-Err

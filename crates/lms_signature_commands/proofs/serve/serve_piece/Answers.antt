@@ -1,4 +1,4 @@
-use Rattle.std.proofs.Common.{◌∷◌, ◌++◌, [], arith, inl, inr, ap, refl, subst}
+use Rattle.std.proofs.Common.{◌∷◌, ◌++◌, arith, inl, inr, ap, refl, subst}
 use Rattle.lms_commands.proofs.Failing.{handed_on}
 use Rattle.lms_commands.specs.declared.fault.Fault.TheVariants.{BadJob}
 use Rattle.lms_signature_commands.specs.Serving.{Due, LogsGroups, answered, due_of}

@@ -1,7 +1,0 @@
-use Rattle.std.proofs.Common.{refl}
-use Rattle.clap.proofs.OnLiterals.{clap_on_literals}
-use Rattle.lms_cli.proofs.command.laws.public_is_taken.Goals as goal
-
-pub returns : goal.returns
-unfolding clap_on_literals
-returns c = λ state public program. (refl, (_, refl, refl))

@@ -1,0 +1,253 @@
+//! The program's subcommands as data, which both the program and its specification read.
+
+/// A required option `--NAME VALUE`: its name, its value's name, and its help.
+pub(super) type OptionRow = (&'static str, &'static str, &'static str);
+
+/// A subcommand: its name, what help says of it in a line and below its options, and its options.
+pub(super) type Row = (
+    &'static str,
+    &'static str,
+    &'static str,
+    &'static [OptionRow],
+);
+
+pub(super) const SUBCOMMANDS: [Row; 11] = [
+    KEYGEN,
+    INFO,
+    PUBLIC,
+    SIGN,
+    BATCH,
+    SERVE,
+    WITNESS,
+    RESUME,
+    VERIFY,
+    JOIN,
+    JOIN_PUBLIC,
+];
+
+pub(super) const KEYGEN: Row = (
+    "keygen",
+    "Makes a key from a seed",
+    "Example:
+  openssl rand -hex 32 | lms_tool keygen --levels 10/8,10/8 --seed - --id \"$(openssl rand -hex 16)\" \\
+      --state key.state --public key.pub
+
+With `-` the seed is read from standard input, 64 digits and perhaps the end of their line. On the command line every user of
+the machine can read it for as long as this runs.
+
+Never use a seed and identifier twice, whatever the levels: the same one-time keys would sign again, from index 0.",
+    &[
+        (
+            "levels",
+            "LEVELS",
+            "Height/width of each level, top first, as 10/8,10/8: 1 to 8 levels; heights 5, 10, 15, 20 or 25, together at most 60; widths 1, 2, 4 or 8",
+        ),
+        (
+            "seed",
+            "HEX",
+            "64 hexadecimal digits, random and secret, or - to read them from standard input",
+        ),
+        ("id", "HEX", "32 hexadecimal digits, random"),
+        ("state", "FILE", "The key's state, a new file"),
+        (
+            "public",
+            "FILE",
+            "Where the public key is written, 60 bytes, in place of any older file",
+        ),
+    ],
+);
+
+pub(super) const INFO: Row = (
+    "info",
+    "Describes a key",
+    "Example:
+  lms_tool info --state key.state
+
+Prints the levels, how many indices are used (counter), how many there are (capacity) and how many are left (left), how many
+openings of the state stored something (openings), and how many indices were burnt before its last write (burnt).",
+    &[("state", "FILE", "The key's state")],
+);
+
+pub(super) const PUBLIC: Row = (
+    "public",
+    "Writes a key's public key",
+    "Example:
+  lms_tool public --state key.state --public key.pub
+
+Makes the file that `keygen` wrote once more, in the same time, and prints how many indices there are (capacity). The state stays
+as it is, and can be used meanwhile.",
+    &[
+        ("state", "FILE", "The key's state"),
+        (
+            "public",
+            "FILE",
+            "Where the public key is written, 60 bytes, in place of any older file",
+        ),
+    ],
+);
+
+pub(super) const SIGN: Row = (
+    "sign",
+    "Signs a message",
+    "Example:
+  lms_tool sign --state key.state --random \"$(openssl rand -hex 32)\" --message firmware.bin --out firmware.sig
+
+Prints the index, which counts as used before the signature is made. Never sign with an older copy of a state.",
+    &[
+        ("state", "FILE", "The key's state"),
+        (
+            "random",
+            "HEX",
+            "64 hexadecimal digits, random, fresh for each signature",
+        ),
+        ("message", "FILE", "The message, any bytes"),
+        (
+            "out",
+            "FILE",
+            "Where the signature is written, raw bytes, in place of any older file",
+        ),
+    ],
+);
+
+pub(super) const BATCH: Row = (
+    "batch",
+    "Signs the job lines of standard input",
+    "Example, for a file `jobs` with one line for each message:
+  lms_tool batch --state key.state --workers 4 < jobs > answers
+
+A job line is a randomizer of 64 hexadecimal digits, random and fresh for each job, one space, and the message, 0 to 131072
+hexadecimal digits; 1024 lines at most. So for the message `abc`:
+  5f0d1f7ac2be30a4d1c96bb5e86f27930c4ad0b2f4e1907c6e5a3d8f1b7290c4 616263
+
+An answer line is the index, one space, and the signature in hexadecimal. The indices count as used before the first signature
+is made. Never sign with an older copy of a state.",
+    &[
+        ("state", "FILE", "The key's state"),
+        ("workers", "N", "How many workers sign at once, 1 to 64"),
+    ],
+);
+
+pub(super) const SERVE: Row = (
+    "serve",
+    "Signs job lines of standard input as they come",
+    "Example, where a program opens `jobs`, then `answers`, and writes job lines and reads their answers:
+  mkfifo jobs answers
+  lms_tool serve --state key.state --workers 4 < jobs > answers
+
+Stays until its input ends, and answers job lines as they come. Job lines and answer lines are those of `batch`, in any number.
+Lines that were read whole are a group: their indices count as used, by one write of the state, before the first of them is
+signed, and their answers are printed before more is read. Read answers while you write lines, or both sides may stand still.
+The state is locked all the time, and where another is put in its place nothing more is signed. Trees are kept in memory.
+
+A line that is no job line ends it, after the answers of all lines before it. Never sign with an older copy of a state.",
+    &[
+        ("state", "FILE", "The key's state"),
+        ("workers", "N", "How many workers sign at once, 1 to 64"),
+    ],
+);
+
+pub(super) const WITNESS: Row = (
+    "witness",
+    "Makes a state's witness, by which an older state is refused",
+    "Example:
+  lms_tool witness --state key.state --on /media/other/key.witness --counter 0
+
+Writes to a new file a line that says below which index all are used, and makes a link `key.state.witness` to it beside the
+state. From then on `sign`, `batch` and `serve` go by that name: they refuse a state that counts fewer indices, as an older
+one does, and have the witness say which are used before a signature leaves. It has no secret.
+
+Keep it on another medium, outside of backups: where both come back, nothing sees it. Never remove it to get on.",
+    &[
+        ("state", "FILE", "The key's state"),
+        (
+            "on",
+            "FILE",
+            "The witness, a new file, on another medium than the state",
+        ),
+        (
+            "counter",
+            "N",
+            "How many indices are used, by the key's record; 0 for a new key",
+        ),
+    ],
+);
+
+pub(super) const RESUME: Row = (
+    "resume",
+    "Burns the indices by which a state is older than its witness",
+    "Example:
+  lms_tool resume --state key.state --counter 7
+
+For a state that is refused since it is older than its witness, as one from a backup: burns the indices up to the witness's
+number, which has to be the counter, and signing goes on after them. Right only if the witness is the newest: if an older one
+came back, too, indices sign twice.",
+    &[
+        ("state", "FILE", "The key's state"),
+        (
+            "counter",
+            "N",
+            "How many indices are used, by the key's record",
+        ),
+    ],
+);
+
+pub(super) const VERIFY: Row = (
+    "verify",
+    "Prints whether a signature is valid",
+    "Example:
+  lms_tool verify --public key.pub --message firmware.bin --signature firmware.sig
+
+Ends with status 0 for `valid`, 1 for `invalid`, and another where a file can't be read.",
+    &[
+        ("public", "FILE", "The public key, 60 bytes"),
+        ("message", "FILE", "The message, any bytes"),
+        ("signature", "FILE", "The signature, raw bytes"),
+    ],
+);
+
+pub(super) const JOIN: Row = (
+    "join",
+    "Joins a signature with a top key's endorsement of its key",
+    "Example:
+  tail -c 56 signer.pub > signer.key
+  lms_tool sign --state top.state --random \"$(openssl rand -hex 32)\" --message signer.key --out signer.endorsement
+  lms_tool join --public top.pub --endorsement signer.endorsement --signer signer.pub --signature firmware.sig --out joined.sig
+
+The endorsement is the top key's signature of the last 56 bytes of the signer's public key. Under the key that `join-public`
+makes, the joined signature is valid for the messages for which the signer's is. The top key must sign such keys and nothing
+else: any 56 bytes that it signs and that form a key are endorsed, whatever they were meant to be. Both keys have together at
+most 8 levels.",
+    &[
+        ("public", "FILE", "The top public key, 60 bytes"),
+        (
+            "endorsement",
+            "FILE",
+            "The top key's signature of the signer's key",
+        ),
+        ("signer", "FILE", "The signer's public key, 60 bytes"),
+        ("signature", "FILE", "A signature by the signer's key"),
+        (
+            "out",
+            "FILE",
+            "Where the joined signature is written, in place of any older file",
+        ),
+    ],
+);
+
+pub(super) const JOIN_PUBLIC: Row = (
+    "join-public",
+    "Writes the public key of joined signatures",
+    "Example:
+  lms_tool join-public --public top.pub --signer signer.pub --out joined.pub
+
+The key is the same for all signers' keys with as many levels.",
+    &[
+        ("public", "FILE", "The top public key, 60 bytes"),
+        ("signer", "FILE", "A signer's public key, 60 bytes"),
+        (
+            "out",
+            "FILE",
+            "Where the public key is written, 60 bytes, in place of any older file",
+        ),
+    ],
+);

@@ -1,0 +1,5 @@
+//! Tests of `lms_meter`.
+#![tactic(auto)]
+
+#[cfg(test)]
+mod tests;

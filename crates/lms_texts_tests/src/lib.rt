@@ -1,0 +1,5 @@
+//! Tests of `lms_texts`.
+#![tactic(auto)]
+
+#[cfg(test)]
+mod tests;
