@@ -1,14 +1,14 @@
 /* HSS/LMS signature verification: RFC 8554 with SHA-256 and hashes of 32 bytes, one to eight
  * levels.
  *
- * The library is liblms_c.a, and docs/C.md says how to build and to use it. Of each call the lines
- * that begin with "Proved" are what was proved of it.
+ * The library is liblms.so.1, for boot loaders liblms_c.a, and docs/C.md says how to build and to use
+ * them. Of each call the lines that begin with "Proved" are what was proved of it.
  *
  * Every call:
  * - takes any bytes of any length below 2^63: what is no key or no signature is not accepted, and
  *   nothing past a length is read;
- * - takes a null pointer where the length beside it is 0 (but in a struct lms_piece), and nowhere
- *   else;
+ * - takes a null pointer where the length beside it is 0, and nowhere else; in a struct lms_piece
+ *   the portable file alone does;
  * - allocates nothing, keeps nothing between calls, takes no lock and writes nothing but its
  *   answer, so threads may call at once. What interrupts and boot loaders have to provide is in
  *   docs/C.md, "What a loader provides";
@@ -20,9 +20,15 @@
 #ifndef LMS_H
 #define LMS_H
 
+/* A project with other headers than these names its own, which has bool, true, false, size_t, uint8_t,
+ * uint32_t, uint64_t and uintptr_t: in U-Boot, -DLMS_TYPES='"linux/types.h"'. */
+#ifdef LMS_TYPES
+#include LMS_TYPES
+#else
 #include <stdbool.h>
 #include <stddef.h>
 #include <stdint.h>
+#endif
 
 #ifdef __cplusplus
 extern "C" {
@@ -41,6 +47,10 @@ extern "C" {
 /* The bytes of a SHA-256. */
 #define LMS_HASH_LEN 32
 
+/* Only lms_verify.c has this call, and only compiled with LMS_COMPRESS: whether the function that it
+ * names compresses a fixed block as the proved one does. */
+bool lms_compress_check(void);
+
 /* Whether the signature is valid for the message under the HSS public key (RFC 8554, 6.3).
  *
  * Proved: true exactly where RFC 8554's definition accepts. */
@@ -48,15 +58,15 @@ bool lms_verify(const uint8_t *public_key, size_t public_key_len,
                 const uint8_t *message, size_t message_len,
                 const uint8_t *signature, size_t signature_len);
 
-/* A piece of a message. Its pointer is not null, also where its length is 0: leave such a piece
- * out, or let lms_address, below, give it an address. */
+/* A piece of a message. But for the portable file its pointer is not null, also where its length is
+ * 0: leave such a piece out, or let lms_address, below, give it an address. */
 struct lms_piece {
     const uint8_t *bytes;
     size_t len;
 };
 
 /* The same for a message that lies in pieces, as firmware in several regions: piece_count of them,
- * one after the other.
+ * one after the other. The array is needed while the call runs, and no longer.
  *
  * Proved: true exactly where RFC 8554's definition accepts the pieces joined. */
 bool lms_verify_pieces(const uint8_t *public_key, size_t public_key_len,
@@ -76,8 +86,11 @@ bool lms_verify_pieces(const uint8_t *public_key, size_t public_key_len,
  * isn't one less, an upper level's signature or the key that it signs isn't there whole or isn't
  * valid, or the bottom level's key or signature isn't of known typecodes that agree, of its length,
  * and of a leaf in the tree. No message is valid then: refuse the message, and hash nothing. True
- * says nothing of a message yet. The signatures of the upper levels, which sign keys, are verified
- * by both calls.
+ * says nothing of a message yet. Where lms_verify has answered false, it so tells something of why:
+ * false says that key or signature is malformed, that they are of different kinds, or that an upper
+ * level isn't valid under this key; true, that they are well formed, and the signature is changed, of
+ * another message or, where it has one level, by another key. The signatures of the upper levels,
+ * which sign keys, are verified by both calls.
  *
  * The head must not overlap key or signature: the call reads them, and may do so after it has begun
  * to write the head, as it was proved and compiled for memory that lies apart. It must not be null.
@@ -98,9 +111,12 @@ bool lms_verify_hash(const uint8_t *public_key, size_t public_key_len,
                      const uint8_t *signature, size_t signature_len,
                      const uint8_t hash[LMS_HASH_LEN]);
 
-/* The library itself takes no null pointer. So the names above mean these, with _any after the
- * name, which give it an address in the place of the one beside a length of 0; nothing is read
- * there. */
+/* The archives take no null pointer. So the names above mean those with _any after the name,
+ * which give it an address in the place of the one beside a length of 0; nothing is read there. The
+ * portable file takes null: who compiles it defines LMS_PORTABLE, never with liblms_c.a, which takes no
+ * null, and the names are its functions'. */
+#ifndef LMS_PORTABLE
+
 static inline const uint8_t *lms_address(const uint8_t *bytes, size_t len) {
     static const uint8_t nothing = 0;
     return len == 0 ? &nothing : bytes;
@@ -141,6 +157,8 @@ static inline bool lms_verify_hash_any(const uint8_t *public_key, size_t public_
 #define lms_verify_pieces lms_verify_pieces_any
 #define lms_message_head lms_message_head_any
 #define lms_verify_hash lms_verify_hash_any
+
+#endif
 
 #ifdef __cplusplus
 }

@@ -16,6 +16,11 @@
  *   are, also at address 0;
  * - PIECES + 16 i: pointer and length of the caller's piece i, as two numbers of 64 bits.
  *
+ * LMS_COMPRESS may name a function of the caller's that compresses blocks of SHA-256, by SHA
+ * instructions or an engine. Each call then first compares it with the proved one on a fixed block, and
+ * answers false where they differ, but with LMS_COMPRESS_CHECKED, by which the caller promises that
+ * lms_compress_check() was true at start.
+ *
  * There are three ways to compile:
  * - With nothing defined an access may go to stack and constants within their bounds, and to the
  *   caller's memory to read it.
@@ -24,19 +29,18 @@
  * - With LMS_DIRECT defined nothing is checked, and stack and constants are at HOST + p, too. That
  *   is the smallest and fastest.
  *
- * What fails a check is a trap, and so is an instruction "unreachable". The proof says that neither
- * comes. On the first trap of a call LMS_TRAP() runs, which may be defined to stop the processor.
- * Where it returns, loads that fail give 0, stores that fail do nothing, loops end, and the call
- * answers false. */
-#include "lms.h"
-#undef lms_verify
-#undef lms_verify_pieces
-#undef lms_message_head
-#undef lms_verify_hash
-
-#if UINTPTR_MAX < 0xffffffff
-#error "A pointer has to have at least 32 bits."
+ * What fails a check is a trap, and so are an instruction "unreachable" and, with LMS_COMPRESS, a
+ * function that differs; the proof says that the others don't come. On the first trap of a call
+ * LMS_TRAP() runs, which may be defined to stop the processor. Where it returns, loads that fail
+ * give 0, stores that fail do nothing, loops end, and the call answers false. */
+#ifndef LMS_PORTABLE
+#define LMS_PORTABLE
 #endif
+#include "lms.h"
+
+/* In U-Boot, and in older Linux, it is a macro that leaves compilers no choice, and the code half as
+ * large again. */
+#undef inline
 
 #if defined LMS_DIRECT && defined LMS_CHECK_CALLER
 #error "LMS_DIRECT checks nothing, LMS_CHECK_CALLER the caller too: define one of them."
@@ -44,6 +48,7 @@
 
 /* Numbers of 32 bits and constants have to be of one unsigned type. */
 typedef char an_int_has_32_bits[sizeof(int) == sizeof(uint32_t) ? 1 : -1];
+typedef char a_pointer_has_32_bits_or_64[sizeof(uintptr_t) == 4 || sizeof(uintptr_t) == 8 ? 1 : -1];
 
 void *memmove(void *to, const void *from, size_t len);
 void *memset(void *to, int byte, size_t len);
@@ -113,13 +118,15 @@ struct machine {
     uint8_t stack[STACK_ROOM];
 };
 
+/* By sizeof, since #if knows no types: UINTPTR_MAX may be missing, or be ~0UL, which is of 64 bits
+ * there on each processor. */
+#define POINTERS_HAVE_32_BITS (sizeof(uintptr_t) == 4)
+
 /* No pointer gives address 0, which the module takes as none. */
-#ifndef LMS_DIRECT
-#define HOST ((uint64_t)1 << 62)
-#elif UINTPTR_MAX == 0xffffffff
-#define HOST ((uint64_t)1 << 32)
+#ifdef LMS_DIRECT
+#define HOST ((uint64_t)1 << (POINTERS_HAVE_32_BITS ? 32 : 0))
 #else
-#define HOST ((uint64_t)1)
+#define HOST ((uint64_t)1 << 62)
 #endif
 #define PIECES ((uint64_t)1 << 61)
 #define PIECE_LEN 16u
@@ -137,7 +144,7 @@ static void trap(struct machine *m) {
 #define LOOP(answer) if (m->trapped) return answer
 
 #ifdef __GNUC__
-#define APART __attribute__((noinline))
+#define APART __attribute__((__noinline__))
 #else
 #define APART
 #endif
@@ -149,7 +156,7 @@ static inline uint64_t address_of(const uint8_t *pointer) {
 /* The sum of an address and an offset. */
 static inline uint64_t sum(struct machine *m, uint64_t address, uint64_t offset) {
 #ifdef LMS_CHECK_CALLER
-    if (address > UINT64_MAX - offset) trap(m);
+    if (address > ~(uint64_t)0 - offset) trap(m);
 #else
     (void)m;
 #endif
@@ -195,11 +202,8 @@ static inline uintptr_t pointer_at(uint64_t address) {
 
 /* Whether an address may be HOST + p for a pointer p. Of 64 bits these are close to 0 or 2^64. */
 static inline bool is_of_host(uint64_t address) {
-#if UINTPTR_MAX == 0xffffffff
-    return address >> 32 == HOST >> 32;
-#else
+    if (POINTERS_HAVE_32_BITS) return address >> 32 == HOST >> 32;
     return address - (HOST - ((uint64_t)1 << 60)) < (uint64_t)1 << 61;
-#endif
 }
 
 #ifdef LMS_CHECK_CALLER
@@ -358,6 +362,27 @@ static inline uint32_t i32_rotr(uint32_t value, unsigned places) {
 static inline bool i64_lt_s(uint64_t left, uint64_t right) {
     return (left ^ (uint64_t)1 << 63) < (right ^ (uint64_t)1 << 63);
 }
+
+/* The compression of SHA-256 that the module's functions call: the proved one, or the caller's, which gets
+ * eight words that it changes, and one block. */
+#define PROVED_COMPRESS f9_block256_compress
+#ifdef LMS_COMPRESS
+void LMS_COMPRESS(uint32_t state[8], const uint8_t *blocks, size_t count);
+
+static APART void compress_by_caller(struct machine *m, uint64_t state, uint64_t block) {
+    uint32_t words[8];
+    const uint8_t *found;
+    unsigned k;
+    if (!readable(m, ADDRESS(m, block, 0), 64, &found)) return;
+    for (k = 0; k < 8; k++) words[k] = i32_load(m, state, 4 * k);
+    LMS_COMPRESS(words, found, 1);
+    for (k = 0; k < 8; k++) i32_store(m, state, 4 * k, words[k]);
+}
+
+#define COMPRESS compress_by_caller
+#else
+#define COMPRESS PROVED_COMPRESS
+#endif
 
 /* ---- The module's functions. m is the machine; p0.. are parameters, l0.. locals, t0.. operands
  * that wait on WebAssembly's stack. */
@@ -654,14 +679,14 @@ static void f5_Core256_update(struct machine *m, uint64_t p0, uint64_t p1, uint6
     if (l6 == 0) goto after7;
     memory_copy(m, l8, p1, l6);
     after7:;
-    f9_block256_compress(m, p0, l7);
+    COMPRESS(m, p0, l7);
     after5:;
     l12 = p2 - l6;
     l8 = l12 >> 6;
     if (l8 == 0) goto after12;
     l4 = p1 + l6;
     again13: LOOP();
-        f9_block256_compress(m, p0, l4);
+        COMPRESS(m, p0, l4);
         l4 = l4 + 64ull;
         l8 = l8 - 1ull;
         if (l8 != 0ull) goto again13;
@@ -1079,7 +1104,7 @@ static void f7_verification_candidate_by_hash(struct machine *m, uint64_t p0, ui
             i64_store(m, l4, 568, 0xbb67ae856a09e667ull);
             i32_store8(m, l4, 622, l7);
             i64_store(m, l4, 656, 0xb801000000000000ull);
-            f9_block256_compress(m, l4 + 568ull, p1);
+            COMPRESS(m, l4 + 568ull, p1);
             l8 = i32_load(m, l4, 596);
             l8 = i32_rotr(l8 & 0xff00ffu, 8) | (i32_rotr(l8, 24) & 0xff00ffu);
             l6 = i32_load(m, l4, 592);
@@ -1596,9 +1621,46 @@ static uint32_t f16_lms_verify_pieces(struct machine *m, uint64_t p0, uint64_t p
 
 /* ---- The calls. */
 
-static void begin(struct machine *m) {
+static void clear(struct machine *m) {
     memset(m, 0, sizeof *m);
     m->stack_pointer = STACK_TOP(m);
+}
+
+#ifdef LMS_COMPRESS
+/* Whether the caller's compression does what the proved one does, with a fixed state and block. */
+static bool is_compression(struct machine *m) {
+    uint64_t one, other, block;
+    uint32_t differ = 0;
+    unsigned k;
+    clear(m);
+    one = m->stack_pointer -= 128;
+    other = one + 32;
+    block = one + 64;
+    for (k = 0; k < 8; k++) {
+        i32_store(m, one, 4 * k, 0x9e3779b9u * (k + 1));
+        i32_store(m, other, 4 * k, 0x9e3779b9u * (k + 1));
+    }
+    for (k = 0; k < 64; k++) i32_store8(m, block, k, 37 * k + 11);
+    PROVED_COMPRESS(m, one, block);
+    compress_by_caller(m, other, block);
+    for (k = 0; k < 8; k++) differ |= i32_load(m, one, 4 * k) ^ i32_load(m, other, 4 * k);
+    return !m->trapped && differ == 0;
+}
+
+bool lms_compress_check(void) {
+    struct machine m;
+    return is_compression(&m);
+}
+#endif
+
+static void begin(struct machine *m) {
+#if defined LMS_COMPRESS && !defined LMS_COMPRESS_CHECKED
+    bool is_checked = is_compression(m);
+    clear(m);
+    if (!is_checked) trap(m);
+#else
+    clear(m);
+#endif
 }
 
 static bool end(const struct machine *m, uint32_t answer) {

@@ -19,6 +19,9 @@ from wasm_stack import need_of, order_of
 PIECES = "lms_verify_pieces"
 # The call whose answer is written to the top of the module's stack, and how much of that it takes.
 HEAD, HEAD_BYTES = "lms_message_head", 64
+# The compression of SHA-256, which a function of the caller's may take the place of.
+COMPRESSION = "sha2::block256::compress"
+NO_COMPRESSION = "no_compression"
 # How many pointers and lengths lms.h's functions are given. (Their answer is an i32.)
 PARAMETERS = {"lms_verify": 6, PIECES: 6, HEAD: 5, "lms_verify_hash": 5}
 
@@ -57,6 +60,24 @@ def c_name(index, name):
     """A C name for the path of a function."""
     path = re.sub(r"::<.*", "", name).split("::")[-2:]
     return f"f{index}_{re.sub('[^A-Za-z0-9]+', '_', '_'.join(path)).strip('_')}"
+
+
+def compression_of(module, names):
+    """The name in C of the function that is the compression of SHA-256: it takes the addresses of a state and
+    of a block, and answers nothing. Where there is none, that of no function: LMS_COMPRESS does not compile."""
+    found = [(name, it) for name, it in zip(names, module.functions) if it.name == COMPRESSION]
+    if len(found) > 1 or any((it.parameters, it.results) != (["i64"] * 2, []) for _, it in found):
+        raise Refused(f"{COMPRESSION} is not one function of a state and a block")
+    return found[0][0] if found else NO_COMPRESSION
+
+
+def with_compression(functions, name):
+    """The text of the functions, with COMPRESS called in place of the compression of this name, if there is one."""
+    # (In its own definition no blank follows the name of the machine's pointer.)
+    call = f"{name}(m, "
+    if name != NO_COMPRESSION and call not in functions:
+        raise Refused(f"no call uses {COMPRESSION}")
+    return functions.replace(call, "COMPRESS(m, ")
 
 
 def functions_of(module, marks):
@@ -102,6 +123,7 @@ def c_file(contents, other, template):
     check_calls(module)
     names, functions = functions_of(module, addresses(module, there))
     base, constants = module.data
+    compression = compression_of(module, names)
     values = {
         "MODULE": hashlib.sha256(contents).hexdigest(),
         "STACK_BYTES": str(stack_of(module)),
@@ -109,7 +131,8 @@ def c_file(contents, other, template):
         "CONSTANTS_LEN": str(len(constants)),
         "CONSTANTS": rows(constants),
         "HEAD_BYTES": str(HEAD_BYTES),
-        "FUNCTIONS": functions,
+        "COMPRESS": compression,
+        "FUNCTIONS": with_compression(functions, compression),
     }
     values.update((f"CALL_{name}", names[index]) for name, index in module.exports.items())
     return filled(template, values)

@@ -182,7 +182,7 @@ def counts(with_tall):
         yield f"WholeTree::build {name}", tree_count(height, width)
         yield f"BandTree::build {name}", tree_count(height, width)
     yield "BandTree::build 15/4", tree_count(15, 4)
-    for levels in [((5, 8),), ((10, 4),), ((5, 8), (5, 8)), EIGHT, *([((10, 8), (10, 8))] if with_tall else [])]:
+    for levels in [((5, 8),), ((10, 4),), ((10, 8),), ((5, 8), (5, 8)), EIGHT, *([((10, 8), (10, 8))] if with_tall else [])]:
         name, total, cover, sign = ",".join(f"{height}/{width}" for height, width in levels), 0, 0, 0
         trees = [one for one, _, _ in way_of(levels, 0)]
         keys = [(derived(one.identifier, one.seed, 0, 0xFFFD), below.public()) for one, below in zip(trees, trees[1:])]
@@ -192,11 +192,13 @@ def counts(with_tall):
             cover += tree_count(one.height, one.width) + (sign + 3 if sign else 0)
             sign, verify = one_time_counts(one.width, one.identifier, 0, randomizer, message)
             total += verify + 1 + 2 * one.height
-        if levels[0] == (10, 8):
+        if levels == ((10, 8), (10, 8)):
             yield f"Forest::sign {name}", sign
             yield f"Forest::cover {name}", cover
         else:
             yield f"verify {name}", total
+            if name in ("10/4", "10/8"):
+                yield f"verify {name} chain by chain", total
 
 
 def read(name):

@@ -42,9 +42,9 @@ def said_by(*words, **how):
     return ran.stdout
 
 
-def blocks_of(document):
-    """The blocks of commands in a document of the repository, one after another."""
-    return re.findall(r"(?ms)^```\n(.*?)^```$", (TOP / document).read_text(encoding="utf-8"))
+def blocks_of(document, language=""):
+    """The blocks of commands in a document of the repository, or of a language, one after another."""
+    return re.findall(rf"(?ms)^```{language}\n(.*?)^```$", (TOP / document).read_text(encoding="utf-8"))
 
 
 def add_test(name, call, *arguments):

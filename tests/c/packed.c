@@ -1,13 +1,36 @@
 /* Stands in for a program that is packed: the name NAME, its process and its arguments, a line each;
-   or a help text, whose lines would mean something else to the manual's formatter. */
+   or a help text in the form of clap's, with lines that would mean something else to the manual's
+   formatter or to a shell. */
 #include <stdio.h>
 #include <string.h>
 #include <unistd.h>
 
+static const char *const commands[] = {"keygen", "witness", "sign", "batch", "serve", "verify",
+                                       "info", "public", "resume", "join", "join-public"};
+
+static void help_with_all(void) {
+    puts("Helps with all\n\nUsage: lms_tool <COMMAND>\n\nCommands:");
+    for (size_t at = 0; at < sizeof commands / sizeof *commands; at++) {
+        printf("  %-11s  Helps with %s, which isn't \"all\"\n", commands[at], commands[at]);
+    }
+    puts("  help         Print this message\n\nOptions:\n  -h, --help  Print help");
+}
+
+static void help_with(const char *command) {
+    printf("Helps with %s, which isn't \"all\"\n\nUsage: lms_tool %s --state <FILE> --number <N>\n\n", command, command);
+    puts("Options:\n      --state <FILE>  A file [with brackets], a \\ and a - in its text\n"
+         "      --number <N>    .5 or more: isn't it $HOME?\n  -h, --help          Print help\n");
+    printf("Example, of a line:\n  lms_tool %s --state \"$(a long command with many words)\" --number 1 --number 2 \\\n      --more\n\n", command);
+    puts(".begins with a dot\n'begins with a quote, has `a word`\n  and is indented\n\nThe last line.");
+}
+
 int main(int count, char **words) {
     if (count > 1 && !strcmp(words[count - 1], "--help")) {
-        printf("Helps with %s\n\n", count > 2 ? words[1] : "all");
-        puts(".begins with a dot\n'begins with a quote\n  --option <A>  a \\ and a - in its text\n\nThe last line.");
+        if (count > 2) {
+            help_with(words[1]);
+        } else {
+            help_with_all();
+        }
         return 0;
     }
     printf("%s\n%ld\n", NAME, (long)getpid());

@@ -149,6 +149,30 @@ class Browser:
         for kind in ("keyDown", "char", "keyUp"):
             self.call("Input.dispatchKeyEvent", type=kind, key="Enter", code="Enter", windowsVirtualKeyCode=13, text="\r")
 
+    def note(self, name):
+        """What is said of the file in the field of this name, once something is."""
+        text = f"document.getElementById('{name}-note').textContent"
+        self.wait_for(f"{text} !== ''")
+        return self.value(text)
+
+    def tab(self):
+        """Presses the key Tab. What has the focus then: the name of the box that it is in, or of its element."""
+        for kind in ("keyDown", "keyUp"):
+            self.call("Input.dispatchKeyEvent", type=kind, key="Tab", code="Tab", windowsVirtualKeyCode=9)
+        return self.value("document.activeElement.closest('fieldset')?.id ?? document.activeElement.localName")
+
+    def reached(self):
+        """All that the key Tab reaches, in order, from where it leaves the page to where it does again."""
+        for _ in range(20):
+            if self.tab() == "body":
+                break
+        return list(iter(self.tab, "body"))
+
+    def show_at(self, width, height, scheme="light"):
+        """Shows the page on a screen of this size, in pixels, by a light or dark scheme."""
+        self.call("Emulation.setDeviceMetricsOverride", width=width, height=height, deviceScaleFactor=1, mobile=width < 600)
+        self.call("Emulation.setEmulatedMedia", features=[{"name": "prefers-color-scheme", "value": scheme}])
+
     def picture(self, file):
         """Makes a picture of the page."""
         pathlib.Path(file).write_bytes(base64.b64decode(self.call("Page.captureScreenshot", format="png")["data"]))

@@ -1,5 +1,5 @@
-"""The verifier, called from C, by the library that lms_c builds and by those that docs/C.md names
-beside it: the example, every way of calling, also from C++, what the header hands on, a program with
+"""The verifier, called from C, by the libraries that lms_c builds and by those that docs/C.md names
+beside them: the example, every way of calling, also from C++, what the header hands on, a program with
 no C library, and the same for aarch64 and for browsers. What needs a tool that is not there is
 skipped."""
 
@@ -10,7 +10,7 @@ import shutil
 import subprocess
 
 from tests.harness import TOP, Wrong, checks, holds
-from tests.merge_check.c_programs import C, CPLUSPLUS, EXAMPLES, INCLUDES, LIBRARY, build, build_by, gives, said_by
+from tests.merge_check.c_programs import C, CPLUSPLUS, EXAMPLES, INCLUDES, LIBRARY, SHARED, build, build_by, gives, levels_here, said_by
 from tests.merge_check.crates import KIT, libraries_of, take_left
 from tests.merge_check.portable_vectors import LONGEST, signed
 from tests.program import PROGRAM, is_plain, join, join_public, keygen, put, read, sign, verify
@@ -20,6 +20,8 @@ TWO_PUBLIC, TWO_SIGNATURE = EXAMPLES / "c/two_levels.pub", EXAMPLES / "c/two_lev
 # Where the library is, while one of the others has its place.
 KEPT = "kept.a"
 NAMES = ["llvm", "sse2", "rattle"]
+# The archive by eight lanes.
+LANES = "lanes"
 EXPORTS = ["T lms_message_head", "T lms_verify", "T lms_verify_hash", "T lms_verify_pieces"]
 # The bytes of stack that docs/C.md asks of a boot loader.
 MOST_STACK = 4096
@@ -216,7 +218,7 @@ def build_installed():
     """By pkg-config, from the folder that lms_c was given, in which it is named without its path:
     flags with blanks would fall apart."""
     environment = {**os.environ, "PKG_CONFIG_PATH": "lib/pkgconfig"}
-    flags = said_by("pkg-config", "--cflags", "--libs", "lms", cwd="installed", env=environment).split()
+    flags = said_by("pkg-config", "--cflags", "--libs", "lms_c", cwd="installed", env=environment).split()
     said_by("cc", "-O2", EXAMPLES / "c/verify.c", "-o", os.path.abspath("programs/installed_verify"), *flags, cwd="installed")
 
 
@@ -310,8 +312,29 @@ def judges_node():
 def builds_here():
     """The library of this computer, with header and pkg-config file in a folder."""
     print(said_by(TOP / "lms_c", os.path.abspath("installed")), end="", flush=True)
-    for name in ("include/lms.h", "lib/liblms_c.a", "lib/pkgconfig/lms.pc"):
+    for name in ("include/lms.h", "lib/liblms_c.a", "lib/pkgconfig/lms_c.pc"):
         is_plain(f"installed/{name}")
+
+
+def builds_shared():
+    """The library by eight lanes, shared and as an archive, with what programs are built with in a folder,
+    too, where the file of an earlier one, which processes may have mapped, stays as it is. Those for this
+    computer are among the programs that judge."""
+    os.makedirs("shared/lib")
+    put("earlier", b"mapped")
+    os.link("earlier", "shared/lib/liblms.so.1")
+    said_by(TOP / "lms_c", "--shared", os.path.abspath("shared"))
+    for name in ("lib/liblms.a", *(f"lib/{it}liblms.so.1" for it in ("", "glibc-hwcaps/x86-64-v2/", "glibc-hwcaps/x86-64-v3/"))):
+        level = "x86-64" if name.count("/") == 1 else name.split("/")[2]
+        holds(read(f"shared/{name}") == read(SHARED / level / os.path.basename(name)), f"{name} is another file than was built")
+    for name in ("include/lms.h", "lib/pkgconfig/lms.pc"):
+        is_plain(f"shared/{name}")
+    holds(read("earlier") == b"mapped", "the file of an earlier library is overwritten")
+    holds(os.readlink("shared/lib/liblms.so") == "liblms.so.1", "it can't be linked by its name")
+    shutil.copy2("shared/lib/liblms.a", f"{LANES}.a")
+    for level in levels_here():
+        flags = [f"-Wl,-rpath,{SHARED / level}"]
+        build(SHARED / level / "liblms.so.1", TOP / "tests/c/ways.c", f"programs/{level}_ways", *flags)
 
 
 def builds_by_rattle(bounds):
@@ -328,12 +351,13 @@ def the_verifier_for_c(counter):
     os.mkdir("programs")
     bounds = []
     take_left(libraries_of("lms_c"))
+    counter.check("the shared library is built", builds_shared)
     counter.check("the library is built", builds_here)
     counter.check("the library is copied", shutil.copy2, LIBRARY, "llvm.a")
     counter.check("it is built for processors with SSE2 alone", build_other, "sse2", "--cpu", "x86-64")
     counter.check("it is built by Rattle's own compiler", builds_by_rattle, bounds)
     bound = bounds[0] if bounds else None
-    for name in NAMES:
+    for name in [*NAMES, LANES]:
         counter.check(f"all ways are built, {name}", build, f"{name}.a", TOP / "tests/c/ways.c", f"programs/{name}_ways")
         counter.check(f"the example is built, {name}", build, f"{name}.a", EXAMPLES / "c/verify.c", f"programs/{name}_verify")
         counter.check(f"it keeps to itself, {name}", keeps_to_itself, f"{name}.a")

@@ -1,9 +1,9 @@
 """Sums of what the wrong bodies of a crate are tried over, for `wrong_bodies`.
 
-A sum is over the whole crate, and over what is stated in the crates of the repository below it:
-their code without bodies, and their definitions. Left out are their bodies, which no other crate's
-proofs read, and their lemmas: no contract cites one, so they can change how a proof is found, and
-not what a contract says, and a body that breaks it stays refused."""
+A sum is over the whole crate but for lines that are comments, and over what is stated in the crates of
+the repository below it: their code without bodies, and their definitions. Left out are their bodies,
+which no other crate's proofs read, and their lemmas: no contract cites one, so they can change how a
+proof is found, and not what a contract says, and a body that breaks it stays refused."""
 
 import hashlib
 import re
@@ -39,6 +39,12 @@ def statements(text):
     return text if is_in_body else "\n".join(kept)
 
 
+def without_comments(path, text):
+    """A file without the lines that are comments."""
+    mark = "//" if path.suffix == ".rt" else "--"
+    return "\n".join(it for it in text.split("\n") if not it.lstrip().startswith(mark))
+
+
 def edits_in(name):
     """The file of a crate's wrong bodies."""
     return TOP / "crates" / name / "wrong-bodies.edits"
@@ -46,10 +52,11 @@ def edits_in(name):
 
 def sum_of(name):
     """The sum of a crate."""
-    parts = [(it, it.read_text(encoding="utf-8")) for it in [*files_of(name, *PARTS), edits_in(name)]]
+    parts = [(it, without_comments(it, it.read_text(encoding="utf-8"))) for it in files_of(name, *PARTS)]
+    parts.append((edits_in(name), edits_in(name).read_text(encoding="utf-8")))
     for low in libraries_of(name):
         texts = [(it, it.read_text(encoding="utf-8")) for it in files_of(low, "src", "specs")]
-        parts += [(it, statements(text) if it.suffix == ".rt" else text) for it, text in texts]
+        parts += [(it, statements(text) if it.suffix == ".rt" else without_comments(it, text)) for it, text in texts]
     uses, static = crates_listed()
     lines = [(it, uses[it], it in static) for it in (name, *libraries_of(name))]
     return hashlib.sha256(repr((lines, [(str(it.relative_to(TOP)), text) for it, text in parts])).encode()).hexdigest()

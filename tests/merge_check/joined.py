@@ -1,12 +1,13 @@
 """`join` and `join-public`: what they write, byte for byte, each fault, and that they change no other
-file. And four machines that sign at once under one public key."""
+file. Four machines that sign at once under one public key. And what becomes of a key that somebody has
+signed as a message, by levels as docs/KEYS.md rules them out and as it asks for."""
 
 import concurrent.futures
 import itertools
 import os
 import signal
 
-from tests.harness import TOP, holds, test
+from tests.harness import TOP, add_test, holds, test
 from tests.program import TO_JOIN, ends, fails, has, index_in, join, join_public, keygen, preload, put, read, run, sign, verify
 from tests.reference import image, joined, number, parts_to_join, public_of, signature_by, way_of
 
@@ -14,6 +15,18 @@ ONE = ((5, 1),)
 # The levels of a top key and of a signer's: up to eight together, and of different heights and widths.
 PAIRS = [(ONE, ONE), (ONE * 4, ONE * 4), (ONE * 7, ONE), (ONE, ONE * 7), (((5, 4), (5, 1)), ((5, 8),)), (((10, 1),), ((5, 2), (5, 4)))]
 BAD_KEY, BAD_ENDORSEMENT, BAD_SIGNATURE = "bad public key", "bad endorsement", "bad signature"
+# What may be wrong with levels under one top key. Twice two ways from that key down to one that signs
+# messages, of keys that are named by a letter and how many levels they have: the joined key of the first
+# way is what devices hold, and whoever asks has the last key of the second one sign a key of their own. At
+# first so, and then as it should be.
+LEVELS = [
+    ("signers of other levels", ("t1 b2", "t1 a1"), ("t1 b2", "t1 a2")),
+    ("a middle tier beside direct signers", ("t1 m1 b1", "t1 a1"), ("t1 m1 b1", "t1 m1 a1")),
+    ("a key at two depths", ("t1 m1 a1", "t1 a1"), ("t1 m1 a1", "t1 m1 a1")),
+    ("a top key that signs messages", ("t1 a1", "t1"), ("t1 a1", "t1 a1")),
+    ("a middle key that signs messages", ("t1 m2 a1", "t1 m2"), ("t1 m2 a1", "t1 m2 a1")),
+    ("devices ahead of signers", ("t1 b3", "t1 a1"), ("t1 a1", "t1 a1")),
+]
 
 
 class Key:
@@ -226,3 +239,44 @@ def four_machines_sign_at_once():
         keys.add(read("joined.pub"))
         ends(verify(f"{name}/{at}", "joined.sig", "joined.pub"), 0, "valid\n")
     holds(len(keys) == 1, "several joined keys")
+
+
+def joins_way(way, index, message):
+    """The keys of a way sign, from the top one down: each the next one's key, and the last one the
+    message. The public key and the signature that are joined of all, tier by tier. Each is valid."""
+    keys = [Key(ONE * int(levels), ord(letter)) for letter, levels in way.split()]
+    signed = [*(key.public[4:] for key in keys[1:]), message]
+    public, signature = keys[0].public, keys[0].signs(index, signed[0])
+    for key, its in zip(keys[1:], signed[1:]):
+        joins([public, signature, key.public, key.signs(index, its)], its)
+        public, signature = read("joined.pub"), read("joined.sig")
+    return public, signature
+
+
+def signs_for_devices(devices, asked):
+    """The key of who asks signs any message, which is valid under what devices hold."""
+    held, _ = joins_way(devices, 0, b"abc")
+    levels = held[3] - sum(int(levels) for _, levels in asked.split())
+    public, _ = joins_way(f"{asked} k{levels}", 1, b"any message")
+    holds(public == held, "devices hold another joined key")
+
+
+def signs_for_no_device(devices, asked):
+    """What the key that is asked signs is valid under what devices hold, and what the key of who asks
+    signs is not: neither as it is joined nor with any one level left out."""
+    held, _ = joins_way(devices, 0, b"abc")
+    holds(joins_way(asked, 1, b"abc")[0] == held, "devices hold another joined key")
+    _, signature = joins_way(f"{asked} k1", 2, b"any message")
+    put("held.pub", held)
+    # (Each level's signature but the last is followed by the key that it signs.)
+    size = (len(signature) + 52) // (held[3] + 1)
+    levels = [signature[at : at + size] for at in range(4, len(signature), size)]
+    for left in [levels, *itertools.combinations(levels, held[3])]:
+        for count in (held[3] - 1, held[3]):
+            put("cut.sig", number(count, 4) + b"".join(left)[: len(left) * size - 56])
+            ends(verify("message", "cut.sig", "held.pub"), 1, "invalid\n")
+
+
+for what, broken, kept in LEVELS:
+    add_test(f"a key signed as a message, by {what}: any message is valid", signs_for_devices, *broken)
+    add_test(f"a key signed as a message, without {what}: no other message is valid", signs_for_no_device, *kept)

@@ -6,6 +6,7 @@ import contextlib
 import os
 import pty
 import re
+import shutil
 import socket
 
 from tests.harness import TOP
@@ -120,6 +121,26 @@ def takes_no_tool_of_the_repository():
         it.holds(not it.has("taken"), f"it took {it.has('taken')}")
 
 
+def works_without_the_kit():
+    """Where `rt` is not there each script says so in a line, makes nothing and leaves nothing; a program that is
+    built runs."""
+    with StandIns() as it:
+        os.makedirs(f"{it.top}/few")
+        for name in {*TOOLS, "sh", "dpkg-deb", "tar", "gzip", "cc", "nm", "size"} - {"rt", LINKER}:
+            os.symlink(shutil.which(name), f"{it.top}/few/{name}")
+        few = ["env", f"PATH={it.top}/few"]
+        it.start(*SOME, by=few)
+        it.ran("old_fast", *SOME)
+        os.remove(it.fast)
+        os.remove(it.common)
+        scripts = [(f"{it.top}/lms_tool", words) for words in (SOME, ["--help"], ["verify"], ["build"], ["build", "both"])]
+        for script, words in [*scripts, (TOP / "lms_c", []), (TOP / "lms_c", ["--portable", "folder"]), (TOP / "release", ["folder"])]:
+            it.start(*words, by=few, program=os.path.relpath(script, it.top))
+            wanted = f"{os.path.basename(script)}: there is no rt on the PATH, of Rattle's kit, which proves and builds this; "
+            it.holds((it.status, it.output) == (70, "") and it.errors == f"{wanted}the packages need nothing of it\n", f"{script} {words}")
+            it.holds(not os.path.exists("folder"), "something is made")
+
+
 def no_variable_misleads_it(is_built):
     """Each word of the script is a variable of the environment, which names another program, too."""
     words = set(re.findall(r"[A-Za-z_]\w*", (TOP / "lms_tool").read_text(encoding="utf-8"))) - TAKEN
@@ -137,6 +158,7 @@ def no_variable_misleads_it(is_built):
 
 
 CHECKS = [("takes no tool of the repository", takes_no_tool_of_the_repository)]
+CHECKS.append(("works without the kit, or says that it is missing", works_without_the_kit))
 for is_there in (True, False):
     SUFFIX = "is there" if is_there else "is built first"
     CHECKS.append((f"a program that {SUFFIX} finds all as it was", finds_all_as_it_was, is_there))

@@ -27,7 +27,9 @@ ERROR = re.compile(r"(?m)^(.+?):\d+:\d+: error\[([\w-]+)\]: (.*)$")
 NO_CODE = re.compile(r"(?s)//[^\n]*|/\*.*?\*/|\"(?:\\.|[^\"\\])*\"|'(?:\\.|[^'\\])'")
 CLAUSE = re.compile(r"\b(?:requires|ensures)\b[^{};]*(?=\{)")
 FUNCTION = re.compile(r"\bfn (\w+)")
-AGAIN = re.compile(r"\b(for|while|loop)\b|(\|)[^|]*\|(?: ->.*)?$")
+IMPL = re.compile(r"^(?:#\[.*\] )?impl\b(?:.*\bfor\b)?[^{]*?\b([A-Z]\w+)(?:<.*>)?(?: where .*)?$")
+AGAIN = re.compile(r"\b(for|while|loop)\b|(?:^|[(,=]|=>|\bmove|\breturn)\s*(\|)[^|]*\|")
+WORD = re.compile(r"[\w:]+")
 
 
 def unindented(text):
@@ -240,15 +242,25 @@ for name_of_type, its_words in TYPES.items():
 
 
 @test
-def the_places_that_sign():
-    """No other place of the product signs by an index."""
-    are_as_listed(places_of(misuse_signing.SIGNS), misuse_signing.PLACES)
+def the_calls_that_sign():
+    """Nothing else of the product signs by an index, and nothing does so more often."""
+    are_as_listed(found_in_product(calls_of, misuse_signing.SIGNS), misuse_signing.SIGNING)
 
 
 @test
-def the_places_that_reserve():
-    """No other place of the product opens a book, or reserves indices."""
-    are_as_listed(places_of(misuse_signing.RESERVES), misuse_signing.RESERVATIONS)
+def the_calls_that_reserve():
+    """Nothing else of the product opens a book, or reserves indices."""
+    are_as_listed(found_in_product(calls_of, misuse_signing.RESERVES), misuse_signing.RESERVING)
+
+
+@test
+def calls_that_are_seen():
+    """A second call, one in a loop or a closure, one from another function or type, and one by another
+    name are seen; other names of locals are not."""
+    counted = {name: collections.Counter(calls_of(code, misuse_signing.SIGNS)) for name, code in misuse_signing.SAMPLES.items()}
+    once = counted.pop("once")
+    same = {name for name, calls in counted.items() if calls == once}
+    holds(same == {"named otherwise"}, f"seen as one call: {', '.join(sorted(same))}")
 
 
 def product_crates():
@@ -256,13 +268,26 @@ def product_crates():
     return sorted(it.name for it in (TOP / "crates").iterdir() if not misuse_signing.OTHERS.search(it.name))
 
 
-def places_of(calls):
-    """The places of the product that make one of these calls: each with its crate, its function, the loops
-    and closures around it and the code from brace or semicolon to brace or semicolon."""
+def found_in_product(find, words):
+    """What is found of these words in the product's code, each with its crate."""
     bodies = ((crate, without_clauses(code)) for crate, code in sources(product_crates()))
-    return collections.Counter(
-        f"{crate}: {around(code, it.start())}: {head_at(code, it.start())[0]}" for crate, code in bodies for it in calls.finditer(code)
-    )
+    return collections.Counter(f"{crate}: {it}" for crate, code in bodies for it in find(code, words))
+
+
+def calls_of(code, words):
+    """The calls in this code: each with its type and function, the loops and closures around it, and what it
+    calls."""
+    for it in words.finditer(code):
+        before = without_array_ends(code[: it.start()])
+        statement = before[max(before.rfind(end) for end in ";{}") + 1 :]
+        place = "::".join([*type_around(code, it.start()), around(code, it.start())])
+        yield f"{' '.join([place, *again_in(statement)])}: {''.join(WORD.findall(it[0]))}"
+
+
+def texts_of(code, words):
+    """The places in this code that have one of these words: each with its function, the loops and closures
+    around it and the code from brace or semicolon to brace or semicolon."""
+    return (f"{around(code, it.start())}: {head_at(code, it.start())[0]}" for it in words.finditer(code))
 
 
 def without_clauses(code):
@@ -277,6 +302,28 @@ def without_clauses(code):
 
 def around(code, at):
     """The function that a place is in, and which loops and closures it is in there."""
+    heads = heads_around(code, at)
+    names = [name[1] if (name := FUNCTION.search(head)) else None for head in heads]
+    inner = max((k for k, name in enumerate(names) if name), default=None)
+    if inner is None:
+        return "outside"
+    return " ".join([names[inner], *(it for head in heads[inner + 1 :] for it in again_in(head))])
+
+
+def again_in(head):
+    """The loops and closures that this code begins, but for those in brackets that it ends, too."""
+    while (shorter := re.sub(r"\([^()]*\)|\[[^\[\]]*\]", "", head)) != head:
+        head = shorter
+    return [next(filter(None, it.groups())) for it in AGAIN.finditer(head)]
+
+
+def type_around(code, at):
+    """The types whose impls a place is in."""
+    return [name[1] for head in heads_around(code, at) if (name := IMPL.search(head))]
+
+
+def heads_around(code, at):
+    """What is before each brace that is open at a place, from the brace or semicolon before."""
     heads, start, before = [], 0, without_array_ends(code[:at])
     for it in re.finditer("[;{}]", before):
         if it[0] == "{":
@@ -284,12 +331,7 @@ def around(code, at):
         elif it[0] == "}":
             heads.pop()
         start = it.end()
-    names = [name[1] if (name := FUNCTION.search(head)) else None for head in heads]
-    inner = max((k for k, name in enumerate(names) if name), default=None)
-    if inner is None:
-        return "outside"
-    again = [next(filter(None, found.groups())) for head in heads[inner + 1 :] if (found := AGAIN.search(head))]
-    return " ".join([names[inner], *again])
+    return heads
 
 
 def without_array_ends(code):
@@ -302,15 +344,15 @@ def without_array_ends(code):
 
 
 @test
-def the_places_that_walk():
+def the_calls_that_walk():
     """No other place of the product walks chains, or derives what is secret."""
-    are_as_listed(places_of(misuse_signing.WALKS), misuse_signing.WALKING)
+    are_as_listed(found_in_product(calls_of, misuse_signing.WALKS), misuse_signing.WALKING)
 
 
 @test
 def the_places_that_name_a_seed():
     """No other place of the product has a key's seed, so that none gives it away."""
-    are_as_listed(places_of(misuse_secrets.SEED), misuse_secrets.SEEDS)
+    are_as_listed(found_in_product(texts_of, misuse_secrets.SEED), misuse_secrets.SEEDS)
 
 
 def types_of(crates, found_in):

@@ -106,6 +106,19 @@ def writes_over_other_files():
 
 
 @test
+def signs_between_pipes():
+    """By the system's names of them; what is named `-` is a file."""
+    put("key.state", image(ONE, 0))
+    words = ["sh", "-c", '"$0" "$@" 3>&1 >&2', PROGRAM, *sign("/dev/stdin", "/dev/fd/3")]
+    ran = subprocess.run(words, input=b"abc", capture_output=True, check=False)
+    holds((ran.returncode, ran.stderr) == (0, b"index 0\n"), f"{ran.returncode} {ran.stderr!r}")
+    holds(ran.stdout == signature_of(ONE, 0, b"abc"), "the signature is another one")
+    put("-", b"abc")
+    ends(sign("-", "-"), 0, "index 1\n")
+    has("-", signature_of(ONE, 1, b"abc"))
+
+
+@test
 def writes_over_no_file_that_it_can_not_read():
     """Where that is so short that it may be a state."""
     put("key.state", image(ONE, 5))

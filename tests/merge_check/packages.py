@@ -1,7 +1,6 @@
 """What `release` packs: its sources in a folder of their own, and what its packages have to have in
 them, made of these."""
 
-import gzip
 import hashlib
 import io
 import os
@@ -12,34 +11,53 @@ import stat
 import subprocess
 import tarfile
 import time
+from typing import NamedTuple
 
 from tests.harness import TOP, holds, said_by
+from tests.merge_check.package_texts import COMPLETIONS, PAGES, has_changelog, has_completions, has_manual
 
 VERSION = (TOP / "VERSION").read_text(encoding="utf-8").strip()
 NAME, DEBIAN = f"lms_tool-{VERSION}-x86_64", f"lms-tool_{VERSION}_amd64.deb"
 ARM_NAME, ARM_DEBIAN = f"lms_tool-{VERSION}-aarch64", f"lms-tool_{VERSION}_arm64.deb"
-COMMANDS = ["keygen", "witness", "sign", "batch", "serve", "verify", "info", "public", "resume", "join", "join-public"]
+# The other Debian packages for an architecture: those of the shared library and of what programs are built with.
+DEBIANS, ARM_DEBIANS = ([f"{name}_{VERSION}_{it}.deb" for name in ("liblms1", "liblms-dev")] for it in ("amd64", "arm64"))
 COMMON, FAST = "crates/lms_tool/out/lms_tool", "crates/lms_tool/out/avx2/lms_tool"
 LIBRARY, PAGE = "crates/lms_c/out/liblms_c.a", "examples/web/out/lms_verify.html"
-OUTPUTS = [COMMON, FAST, LIBRARY, PAGE]
+SHARED = "crates/lms_c_lanes/out/shared"
+SHARED_OUTPUTS = [f"{SHARED}/x86-64/liblms.a", *(f"{SHARED}/{it}/liblms.so.1" for it in ("x86-64", "x86-64-v2", "x86-64-v3"))]
+OUTPUTS = [COMMON, FAST, LIBRARY, *SHARED_OUTPUTS, PAGE]
 # What the page is made of beside the library's sources.
 PAGE_SOURCES = ["examples/web/index.html", "examples/web/build"]
 # Without which nothing is packed for aarch64.
 ARM = "crates/lms_tool/out/aarch64/lms_tool"
+ARM_OUTPUTS = [ARM, f"{SHARED}/aarch64/liblms.a", f"{SHARED}/aarch64/liblms.so.1"]
+# What the libraries are made of beside the crates.
+SHARED_SOURCES = ["runtime/shared/liblms.c", "runtime/shared/names", "runtime/shared/exports", "include/lms.h"]
 LEVELS = ["x86-64-v2", "x86-64-v3"]
 LAUNCHER = "bin/lms_tool"
 # The programs of the packages for x86-64, which the launcher starts, and that of those for aarch64.
 PROGRAMS = {f"lib/lms_tool/{level}/lms_tool": built for level, built in zip(LEVELS, (COMMON, FAST))}
 ARM_PROGRAMS = {LAUNCHER: ARM}
 DOCS = "share/doc/lms-tool"
-DOCUMENTS = ["PROVED", "PROFILE", "SERVICE", "C"]
-EXAMPLES = ["release.pub", "firmware.bin", "firmware.sig", "c/verify.c", "c/sha256.h"]
-EXAMPLES += [f"serve/{name}" for name in ("client.py", "lms-queue.service")]
-PAGES = {command: f"share/man/man1/lms_tool{'-' * bool(command)}{command}.1.gz" for command in ("", *COMMANDS)}
+# The documents of the packages, by their names in the repository, and the examples: those that liblms-dev has, too, and
+# those that the program's packages have alone.
+FOR_PROGRAMS = {"docs/C.md": "C.md", "portable/README.md": "MICROCONTROLLERS.md"}
+DOCUMENTS = {f"{name}.md": f"{name}.md" for name in ("README", "SECURITY", "CHANGELOG")}
+DOCUMENTS |= {f"docs/{name}.md": f"{name}.md" for name in ("PROVED", "PROFILE", "TESTED", "SERVICE", "EMBEDDING", "KEYS", "CHOOSING", "INTEROP")}
+BUILT_WITH = [f"examples/{name}" for name in ("release.pub", "firmware.bin", "firmware.sig", "c/verify.c", "c/sha256.h")]
+BUILT_WITH += [*(f"examples/{name}" for name in ("c/two_levels.pub", "c/two_levels.sig", "python/lms.py")), "tests/c/bare.c"]
+EXAMPLES = ["examples/serve/client.py", "examples/serve/lms-queue.service"]
+# What else documents lead to, where the package has it.
+BESIDE = {"examples/web/index.html": "lms_verify.html", "include/lms.h": "../../../include/lms.h"}
+BESIDE |= {f"portable/{name}": f"../../lms-tool/{name}" for name in ("lms_verify.c", "sha256_x86.c")}
+# The names that lead to others.
+LINKS = {"bin/lms-tool": "lms_tool", "share/man/man1/lms-tool.1.gz": "lms_tool.1.gz", "share/bash-completion/completions/lms-tool": "lms_tool"}
 # The time of all files in packages, 2001-09-09, 01:46:40, and their maintainer.
 SECONDS, MAINTAINER = 1000000000, "No One <no-one@debian.org>"
 # What scripts may take from the environment.
 TAKEN = {"PATH", "SOURCE_DATE_EPOCH", "MAINTAINER"}
+# What each Debian package needs.
+NEEDS = {"lms-tool": "libc6 (>= 2.34)", "liblms1": "libc6 (>= 2.17)", "liblms-dev": f"liblms1 (= {VERSION})"}
 # What the launcher asks of a processor before it takes the program for AVX2.
 FLAGS = ["avx", "avx2", "bmi1", "bmi2", "f16c", "fma", "abm", "movbe"]
 
@@ -48,10 +66,10 @@ def copy_sources(folder, outputs):
     """A folder with all that `release` reads, with these files as outputs, and nothing else."""
     for part in ("src", "specs", "proofs"):
         os.makedirs(f"{folder}/crates/lms_c/{part}", exist_ok=True)
-    for name in ("docs", "include", "examples/c", "examples/serve", "portable", "runtime"):
+    for name in ("docs", "include", "examples/c", "examples/python", "examples/serve", "packaging", "portable", "runtime"):
         shutil.copytree(TOP / name, f"{folder}/{name}", ignore=shutil.ignore_patterns("__pycache__"))
     plain = [it.relative_to(TOP) for it in (TOP / "examples").glob("*.*")]
-    sources = ["release", "VERSION", "README.md", "crates.txt", *PAGE_SOURCES, *plain]
+    sources = ["release", "VERSION", "README.md", "SECURITY.md", "CHANGELOG.md", "crates.txt", "tests/c/bare.c", *PAGE_SOURCES, *plain]
     for name, file in {**{name: TOP / name for name in sources}, **outputs}.items():
         os.makedirs(os.path.dirname(f"{folder}/{name}"), exist_ok=True)
         shutil.copy2(file, f"{folder}/{name}")
@@ -89,13 +107,23 @@ def pack_twice(make):
     holds(not os.listdir("temporary"), "temporary files are left")
 
 
+class Kind(NamedTuple):
+    """What a package has: programs, each with what it is made of; the processors and the folder of its libraries;
+    whether it has the shared one, and what programs are built with, with documents in this folder."""
+
+    programs: dict
+    processor: str = ""
+    folder: str = ""
+    is_shared: bool = False
+    docs: str = ""
+
+
 class Package:
     """A package, read without being unpacked: its files and folders by their names below the root
-    of what it installs, its programs, each with what it is made of, and where in there its library
-    is, if it has one."""
+    of what it installs."""
 
-    def __init__(self, name, packed, programs, library=None):
-        self.name, self.programs, self.library, self.found, self.bytes = name, programs, library, {}, {}
+    def __init__(self, name, packed, kind):
+        self.name, self.kind, self.found, self.bytes = name, kind, {}, {}
         for it in packed:
             below = os.path.relpath(it.name, name)
             self.found[below] = it
@@ -106,107 +134,154 @@ class Package:
         holds(is_so, f"{self.name}: {what}")
 
 
-def tarball(folder, name, *more):
+def tarball(folder, name, kind):
     """The tarball of a name in a folder."""
     with tarfile.open(f"{folder}/{name}.tar.gz") as packed:
-        return Package(name, packed, *more)
+        return Package(name, packed, kind)
 
 
-def debian(folder, name, *more):
+def debian(folder, name, kind):
     """The Debian package of a name in a folder."""
     words = ["dpkg-deb", "--fsys-tarfile", f"{folder}/{name}"]
     with tarfile.open(fileobj=io.BytesIO(subprocess.run(words, stdout=subprocess.PIPE, check=True).stdout)) as packed:
-        return Package("usr", packed, *more)
+        return Package("usr", packed, kind)
 
 
-def files_of(package):
-    """The names of the files that a package is to have."""
-    library = [f"{package.library}/{name}" for name in ("liblms_c.a", "pkgconfig/lms.pc")] if package.library else []
-    documents = [f"{DOCS}/{name}.md" for name in (*DOCUMENTS, "STATES")] + [f"{DOCS}/examples/{os.path.basename(it)}" for it in EXAMPLES]
-    own = [f"{DOCS}/{name}" for name in ("changelog.gz", "copyright")] if package.name == "usr" else []
-    return [*{LAUNCHER, *package.programs}, *library, *documents, *own, *PAGES.values(), "include/lms.h", "share/lms-tool/lms_verify.c"]
+def links_of(kind):
+    """The names of a package that lead to others, each with where it leads."""
+    return (LINKS if kind.programs else {}) | ({f"{kind.folder}/liblms.so": "liblms.so.1"} if kind.docs else {})
 
 
-def has_modes(package):
+def files_of(package, top, own):
+    """The names of the files that a package is to have, with these own files of a Debian package."""
+    kind = package.kind
+    names = {*own, *texts_of(kind, top), *libraries_of(kind), *links_of(kind), *kind.programs}
+    return sorted(names | ({LAUNCHER, *PAGES.values(), *COMPLETIONS.values()} if kind.programs else set()))
+
+
+def has_modes(package, top, own):
     """A package has these files and no other, which only root may write, and all may read. Programs
     alone may be run."""
     files = sorted(name for name, it in package.found.items() if not it.isdir())
-    package.holds(files == sorted(files_of(package)), f"its files are {files}")
+    wanted = files_of(package, top, own)
+    package.holds(files == wanted, f"its files are {files}, not {wanted}")
     for name, it in package.found.items():
-        wanted = 0o755 if it.isdir() or name in {LAUNCHER, *package.programs} else 0o644
-        package.holds(it.isfile() or it.isdir(), f"{name} is neither file nor folder")
-        package.holds(it.mode == wanted, f"{name} has the mode {it.mode:o}, not {wanted:o}")
         package.holds((it.uid, it.gid) == (0, 0), f"{name} has another owner")
+        if name in (links := links_of(package.kind)):
+            package.holds(it.issym() and it.linkname == links[name], f"{name} leads elsewhere")
+            continue
+        mode = 0o755 if it.isdir() or name in {LAUNCHER, *package.kind.programs} else 0o644
+        package.holds(it.isfile() or it.isdir(), f"{name} is neither file nor folder")
+        package.holds(it.mode == mode, f"{name} has the mode {it.mode:o}, not {mode:o}")
 
 
 def has_programs(package, top):
     """A package has its programs as they were built, but for what `strip` leaves out of those for
     x86-64. They differ."""
-    for name, built in package.programs.items():
+    programs = package.kind.programs
+    for name, built in programs.items():
         whole = f"{top}/{built}"
         if built != ARM:
             said_by("strip", "-o", "stripped", whole)
             whole = "stripped"
         package.holds(package.bytes[name] == pathlib.Path(whole).read_bytes(), f"another program than {built}")
-    package.holds(len({package.bytes[name] for name in package.programs}) == len(package.programs), "its programs are one")
+    package.holds(len({package.bytes[name] for name in programs}) == len(programs), "its programs are one")
 
 
-def advice(readme):
-    """The section of README.md on states, whole."""
-    sections = re.split(r"(?m)^(?=## )", readme)
-    return "".join(it for it in sections if it.startswith("## What you must never do with a state\n"))
+def libraries_of(kind):
+    """The libraries of a package, each with what it is."""
+    found = {}
+    if kind.is_shared:
+        found["liblms.so.1"] = f"{SHARED}/{kind.processor}/liblms.so.1"
+        for level in LEVELS if kind.processor == "x86-64" else []:
+            found[f"glibc-hwcaps/{level}/liblms.so.1"] = f"{SHARED}/{level}/liblms.so.1"
+    if kind.docs:
+        found["liblms.a"] = f"{SHARED}/{kind.processor}/liblms.a"
+        found |= {"liblms_c.a": LIBRARY} if kind.processor == "x86-64" else {}
+    return {f"{kind.folder}/{name}": output for name, output in found.items()}
 
 
-def texts_of(package, top):
+def led(text, source, places):
+    """A document of the repository as a package has it: each link leads to where that has what it names, and one to
+    another file of the repository is its text."""
+
+    def link(found):
+        target, _, anchor = found[2].partition("#")
+        name = os.path.normpath(os.path.join(os.path.dirname(source), target))
+        if not target or target.startswith("https:"):
+            return found[0]
+        return f"[{found[1]}]({places[name]}{'#' * bool(anchor)}{anchor})" if name in places else found[1]
+
+    return re.sub(r"\[([^][\n]*)\]\(([^()\n]*)\)", link, text)
+
+
+def documents_of(kind):
+    """The documents and the examples of a package, by their names in the repository."""
+    documents = {**(DOCUMENTS if kind.programs else {}), **(FOR_PROGRAMS if kind.programs or kind.docs else {})}
+    return documents, [*EXAMPLES * bool(kind.programs), *BUILT_WITH * bool(kind.programs or kind.docs)]
+
+
+def texts_of(kind, top):
     """The files of a package that are made of sources, with the bytes that each is to have."""
-    top = pathlib.Path(top)
-    texts = {"include/lms.h": (top / "include/lms.h").read_bytes()}
-    texts["share/lms-tool/lms_verify.c"] = (top / "portable/lms_verify.c").read_bytes()
-    for name in EXAMPLES:
-        texts[f"{DOCS}/examples/{os.path.basename(name)}"] = (top / "examples" / name).read_bytes()
-    for name in DOCUMENTS:
-        # (The texts of links stay.)
-        text = (top / f"docs/{name}.md").read_text(encoding="utf-8")
-        texts[f"{DOCS}/{name}.md"] = re.sub(r"\[([^]\n]*)\]\([^)\n]*\)", r"\1", text).encode()
-    texts[f"{DOCS}/STATES.md"] = advice((top / "README.md").read_text(encoding="utf-8")).encode()
-    return {**texts, **(library_of(package.library, top) if package.library else {})}
+    top, texts = pathlib.Path(top), {}
+    if kind.programs:
+        texts[f"{DOCS}/lms_verify.html"] = (top / PAGE).read_bytes()
+    if kind.docs:
+        texts["include/lms.h"] = (top / "include/lms.h").read_bytes()
+        texts |= {f"share/lms-tool/{name}": (top / "portable" / name).read_bytes() for name in ("lms_verify.c", "sha256_x86.c")}
+        for name in ["lms", *["lms_c"] * (kind.processor == "x86-64")]:
+            texts[f"{kind.folder}/pkgconfig/{name}.pc"] = flags_of(name, kind.folder, top)
+    documents, examples = documents_of(kind)
+    docs, shown = kind.docs or DOCS, {name: f"examples/{os.path.basename(name)}" for name in examples}
+    beside = {name: it for name, it in BESIDE.items() if os.path.normpath(f"{docs}/{it}") in texts}
+    for source, name in documents.items():
+        text = led((top / source).read_text(encoding="utf-8"), source, {**documents, **shown, **beside})
+        texts[f"{docs}/{name}"] = text.encode()
+    return texts | {f"{docs}/{name}": (top / source).read_bytes() for source, name in shown.items()}
 
 
-def library_of(folder, top):
-    """The library and its pkg-config file, in this folder of a package."""
+def anchors_in(text):
+    """The anchors of a document's headings."""
+    headings = re.findall(r"(?m)^#+ (.*)$", re.sub(r"(?ms)^```.*?^```$", "", text))
+    return {re.sub(r"[^\w -]", "", it.lower()).replace(" ", "-") for it in headings}
+
+
+def has_links(package):
+    """Each link in a document of a package leads to a file of it and, where it names a heading, to one that the
+    file has; and some do."""
+    count, docs = 0, package.kind.docs or DOCS
+    documents, _ = documents_of(package.kind)
+    for name in documents.values():
+        text = package.bytes[f"{docs}/{name}"].decode()
+        for target in re.findall(r"\]\(([^()\s]*)\)", text):
+            file, _, anchor = target.partition("#")
+            below = os.path.normpath(f"{docs}/{file or name}")
+            package.holds(target.startswith("https:") or below in package.found, f"{name} has a link to {target}, which is not there")
+            if anchor:
+                package.holds(anchor in anchors_in(package.bytes[below].decode()), f"{below} has no heading {anchor}, as {name} says")
+            count += 1
+    package.holds(not documents or count > len(documents), "its documents have no links")
+
+
+def flags_of(name, folder, top):
+    """The pkg-config file of a library in this folder of a package."""
     up = "/".join([".."] * (folder.count("/") + 2))
-    flags = (top / "include/lms.pc").read_text(encoding="utf-8").replace("${pcfiledir}/../..", f"${{pcfiledir}}/{up}")
-    flags = flags.replace("-L${prefix}/lib ", f"-L${{prefix}}/{folder} ")
-    return {f"{folder}/liblms_c.a": (top / LIBRARY).read_bytes(), f"{folder}/pkgconfig/lms.pc": flags.encode()}
+    flags = (top / f"include/{name}.pc").read_text(encoding="utf-8").replace("${pcfiledir}/../..", f"${{pcfiledir}}/{up}")
+    return flags.replace("-L${prefix}/lib ", f"-L${{prefix}}/{folder} ").encode()
 
 
 def has_texts(package, top):
-    """What a package has of sources is whole."""
-    for name, text in texts_of(package, top).items():
+    """What a package has of sources and libraries is whole."""
+    libraries = {name: pathlib.Path(top, output).read_bytes() for name, output in libraries_of(package.kind).items()}
+    for name, text in {**texts_of(package.kind, top), **libraries}.items():
         package.holds(text, f"there is nothing that {name} is made of")
         package.holds(package.bytes[name] == text, f"{name} is not what it is made of")
-
-
-def shown(page):
-    """The lines of a page of the manual that its formatter shows as they are."""
-    lines = gzip.decompress(page).decode().partition("\n.nf\n")[2].partition("\n.fi\n")[0].splitlines()
-    return [line.removeprefix("\\&").replace("\\-", "-").replace("\\e", "\\") for line in lines]
-
-
-def has_manual(package, program):
-    """Each page of the manual has the help that this program gives, whole, and no line of it is a
-    command to the formatter."""
-    for command, name in PAGES.items():
-        help_text = said_by(program, *[command] * bool(command), "--help")
-        package.holds(shown(package.bytes[name]) == help_text.splitlines(), f"{name} does not have the help on {command or 'all'}")
-        raw = gzip.decompress(package.bytes[name]).decode().partition("\n.nf\n")[2].partition("\n.fi\n")[0]
-        package.holds(not re.search(r"(?m)^[.']", raw), f"a line of {name} is lost")
 
 
 def has_sums(folder, has_arm):
     """What was packed are the files that should be, all of which may be read by all and written by
     their owner alone, and the sums of the others in SHA256SUMS."""
-    packed = [f"{NAME}.tar.gz", DEBIAN, *[f"{ARM_NAME}.tar.gz", ARM_DEBIAN] * has_arm, "lms_verify.html"]
+    packed = [f"{NAME}.tar.gz", DEBIAN, *DEBIANS, *[f"{ARM_NAME}.tar.gz", ARM_DEBIAN, *ARM_DEBIANS] * has_arm, "lms_verify.html"]
     holds(sorted(os.listdir(folder)) == sorted([*packed, "SHA256SUMS"]), f"{os.listdir(folder)} were packed")
     for name in [*packed, "SHA256SUMS"]:
         mode = stat.S_IMODE(os.stat(f"{folder}/{name}").st_mode)
@@ -223,12 +298,16 @@ def has_own(file, package, maintainer, seconds):
         texts = {os.path.basename(it.name): own.extractfile(it).read().decode() for it in own if it.isfile()}
         holds(all(it.mode == (0o755 if it.isdir() else 0o644) for it in own), "its own files have other modes")
         holds(all((it.uid, it.gid, it.mtime) == (0, 0, seconds) for it in own), "its own files have another owner or time")
-    holds(sorted(texts) == ["control", "md5sums"], f"its own files are {sorted(texts)}")
+    called, _, architecture = os.path.basename(file).removesuffix(".deb").split("_")
+    loaded = {"shlibs": "liblms 1 liblms1\n", "triggers": "activate-noawait ldconfig\n"} if called == "liblms1" else {}
+    holds(sorted(texts) == sorted(["control", "md5sums", *loaded]), f"its own files are {sorted(texts)}")
+    holds(all(texts[name] == text for name, text in loaded.items()), f"its own files say {texts}")
     files = {name: text for name, text in package.bytes.items() if package.found[name].isfile()}
     size = sum((len(text) + 1023) // 1024 for text in files.values())
     lines = texts["control"].splitlines()
-    named = {"Package": "lms-tool", "Version": VERSION, "Architecture": re.search(r"_(\w+)\.deb$", file)[1]}
-    named |= {"Maintainer": maintainer, "Installed-Size": size, "Depends": "libc6 (>= 2.34)"}
+    named = {"Package": called, "Version": VERSION, "Architecture": architecture}
+    named |= {"Maintainer": maintainer, "Installed-Size": size, "Depends": NEEDS[called]}
+    named |= {"Recommends": "openssl"} if called == "lms-tool" else {"Source": "lms-tool"}
     for name, what in named.items():
         holds(f"{name}: {what}" in lines, f"control has no line {name}: {what}")
     sums = sorted(f"{hashlib.md5(text).hexdigest()}  usr/{name}" for name, text in files.items())
@@ -240,16 +319,29 @@ def are_right(folder, top, has_arm, seconds=SECONDS, maintainer=MAINTAINER):
     one, with this time and maintainer."""
     has_sums(folder, has_arm)
     holds(pathlib.Path(folder, "lms_verify.html").read_bytes() == pathlib.Path(top, PAGE).read_bytes(), "another page was packed")
-    installed = {DEBIAN: debian(folder, DEBIAN, PROGRAMS, "lib/x86_64-linux-gnu")}
-    packages = [tarball(folder, NAME, PROGRAMS, "lib")]
+    kinds = kinds_of([DEBIAN, *DEBIANS], "x86-64", "lib/x86_64-linux-gnu", PROGRAMS)
+    tarballs = [tarball(folder, NAME, Kind(PROGRAMS, "x86-64", "lib", True, DOCS))]
     if has_arm:
-        installed[ARM_DEBIAN] = debian(folder, ARM_DEBIAN, ARM_PROGRAMS)
-        packages.append(tarball(folder, ARM_NAME, ARM_PROGRAMS))
-    for name, package in installed.items():
+        kinds |= kinds_of([ARM_DEBIAN, *ARM_DEBIANS], "aarch64", "lib/aarch64-linux-gnu", ARM_PROGRAMS)
+        tarballs.append(tarball(folder, ARM_NAME, Kind(ARM_PROGRAMS, "aarch64", "lib", True, DOCS)))
+    own = {}
+    for name, kind in kinds.items():
+        package = debian(folder, name, kind)
         has_own(f"{folder}/{name}", package, maintainer, seconds)
-    for package in [*packages, *installed.values()]:
-        has_modes(package)
+        own[package] = [f"share/doc/{name.partition('_')[0]}/{it}" for it in ("changelog.gz", "copyright")]
+        has_changelog(package, own[package][0], top, maintainer)
+    for package in [*tarballs, *own]:
+        has_modes(package, top, own.get(package, []))
         has_programs(package, top)
         has_texts(package, top)
-        has_manual(package, f"{top}/{COMMON}")
+        has_links(package)
+        if package.kind.programs:
+            has_manual(package, f"{top}/{COMMON}")
+            has_completions(package, f"{top}/{COMMON}")
         package.holds(all(it.mtime == seconds for it in package.found.values()), "its files have another time")
+
+
+def kinds_of(names, processor, folder, programs):
+    """What the three Debian packages of these names have."""
+    shared, development = Kind({}, processor, folder, is_shared=True), Kind({}, processor, folder, docs="share/doc/liblms-dev")
+    return dict(zip(names, (Kind(programs), shared, development)))

@@ -9,17 +9,20 @@ import subprocess
 import time
 
 from tests.harness import TOP, Skipped, add_test, holds, said_by, test
+from tests.merge_check.launched import becomes_the_program, starts_by
+from tests.merge_check.package_texts import COMPLETIONS
 from tests.merge_check.packages import (
-    ARM, ARM_DEBIAN, ARM_NAME, COMMON, DEBIAN, FAST, FLAGS, LEVELS, NAME, OUTPUTS, PAGE, PAGE_SOURCES, SECONDS,
-    are_right, copy_sources, misleading, pack_twice,
+    ARM, ARM_DEBIAN, ARM_NAME, ARM_OUTPUTS, COMMON, DEBIAN, FAST, LIBRARY, NAME, OUTPUTS, PAGE, PAGE_SOURCES, SECONDS,
+    SHARED, SHARED_OUTPUTS, SHARED_SOURCES, are_right, copy_sources, pack_twice,
 )
+from tests.merge_check.shells import SHELLS, completes
 
 SOURCES = ["crates/lms_c/src/file", "crates/lms_c/specs/file", "crates/lms_c/proofs/a folder/file", "crates.txt"]
 # The folders of which packages are made, or what is in them.
 FOLDERS = [
     "crates", "crates/lms_c", "crates/lms_c/src", "crates/lms_c/src/out", "crates/lms_c/specs", "crates/lms_c/proofs",
-    "docs", "examples", "examples/c", "examples/serve", "examples/web", "include", "portable", "runtime",
-    "runtime/aarch64",
+    "docs", "examples", "examples/c", "examples/python", "examples/serve", "examples/web", "include", "packaging", "portable", "runtime",
+    "runtime/aarch64", "runtime/shared", "tests/c",
 ]
 # Files of which no package is made: notes, what was built, and what tests of crates leave.
 HARMLESS = ["notes", "tests/notes", "crates/lms_c/out/rlib/notes", "examples/web/out/notes"]
@@ -27,20 +30,20 @@ HARMLESS += ["crates/lms_c/file_store_1/notes", "crates/lms_c/disk_world_1/notes
 # What git is told to ignore.
 IGNORED = "out/\ncrates/*/file_store_*/\ncrates/*/disk_world_*/\n__pycache__/\nignored*\n"
 # What `release` asks for where it is to build, in this order, with a C compiler for aarch64 or without.
-ASKED = ["lms_tool build all", "lms_c", "lms_c --portable", "examples/web/build"]
+ASKED = ["lms_tool build all", "lms_c", "lms_c --shared", "lms_c --portable", "examples/web/build"]
 ASKED_WITHOUT = ["lms_tool build both", *ASKED[1:]]
 # Whether there is such a compiler: the words that name it.
 COMPILER, NO_COMPILER = {"CC_AARCH64": "sh --of-mine"}, {"CC_AARCH64": "no-compiler --of-mine"}
 AUTHOR = "Some One <some-one@debian.org>"
 WHO = [word for key, text in zip(("name", "email"), AUTHOR[:-1].split(" <")) for word in ("-c", f"user.{key}={text}")]
 # Files of the commit by which packages are made.
-OWN = ["VERSION", "README.md", "crates.txt", "lms_c", "lms_tool", "release", "docs/C.md", "include/lms.h"]
+OWN = ["VERSION", "README.md", "SECURITY.md", "CHANGELOG.md", "packaging/manual.awk", "crates.txt", "lms_c", "lms_tool", "release", "docs/C.md", "include/lms.h"]
 # What stands in for `./lms_tool`, `./lms_c` and `examples/web/build`: each notes what it is asked,
 # and makes its outputs of those in ../made. The file `fails` names one that can't.
 MAKER = """\
 #!/bin/sh
 top=%s
-echo "%s$([ "${1-}" != build ] || echo " $*")$([ "${1-}" != --portable ] || echo " $1")" >>"$top/../asked"
+echo "%s$([ "${1-}" != build ] || echo " $*")$(case ${1-} in --*) echo " $1" ;; esac)" >>"$top/../asked"
 umask 077
 [ "$(tail -n 1 "$top/../asked")" != "$(cat "$top/../fails")" ] || exit 70
 %s
@@ -50,6 +53,8 @@ MAKES = {
     'cp -p "$top/../made/fast" "$top/crates/lms_tool/out/avx2/lms_tool" && { [ "$2" != all ] || '
     '{ mkdir -p "$top/crates/lms_tool/out/aarch64" && cp -p "$top/../made/arm" "$top/crates/lms_tool/out/aarch64/lms_tool"; }; }',
     "lms_c": 'if [ "${1-}" = --portable ]; then mkdir -p "$2" && cp "$top/../made/lms_verify.c" "$2"; exit; fi\n'
+    'if [ "${1-}" = --shared ]; then mkdir -p "$top/crates/lms_c_lanes/out" && cp -R "$top/../made/shared" "$top/crates/lms_c_lanes/out"\n'
+    'case $CC_AARCH64 in no-*) rm -r "$top/crates/lms_c_lanes/out/shared/aarch64" ;; esac; exit; fi\n'
     'mkdir -p "$top/crates/lms_c/out" && cat "$top/../made/library" >"$top/crates/lms_c/out/liblms_c.a"',
     "examples/web/build": 'cat "$top/../made/page" >"$1"',
 }
@@ -65,6 +70,10 @@ def make_outputs():
         said_by("cc", "-O1", f'-DNAME="{name}"', TOP / "tests/c/packed.c", "-o", f"made/{name}")
         os.chmod(f"made/{name}", 0o700)
     pathlib.Path("made/library").write_bytes(bytes(range(256)) * 40)
+    for output in [*SHARED_OUTPUTS, *ARM_OUTPUTS[1:]]:
+        file = pathlib.Path("made/shared", os.path.relpath(output, SHARED))
+        file.parent.mkdir(parents=True, exist_ok=True)
+        file.write_bytes(f"a library {file}\n".encode() * 99)
     pathlib.Path("made/page").write_bytes(b"<title>a page</title>\n" * 999)
     shutil.copy(TOP / "portable/lms_verify.c", "made")
 
@@ -94,9 +103,10 @@ def make_sources(folder):
 def make_built(folder, has_arm=True):
     """Makes such a folder, where all is built, but for the program for aarch64 where that is said."""
     make_sources(folder)
-    for output, name in zip([*OUTPUTS, *[ARM] * has_arm], ("common", "fast", "library", "page", "arm")):
+    made = {COMMON: "common", FAST: "fast", LIBRARY: "library", PAGE: "page", ARM: "arm"}
+    for output in [*OUTPUTS, *ARM_OUTPUTS * has_arm]:
         os.makedirs(os.path.dirname(f"{folder}/{output}"), exist_ok=True)
-        shutil.copy(f"made/{name}", f"{folder}/{output}")
+        shutil.copy(f"made/{made.get(output) or 'shared/' + os.path.relpath(output, SHARED)}", f"{folder}/{output}")
 
 
 def run(words, **more):
@@ -113,33 +123,27 @@ def run(words, **more):
     return ran.returncode, ran.stderr
 
 
-def starts_by(launcher, level, name, variables=None):
-    """A launcher becomes the program of this name, with its arguments and its status, and prints
-    nothing itself, where these variables of the environment are set."""
-    home = os.path.abspath("home")
-    folders = {"PATH": f"{os.path.abspath('other')}:{os.environ['PATH']}", "HOME": home, "TMPDIR": home}
-    how = {"env": {**(variables or {}), **folders}, "stdout": subprocess.PIPE, "stderr": subprocess.PIPE, "text": True}
-    with subprocess.Popen([launcher, "a b", "", "-c"], **how) as running:
-        found = (*running.communicate(), running.returncode)
-    holds(found == (f"{name}\n{running.pid}\na b\n\n-c\n", "", 3), f"{level}: {found}")
+def is_told_alone(package):
+    """The launcher of a package, copied elsewhere without what it starts, says so in a line."""
+    os.makedirs("alone/bin", exist_ok=True)
+    shutil.copy(f"{package}/bin/lms_tool", "alone/bin")
+    status, errors = run(["alone/bin/lms_tool", "--help"])
+    told = errors.startswith("lms_tool: there is no ") and errors.endswith("keep it where the package has it\n") and errors.count("\n") == 1
+    holds(status == 70 and told, f"{status} {errors!r}")
 
 
-def becomes_the_program(package):
-    """The launcher in a package becomes the program for the processor, whose /proc/cpuinfo is read
-    by a stand-in for sed here, also where each word of it is a variable of the environment that names
-    the other level. It leaves no file."""
-    launcher = os.path.abspath(f"{package}/bin/lms_tool")
-    files = sorted(pathlib.Path(package).rglob("*"))
-    for folder in ("other", "home"):
-        os.makedirs(folder, exist_ok=True)
-    for missing in (None, *FLAGS):
-        flags = " ".join(it for it in ("fpu", *FLAGS, "sse2") if it != missing)
-        pathlib.Path("other/sed").write_text(f'#!/bin/sh\necho "{flags}"\n')
-        os.chmod("other/sed", 0o755)
-        level, name = (LEVELS[0], "common") if missing else (LEVELS[1], "fast")
-        starts_by(launcher, level, name)
-        starts_by(launcher, level, name, misleading(launcher, LEVELS[missing is not None]))
-    holds(sorted(pathlib.Path(package).rglob("*")) == files and not os.listdir("home"), "a file is left")
+def packs_completions(shell):
+    """A shell completes commands, options and files by what the packages have for it."""
+    make_built("here")
+    os.mkdir("packed")
+    said_by("here/release", "--built", "packed", env={**os.environ, "SOURCE_DATE_EPOCH": "1", "MAINTAINER": AUTHOR})
+    said_by("tar", "-xzf", f"packed/{NAME}.tar.gz")
+    file = os.path.abspath(f"{NAME}/{COMPLETIONS[shell]}")
+    completes(shell, os.path.dirname(file), file)
+
+
+for completing in SHELLS:
+    add_test(f"packs completions for {completing}", packs_completions, completing)
 
 
 @test
@@ -150,6 +154,7 @@ def packs_what_is_built():
     becomes_the_program(NAME)
     said_by("dpkg-deb", "-x", f"packed/{DEBIAN}", "debian")
     becomes_the_program("debian/usr")
+    is_told_alone("debian/usr")
     said_by("tar", "-xzf", f"packed/{ARM_NAME}.tar.gz")
     said_by("dpkg-deb", "-x", f"packed/{ARM_DEBIAN}", "arm64")
     for package in (ARM_NAME, "arm64/usr"):
@@ -166,7 +171,7 @@ def packs_without_arm(why):
 
 @test
 def packs_without_a_program_for_aarch64():
-    """Or with one that is older than a source or a C function of it."""
+    """Or with one that is older than a source or a C function of it, or without libraries."""
     make_built("here", has_arm=False)
     here = os.path.abspath("here")
     packs_without_arm(f"{here}/{ARM} is not built")
@@ -179,6 +184,8 @@ def packs_without_a_program_for_aarch64():
             age(f"here/{output}", 0)
         packs_without_arm(f"{here}/{source} is newer than {here}/{ARM}")
         age(f"here/{source}", 2)
+    age(f"here/{ARM}", 0)
+    packs_without_arm(f"{here}/{ARM_OUTPUTS[1]} is not built")
 
 
 def refuses_built(line):
@@ -217,6 +224,8 @@ def refuses_what_is_older_than_a_source():
         refuses_older(source, COMMON, -1)
     for source in PAGE_SOURCES:
         refuses_older(source, PAGE)
+    for source in SHARED_SOURCES:
+        refuses_older(source, SHARED_OUTPUTS[0])
 
 
 def commit(folder):

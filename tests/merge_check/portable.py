@@ -10,6 +10,8 @@ from tests.harness import ARGUMENTS, TOP, Skipped, Wrong, checks, holds, said_by
 from tests.merge_check import verifier_functions
 from tests.merge_check.c_programs import LIBRARY
 from tests.merge_check.crates import KIT
+from tests.merge_check.portable_loader import judges_loader
+from tests.merge_check.portable_projects import judges_projects
 from tests.merge_check.portable_targets import AT_ZERO, BOARDS, CHECKED, FILE, FOLDER, HERE, HOSTED, INCLUDES, MODES, STRICT, Target, keeps_bounds
 from tests.merge_check.portable_vectors import all_changes, all_vectors, header, some
 from tests.merge_check.wasm_functions import build, compare, has_node, links, wasm_module
@@ -261,6 +263,11 @@ def the_file(counter):
 
 
 @checks
+def the_loader(counter):
+    judges_loader(counter)
+
+
+@checks
 def the_answers(counter):
     vectors = all_vectors()
     answers, few = Answers("all", vectors, CHANGES), Answers("few", some(vectors, *FEW), 0)
@@ -268,6 +275,7 @@ def the_answers(counter):
     put("two/vectors.h", header(some(vectors, *TWO)).encode())
     judges_here(counter, answers, few)
     fails_closed(counter)
+    judges_projects(counter, few)
     judges_there(counter, few)
     lines = [answers.lines[list(vectors).index(it)] for it in TWO]
     for target, modes in zip(AT_ZERO, (MODES, FEW_MODES)):

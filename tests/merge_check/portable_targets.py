@@ -36,7 +36,7 @@ class Target:
 
     def link(self, source, *more):
         """Links a test program, `program`, with what is compiled."""
-        words = ["-std=c11", "-O2", "-DPORTABLE", *more, *INCLUDES, FOLDER / source, FOLDER / "hosted.c", "lms_verify.o"]
+        words = ["-std=c11", "-O2", "-DLMS_PORTABLE", *more, *INCLUDES, FOLDER / source, FOLDER / "hosted.c", "lms_verify.o"]
         said_by(*self.compiler, *words, "-o", "program")
 
     def run(self):
@@ -57,7 +57,7 @@ class Board(Target):
         super().compile(mode, "-ffreestanding", "-ffunction-sections", *flags, file=file)
 
     def link(self, source, *more):
-        words = ["-std=gnu11", "-O2", "-DPORTABLE", f"-DTICK={self.tick}", *FREESTANDING, *more, *INCLUDES]
+        words = ["-std=gnu11", "-O2", "-DLMS_PORTABLE", f"-DTICK={self.tick}", *FREESTANDING, *more, *INCLUDES]
         said_by(*self.compiler, *words, FOLDER / source, FOLDER / "board.c", "lms_verify.o", "-T", FOLDER / "board.ld", *self.places, "-lgcc", "-o", "program")
 
     def run(self, *more):
@@ -68,11 +68,11 @@ class Board(Target):
         return ran.stdout
 
 
-def keeps_bounds(target, mode, text):
+def keeps_bounds(target, mode, text, *flags):
     """What the C file of this text has for memory reaches all that it may, and nothing else."""
     target.skip_where_missing()
     put("machine.c", text.encode())
-    words = ["-std=c11", "-O1", *MODES[mode], *INCLUDES, FOLDER / "memory.c", FOLDER / "hosted.c", "-o", "program"]
+    words = ["-std=c11", "-O1", *MODES[mode], *flags, *INCLUDES, FOLDER / "memory.c", FOLDER / "hosted.c", "-o", "program"]
     said_by(*target.compiler, *words)
     target.run()
 
@@ -102,5 +102,9 @@ BOARDS = [
     Board(
         "RISC-V 32", ["riscv64-unknown-elf-gcc", "-march=rv32imac", "-mabi=ilp32"], ["gcc-riscv64-unknown-elf", "qemu-system-misc"],
         ["qemu-system-riscv32", "-M", "virt", "-bios", "none"], (0x80000000, 4 * MIB), (0x80400000, 4 * MIB),
+    ),
+    Board(
+        "ARM code", ["arm-none-eabi-gcc", "-march=armv7-a", "-marm", "-mfloat-abi=soft", "-mno-unaligned-access"],
+        ["gcc-arm-none-eabi", "qemu-system-arm"], ["qemu-system-arm", "-M", "virt"], (0x40200000, 4 * MIB), (0x40600000, 4 * MIB),
     ),
 ]

@@ -6,7 +6,7 @@ time. Its signatures are as valid as any."""
 import random
 
 from tests.harness import TOP
-from tests.program import read
+from tests.program import put, read
 from tests.reference import CHAINS, HEIGHTS, RANDOMIZER, Tree, digest, joined, number
 
 EXAMPLES = TOP / "examples"
@@ -132,3 +132,11 @@ def header(vectors, changes=()):
     lines += ["static const struct vector vectors[] = {", *rows, "};", "static const struct change changes[] = {"]
     lines += [f"    {{{', '.join(map(str, it))}}}," for it in changes or [(0, 0, 0, 0)]]
     return "\n".join([*lines, "};", ""])
+
+
+def empty_message():
+    """An empty message with its signature, as the files that are named."""
+    files = ["empty.pub", "empty", "empty.sig"]
+    for name, contents in zip(files, signed([(5, 8)], [0], b"")):
+        put(name, contents)
+    return files

@@ -1,63 +1,20 @@
 """Keys, messages and signatures that others published, in tests/vectors/: what RFC 8554 has in Appendix F,
-and NIST's for ACVP. Each row has its verdict by the program, the library for C, the C file and the page
+and NIST's for ACVP. Each row has its verdict by the program, the libraries for C, the C file and the page
 for browsers, and Appendix F's private keys sign its bytes again. What is not built, or needs a tool that
 is not there, is skipped."""
 
-from tests.harness import TOP, Skipped, Wrong, add_test, holds, test
+from tests.harness import TOP, Skipped, add_test, holds, test
 from tests.merge_check.browser import build_page, found_browser, opened
-from tests.merge_check.c_programs import LIBRARY, build, gives
+from tests.merge_check.c_programs import LIBRARY, build, gives, levels_here, library_for
 from tests.merge_check.portable_targets import FILE, MODES
-from tests.program import PROGRAM, makes_again, put, verify
+from tests.merge_check.published_rows import COUNTS, all_rows, judges, rows_of
+from tests.program import PROGRAM, makes_again, verify
 from tests.reference import CHAINS, HEIGHTS
 
-FOLDER = TOP / "tests/vectors"
-# How many rows each file has, how many of them valid, and how many with a private key.
-COUNTS = {"rfc8554_appendix_f": (9, 6, 2), "acvp_lms_sigver": (40, 10, 0)}
-PARTS = ["public", "message", "signature"]
-SECRETS = ["seed", "identifier"]
 WAYS = TOP / "tests/c/ways.c"
 # What the typecodes of RFC 8554 name.
 HEIGHTS_OF = {code: height for height, code in HEIGHTS.items()}
 WIDTHS_OF = {code: width for width, (code, _, _) in CHAINS.items()}
-
-
-def rows_of(source):
-    """The rows of a file by their names: each one's verdict, and its parts by theirs."""
-    rows, parts, name_of_part = {}, {}, None
-    for line in (FOLDER / f"{source}.txt").read_text(encoding="ascii").splitlines():
-        word, _, rest = line.partition(" ")
-        if word == "row":
-            name, verdict = rest.partition(":")[0].split()
-            holds(name not in rows, f"{source} has two rows {name}")
-            parts = {}
-            rows[name] = verdict, parts
-        elif word in PARTS + SECRETS:
-            name_of_part, earlier = word, rest.partition("of ")[2]
-            parts[word] = rows[earlier][1][word] if earlier else b""
-        elif line and word != "#":
-            parts[name_of_part] += bytes.fromhex(line)
-    return rows
-
-
-def all_rows():
-    """The rows of all files, by the names of file and row."""
-    return {f"{source}, {name}": row for source in COUNTS for name, row in rows_of(source).items()}
-
-
-def judges(judge):
-    """Each row has its verdict by this judge, which takes a verdict and the names of three files."""
-    count = 0
-    for name, (verdict, parts) in all_rows().items():
-        files = [f"{name}, {part}" for part in PARTS]
-        for file, part in zip(files, PARTS):
-            put(file, parts[part])
-        try:
-            judge(verdict, *files)
-        except Wrong as why:
-            raise Wrong(f"{name}: {why}") from why
-        count += 1
-    wanted = sum(rows for rows, _, _ in COUNTS.values())
-    holds(count == wanted, f"{count} rows were judged, not {wanted}")
 
 
 def judges_in_c(verifier, *flags):
@@ -84,6 +41,13 @@ def by_the_library_for_c():
     if not LIBRARY.exists():
         raise Skipped(f"{LIBRARY.relative_to(TOP)} is not built")
     judges_in_c(LIBRARY)
+
+
+@test
+def by_the_shared_library():
+    for level in levels_here():
+        library = library_for(level)
+        judges_in_c(library, f"-Wl,-rpath,{library.parent}")
 
 
 @test

@@ -26,11 +26,11 @@ TESTS = {
     "lms_book_tests": ["a_book_works_after_refused_memory"],
     "lms_shared_book_tests": ["a_book_is_shared_after_refused_memory"],
     "lms_pool_tests": ["a_pool_is_made_after_refused_memory"],
+    "lms_open_lease_tests": ["a_lease_signs_after_refused_memory"],
     "lms_batch_tests": [
-        "a_lease_signs_after_refused_memory",
-        "service::kept::kept_trees_after_refused_memory",
-        "service::memory::four_workers_after_refused_memory",
-        "service::memory::one_worker_after_refused_memory",
+        "kept::kept_trees_after_refused_memory",
+        "memory::four_workers_after_refused_memory",
+        "memory::one_worker_after_refused_memory",
     ],
     "lms_lines_tests": ["pieces::pieces_after_refused_memory", "signing::memory::lines_after_refused_memory"],
     "lms_file_store_tests": [

@@ -277,7 +277,8 @@ def refuses_what_can_not_be_read():
     put("key.state", image(ONE, 5))
     before = files()
     folder = os.open(".", os.O_RDONLY)
-    fails(SERVE, 6, "cannot read input", stdin=folder)
+    for words in (SERVE, BATCH):
+        fails(words, 6, "cannot read input", stdin=folder)
     os.close(folder)
     with open("/dev/zero", "rb") as zeros:
         fails(SERVE, 2, "line 1: bad job", stdin=zeros)

@@ -231,6 +231,9 @@ def a_state_that_cannot_be_written():
         it.write(ABC)
         it.answers(answer(ONE, 8))
         it.finishes()
+    os.mkdir("key.state.new")
+    fails(BATCH, 3, "cannot write state: 9 to 10 burnt", input=(ABC * 2).decode())
+    has("key.state", image(ONE, 9, 2))
 
 
 @test

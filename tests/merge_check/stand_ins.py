@@ -35,8 +35,8 @@ SIGNALS = [signal.SIGHUP, signal.SIGINT, signal.SIGPIPE, signal.SIGTERM]
 SOME = ["sign", "a b", ""]
 # What the script says before a trial run.
 IS_TRIAL = (
-    "lms_tool: this is a trial run, which takes about a minute and proves nothing; ./lms_tool build proves and builds the program in some "
-    "twenty minutes on four processors\n"
+    "lms_tool: this is a trial run, which takes about a minute and proves nothing; ./lms_tool build proves and builds the program in "
+    "18 to 45 minutes on four processors\n"
 )
 
 

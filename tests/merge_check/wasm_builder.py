@@ -123,6 +123,33 @@ def joined(parts):
     return b"\0asm\1\0\0\0" + b"".join(bytes([number]) + sized(contents) for number, contents in parts)
 
 
+def section(number, contents):
+    """A function that puts this section in another one's place, or in its own."""
+
+    def change(parts, _):
+        others = [it for it in parts if it[0] != number]
+        at = sum(0 < it[0] < number for it in others) if number else len(others)
+        return [*others[:at], (number, contents), *others[at:]]
+
+    return change
+
+
+def replaced(number, old, new):
+    """A function that has other bytes in place of these in a section."""
+
+    def change(parts, _):
+        found = [(at, it.replace(old, new) if at == number else it) for at, it in parts]
+        assert found != parts
+        return found
+
+    return change
+
+
+def more(number, contents):
+    """A function that puts one more thing to the end of a section that is a list."""
+    return lambda parts, _: [(at, bytes([it[0] + 1]) + it[1:] + contents if at == number else it) for at, it in parts]
+
+
 def split(module):
     """The sections of a module."""
     found, at = [], 8

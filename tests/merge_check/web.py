@@ -4,6 +4,7 @@ and what it shows is compared with what is so.
 The page is built first, or is the file that is the first argument; a second argument names a
 picture to be made of the page. Where there is no Chromium it is skipped."""
 
+import hashlib
 import os
 import pathlib
 
@@ -61,6 +62,35 @@ IS_REFUSED = """(() => {
 IS_EMPTY = "document.body.innerText.includes('This page has no verifier in it')"
 FIELDS = """[...document.querySelectorAll('input')].every(
     (field) => field.labels.length === 1 && field.closest('fieldset').querySelector('legend'))"""
+
+
+# Whether the verdict and the button are in sight, wherever the page is scrolled to, and nothing is wider
+# than the screen.
+IN_SIGHT = """[0, document.body.scrollHeight].every((at) => {
+    window.scrollTo(0, at);
+    const boxes = ["verdict", "sign"].map((id) => document.getElementById(id)).concat(document.querySelector("button"));
+    return boxes.map((it) => it.getBoundingClientRect()).every((it) => it.width > 0 && it.top >= 0 && it.bottom <= innerHeight
+        && it.left >= 0 && it.right <= innerWidth) && document.documentElement.scrollWidth <= innerWidth;
+})"""
+# The least contrast of the page's texts, by WCAG 2: the luminance of each beside that behind it.
+CONTRAST = """(() => {
+    const parts = (color) => color.match(/[\\d.]+/g).map(Number);
+    const light = (color) => parts(color).slice(0, 3).map((it) => it / 255)
+        .map((it) => it <= 0.04045 ? it / 12.92 : ((it + 0.055) / 1.055) ** 2.4).reduce((sum, it, k) => sum + it * [0.2126, 0.7152, 0.0722][k], 0);
+    const behind = (it) => {
+        const color = getComputedStyle(it).backgroundColor;
+        return parts(color)[3] === 0 ? behind(it.parentElement) : color;
+    };
+    return Math.min(...[...document.querySelectorAll("h1, p, label, legend, summary, #verdict")].map((it) => {
+        const [low, high] = [light(getComputedStyle(it).color), light(behind(it))].sort((a, b) => a - b);
+        return (high + 0.05) / (low + 0.05);
+    }));
+})()"""
+# The boxes that the page has, and what is said of them, to a screen reader, too.
+SAID = """[...document.querySelectorAll('input')].every((field) => {
+    const note = document.getElementById(field.getAttribute('aria-describedby'));
+    return note.closest('fieldset') === field.closest('fieldset') && note.matches('[role=status][aria-live=polite]');
+})"""
 
 
 def made(name, message):
@@ -123,6 +153,66 @@ def judges(browser, check, picture):
         file.seek(1 << 25)
         file.write(b"changed")
     check("a change in its midst is seen", browser.verdict_on(*large)[0] == "invalid")
+
+
+def tells_sizes(browser, check):
+    """What is said of a file before anything is pressed."""
+    public, message, signature = EXAMPLE
+    browser.choose("public", public)
+    digest = hashlib.sha256(public.read_bytes()).hexdigest()
+    check("levels and SHA-256 of the key", all(it in browser.note("public") for it in ("1 level, the top one 5/8", digest)))
+    browser.choose("public", EXAMPLES / "c/two_levels.pub")
+    browser.wait_for("document.getElementById('public-note').textContent.startsWith('2 levels')")
+    key, text = public.read_bytes(), signature.read_bytes()
+    wrong = "document.querySelector('#%s .wrong') !== null"
+    for name, contents, said in (
+        ("public", key[:-1], "60 bytes, and this file 59"),
+        ("public", key + b"\0", "60 bytes, and this file 61"),
+        ("public", key[:4] + b"\0\0\0\x0a" + key[8:], "no HSS public key"),
+        ("signature", text[:-1], f"has {len(text)} bytes, and this file {len(text) - 1}"),
+        ("signature", text + b"\0", f"has {len(text)} bytes, and this file {len(text) + 1}"),
+        ("signature", text + bytes(MOST_BYTES), f"has {len(text)} bytes, and this file {len(text) + MOST_BYTES}"),
+        ("signature", text[:100], "no HSS signature, or it is cut"),
+        ("signature", message.read_bytes(), "no HSS signature, or it is cut"),
+        ("signature", b"", "no HSS signature, or it is cut"),
+    ):
+        # (A file that is chosen again changes nothing.)
+        put(f"{name} of {len(contents)}", contents)
+        browser.choose(name, f"{name} of {len(contents)}")
+        browser.wait_for(f"document.getElementById('{name}-note').textContent.includes({said!r})")
+        check(f"a {name} of {len(contents)} bytes: {said}", browser.value(wrong % name) and browser.shown() == "")
+    for file in (signature, "longest.sig", EXAMPLES / "c/two_levels.sig"):
+        browser.choose("signature", file)
+        wanted = f"{pathlib.Path(file).stat().st_size} bytes, as its typecodes ask."
+        browser.wait_for(f"document.getElementById('signature-note').textContent === {wanted!r}")
+    check("nothing is said against right ones", not browser.value(wrong % "signature"))
+    check("what is said is said to a screen reader", browser.value(SAID))
+
+
+def is_seen(browser, check):
+    """The verdict is in sight on a phone and on a laptop, with a sign beside its color, in light and dark; the
+    keyboard reaches all that can be used, in order."""
+    public, message, signature = EXAMPLE
+    signs = set()
+    for file in (message, "text"):
+        browser.verdict_on(public, file, signature)
+        signs.add(browser.value("document.getElementById('sign').textContent"))
+        for width, height in ((400, 700), (1200, 600)):
+            for scheme in ("light", "dark"):
+                browser.show_at(width, height, scheme)
+                shown = f"{browser.shown()} at {width} pixels, {scheme}"
+                check(f"{shown}, is in sight", browser.value(IN_SIGHT))
+                check(f"{shown}, has enough contrast", browser.value(CONTRAST) >= 4.5)
+    check("each verdict has a sign of its own", len(signs) == 2 and all(it.strip() for it in signs))
+    browser.show_at(1200, 600, "dark")
+    dark = browser.value("getComputedStyle(document.body).backgroundColor")
+    browser.show_at(1200, 600)
+    check("light and dark differ", dark != browser.value("getComputedStyle(document.body).backgroundColor"))
+    check("the keyboard reaches all", browser.reached() == ["public", "message", "signature", "button", "summary"])
+    first = "document.querySelector('main p').innerText.match(/[.](\\s|$)/g).length"
+    check("two sentences stand above the files", browser.value(first) == 2)
+    hidden = "document.querySelector('details').open === false && document.querySelector('details').textContent.includes('Trusted, not proved')"
+    check("what is trusted is behind How it works", browser.value(hidden))
 
 
 def takes_files(browser, check):
@@ -233,6 +323,8 @@ def the_page(counter):
     with opened(program, page) as browser:
         judges(browser, check, picture)
         judges_lengths(browser, check)
+        tells_sizes(browser, check)
+        is_seen(browser, check)
         takes_files(browser, check)
         says_why_not(browser, check)
         browser.open(page)

@@ -220,7 +220,7 @@ def makes_no_second_witness():
             put_at(PLACE, what)
         refuses(witness(7), 3, UNWRITTEN)
         take_away(PLACE)
-    for name in ("nowhere/witness", "key.state.new", NODES, DRAFT, "key.state.lock"):
+    for name in ("nowhere/witness", "key.state", "key.state.new", NODES, DRAFT, "key.state.lock"):
         refuses(witness(7, name), 3, UNWRITTEN)
     put(f"{PLACE}.new", b"left by a stop")
     refuses(witness(7), 3, UNWRITTEN)

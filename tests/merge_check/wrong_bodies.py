@@ -202,6 +202,11 @@ def work(trials):
         trials.ended(group, said)
 
 
+def can_be_made(crate):
+    """Whether what each wrong body of a crate replaces is there: it may be in a comment, which no sum has."""
+    return all(it.apply({}) for it in edits_of(crate, WRONG_BODIES))
+
+
 def make_libraries(crates):
     """Has `rt lib` make the libraries below these crates, where they are neither left nor made
     yet."""
@@ -291,9 +296,10 @@ def wrong_bodies(counter):
     crates = chosen_crates(place, names)
     sums = {it.name: sum_of(it.name) for it in crates} if place == WRONG_BODIES else {}
     if of_changed:
-        before, every = noted(), len(crates)
-        crates = [it for it in crates if before.get(it.name) != sums[it.name]]
-        print(f"{every - len(crates)} of {every} crates are as they were when their wrong bodies were refused", flush=True)
+        before, every = noted(), crates
+        crates = [it for it in every if before.get(it.name) != sums[it.name] or not can_be_made(it)]
+        same = len(every) - len(crates)
+        print(f"{same} of {len(every)} crates are as they were when their wrong bodies were refused", flush=True)
     edits = [edit for crate in crates for edit in edits_of(crate, place)]
     try:
         make_libraries(crates)

@@ -35,7 +35,40 @@ void *memset(void *to, int byte, size_t len) {
     return to;
 }
 
-#ifdef __arm__
+#if defined __arm__ && __ARM_ARCH_PROFILE == 'A'
+
+__attribute__((noinline)) static void host(uintptr_t what, const void *with) {
+    register uintptr_t r0 __asm__("r0") = what;
+    register const void *r1 __asm__("r1") = with;
+    __asm__ volatile("svc 0x123456" : "+r"(r0) : "r"(r1) : "memory");
+}
+
+/* Each exception has a stack of its own, which is not set. */
+__attribute__((naked, used)) void raised(void) {
+    __asm__ volatile("ldr sp, =stack_top\nb fault");
+}
+
+__attribute__((naked, aligned(32), used)) void exceptions(void) {
+    __asm__ volatile(".rept 8\nb raised\n.endr");
+}
+
+__attribute__((naked, section(".vectors"), used)) void reset(void) {
+    __asm__ volatile("ldr r0, =exceptions\nmcr p15, 0, r0, c12, c0, 0\nldr sp, =stack_top\nb start");
+}
+
+/* The counter of cycles, which are instructions with -icount shift=0. */
+uint32_t counted(void) {
+    uint32_t cycles;
+    __asm__ volatile("mrc p15, 0, %0, c9, c13, 0" : "=r"(cycles));
+    return cycles;
+}
+
+static void begin_counting(void) {
+    __asm__ volatile("mcr p15, 0, %0, c9, c12, 1" : : "r"((uint32_t)1 << 31));
+    __asm__ volatile("mcr p15, 0, %0, c9, c12, 0" : : "r"(5));
+}
+
+#elif defined __arm__
 
 static void host(uintptr_t what, const void *with) {
     register uintptr_t r0 __asm__("r0") = what;

@@ -6,12 +6,8 @@
 #include "platform.h"
 #include "sha256.h"
 
-/* The portable file takes null wherever there are no bytes, in a piece, too, by its own names. */
-#ifdef PORTABLE
-#undef lms_verify
-#undef lms_verify_pieces
-#undef lms_message_head
-#undef lms_verify_hash
+/* The portable file takes null wherever there are no bytes, in a piece, too. */
+#ifdef LMS_PORTABLE
 #define NO_BYTES 0
 #else
 static const uint8_t nothing = 0;

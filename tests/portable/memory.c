@@ -83,7 +83,7 @@ static void has_caller_at(uintptr_t pointer) {
 #endif
 }
 
-#if UINTPTR_MAX == 0xffffffff
+#if __SIZEOF_POINTER__ == 4
 
 /* Each pointer is one of the caller's, and no other address. */
 static void has_caller(void) {

@@ -3,7 +3,6 @@
 static int traps;
 #define LMS_TRAP() (traps++)
 #include "changed.c"
-#define PORTABLE
 #include "judge.h"
 #include "vectors.h"
 

@@ -4,13 +4,13 @@ ghost use Rattle.lms_hss.specs.Covered.{IsCovered};
 
 use crate::case::Timed;
 use bench_base::{Fault, Hierarchy, Hss, MESSAGE, RANDOMIZER};
-use lms_hss::{Forest, HSS_KEY_LEN, verify};
+use lms_hss::{ByEights, ChainEnds, Forest, HSS_KEY_LEN, OneByOne, verify_with};
 use lms_params::{LmsType, OtsType};
 use std::alloc::Global;
 use std::thread::Threads;
 
 /// Each case and its name, in the order in which they are printed.
-pub const HSS_CASES: [(&str, HssCase); 5] = [
+pub const HSS_CASES: [(&str, HssCase); 8] = [
     (
         "verify 5/8",
         HssCase::Verify(Hierarchy(&[(LmsType::H5, OtsType::W8)])),
@@ -18,6 +18,18 @@ pub const HSS_CASES: [(&str, HssCase); 5] = [
     (
         "verify 10/4",
         HssCase::Verify(Hierarchy(&[(LmsType::H10, OtsType::W4)])),
+    ),
+    (
+        "verify 10/4 chain by chain",
+        HssCase::VerifyOneByOne(Hierarchy(&[(LmsType::H10, OtsType::W4)])),
+    ),
+    (
+        "verify 10/8",
+        HssCase::Verify(Hierarchy(&[(LmsType::H10, OtsType::W8)])),
+    ),
+    (
+        "verify 10/8 chain by chain",
+        HssCase::VerifyOneByOne(Hierarchy(&[(LmsType::H10, OtsType::W8)])),
     ),
     (
         "verify 5/8,5/8",
@@ -33,11 +45,12 @@ pub const HSS_CASES: [(&str, HssCase); 5] = [
 /// The key whose trees are covered.
 pub const COVERED: Hierarchy = Hierarchy(&[(LmsType::H10, OtsType::W8); 2]);
 
-/// What is timed: the verification of a signature under a key of these levels, or the signing with
-/// the trees at hand.
+/// What is timed: the verification of a signature under a key of these levels, chains by eights or
+/// one by one, or the signing with the trees at hand.
 #[derive(Clone, Copy)]
 pub enum HssCase {
     Verify(Hierarchy),
+    VerifyOneByOne(Hierarchy),
     Sign(Hierarchy),
 }
 
@@ -82,7 +95,9 @@ pub struct HssBench {
 
 impl HssBench {
     pub fn new(rt: &(impl Threads + Sync), alloc: Global, case: HssCase) -> Result<Self, Fault> {
-        let (HssCase::Verify(hierarchy) | HssCase::Sign(hierarchy)) = case;
+        let (HssCase::Verify(hierarchy)
+        | HssCase::VerifyOneByOne(hierarchy)
+        | HssCase::Sign(hierarchy)) = case;
         let forest = forest(rt, alloc, hierarchy)?;
         let signature = signature(&forest)?;
         let public = forest.public();
@@ -98,7 +113,9 @@ impl HssBench {
     /// The compressions that it needs.
     pub fn compressions(&self) -> Result<u64, Fault> {
         match self.case {
-            HssCase::Verify(hierarchy) => Ok(count(hierarchy, &self.signature)?.verification),
+            HssCase::Verify(hierarchy) | HssCase::VerifyOneByOne(hierarchy) => {
+                Ok(count(hierarchy, &self.signature)?.verification)
+            }
             HssCase::Sign(hierarchy) => Ok(count(hierarchy, &self.signature)?.signature),
         }
     }
@@ -106,8 +123,8 @@ impl HssBench {
     /// Verifies the signature, and flips the last bit of its path, so that no run can be left out.
     /// What then is refused took as many compressions as what is accepted, since the path's end is
     /// looked at last.
-    fn verify(&mut self) -> Result<(), Fault> {
-        if verify(&self.public, &MESSAGE, &self.signature) != self.is_valid {
+    fn verify<C: ChainEnds>(&mut self, ends: C) -> Result<(), Fault> {
+        if verify_with(&self.public, &MESSAGE, &self.signature, ends) != self.is_valid {
             return Err(Fault::Verdict);
         }
         if let Some(byte) = self.signature.last_mut() {
@@ -131,7 +148,8 @@ impl Timed for HssBench {
     fn repeat(&mut self, runs: u64) -> Result<(), Fault> {
         for _ in 0..runs {
             match self.case {
-                HssCase::Verify(_) => self.verify()?,
+                HssCase::Verify(_) => self.verify(ByEights)?,
+                HssCase::VerifyOneByOne(_) => self.verify(OneByOne)?,
                 HssCase::Sign(_) => self.sign()?,
             }
         }

@@ -1,8 +1,10 @@
 //! Signing by the bytes of kept nodes, timed in one thread.
+ghost use Rattle.std.specs.Prelude.{◌≡◌};
+
 use crate::case::Timed;
 use crate::hss_case::{COVERED, count};
 use bench_base::{Fault, Hierarchy, MESSAGE, RANDOMIZER, reading_compressions};
-use lms_hss::Unwatched;
+use lms_hss::{HssKey, Unwatched};
 use lms_kept::KeptTrees;
 use lms_params::{LmsType, OtsType};
 use std::alloc::Global;
@@ -36,9 +38,10 @@ impl KeptBench {
         alloc: Global,
         hierarchy: Hierarchy,
     ) -> Result<Self, Fault> {
-        let trees = KeptTrees::compute(rt, alloc, hierarchy.key()?, INDEX - 1, &Unwatched)?;
+        let key = hierarchy.key()?;
+        let trees = KeptTrees::compute(rt, alloc, key, INDEX - 1, &Unwatched)?;
         let text = trees.text(alloc)?;
-        let signature = signature(alloc, &trees)?;
+        let signature = signature(alloc, &key, &trees)?;
         Ok(KeptBench {
             hierarchy,
             text,
@@ -58,10 +61,11 @@ impl KeptBench {
 
     /// Reads the nodes, signs by them and looks at the signature, so that no run can be left out.
     fn sign(&self) -> Result<(), Fault> {
-        let Some(trees) = KeptTrees::read(self.alloc, self.hierarchy.key()?, &self.text)? else {
+        let key = self.hierarchy.key()?;
+        let Some(trees) = KeptTrees::read(self.alloc, key, &self.text)? else {
             return Err(Fault::Result);
         };
-        if signature(self.alloc, &trees)? == self.signature {
+        if signature(self.alloc, &key, &trees)? == self.signature {
             Ok(())
         } else {
             Err(Fault::Result)
@@ -79,12 +83,18 @@ impl Timed for KeptBench {
 }
 
 /// A signature that is accepted.
-fn signature(alloc: Global, trees: &KeptTrees) -> Result<Vec<u8>, Fault> {
+fn signature(alloc: Global, key: &HssKey, trees: &KeptTrees) -> Result<Vec<u8>, Fault>
+    requires { trees.now.key ≡ key.now }
+{
     if !trees.serves(INDEX) {
         return Err(Fault::Result);
     }
-    match trees.sign(alloc, INDEX, &RANDOMIZER, &MESSAGE)? {
-        Some(signature) => Ok(signature),
-        None => Err(Fault::Verdict),
-    }
+    let Ok(memory) = Vec::with_capacity(alloc, key.sig_len()) else {
+        return Err(Fault::OutOfMemory);
+    };
+    Ok(
+        trees
+            .sign(memory, INDEX, &RANDOMIZER, &MESSAGE)
+            .ok_or(Fault::Verdict)?,
+    )
 }

@@ -14,7 +14,7 @@ use lms_shared_book::{Blanks, BookLedger, Desk, SharedBook};
 use std::alloc::Global;
 use std::marker::Brand;
 use std::sync::Wait;
-use std::sync::ledger::Blank;
+use std::sync::ledger::{Blank, Ledger};
 use std::thread::Threads;
 use std::time::{Clock, CpuClock, Duration};
 
@@ -137,7 +137,7 @@ fn count(key: &HssKey, jobs: &[Job], signatures: &[Vec<u8>]) -> Result<u64, Faul
 }
 
 /// Signs the jobs by a book that is shared meanwhile, with one desk.
-fn sign_shared<E: BookLedger, G: BookLedger, B: BookLedger, R>(
+fn sign_shared<E: BookLedger, G: Ledger, B: Ledger, R>(
     rt: &R,
     book: Book<MemoryStore>,
     blanks: Blanks,
@@ -154,7 +154,7 @@ where
 {
     match SharedBook::<MemoryStore, E, G, B>::share(rt.alloc(), book, blanks, 1) {
         Ok((shared, mut desks)) => match desks.first_mut() {
-            Some(desk) => sign_at(
+            Some(desk) => sign_at_desk(
                 rt,
                 &SigningService::over(shared),
                 desk,
@@ -169,7 +169,7 @@ where
 }
 
 /// Signs the jobs at a desk.
-fn sign_at<E: BookLedger, G: BookLedger, B: BookLedger, R>(
+fn sign_at_desk<E: BookLedger, G: Ledger, B: Ledger, R>(
     rt: &R,
     service: &SigningService<MemoryStore, E, G, B>,
     desk: &mut Desk<E, G, B>,

@@ -1,5 +1,5 @@
 -- Slots, and the signatures in them.
-use Rattle.std.proofs.Common.{◌≡◌, ℕ, zero, suc, ◌+◌, ◌<◌, List, [], ◌∷◌, length, map, ◌++◌, append_assoc, append-nil}
+use Rattle.std.proofs.Common.{◌≡◌, ℕ, zero, suc, ◌+◌, ◌<◌, List, [], ◌∷◌, length, map, ◌++◌, append-nil}
 use Rattle.std.proofs.Common.{Option, None, Some, true, replicate, refl, ap, sym, ◌∙◌, arith, subst, ◌⊎◌, inl, inr}
 use Rattle.std.proofs.Common.{⊎_elim, Vec, Global}
 use Rattle.std.proofs.Math.ListN.{set}
@@ -135,13 +135,6 @@ HoldsOnly-whole (x ∷ xs) (Some v ∷ slots) holds all =
       ap (λ (ys : List (Option (List ℕ))). Some x ∷ ys) rest.1
           ∙ ap (λ (y : List ℕ). Some y ∷ contents slots) (sym holds.0),
     )
-
--- one more filled slot, in a walk over all
-pub filter_map-next : {V : Type 0} (whole done : List V) (rest next : List (Option V)) (v : V)
-    → whole ≡ done ++ filter_map (λ s. s) rest → rest ≡ Some v ∷ next
-    → whole ≡ (done ++ v ∷ []) ++ filter_map (λ s. s) next
-filter_map-next whole done rest next v h r =
-    h ∙ ap (λ xs. done ++ filter_map (λ s. s) xs) r ∙ sym (append_assoc done (v ∷ []) (filter_map (λ s. s) next))
 
 -- at the end of the walk nothing is left
 pub filter_map-end : {V : Type 0} (whole done : List V) (rest : List (Option V))

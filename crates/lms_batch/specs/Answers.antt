@@ -33,7 +33,8 @@ IsBatchOfNone (Complete start signatures) = (start ≡ 0) × (signatures.items �
 IsBatchOfNone (Partial start slots) = ⊥
 
 -- what a desk counts of a batch of so many jobs: one entry, where there are any, and an index
--- received for each
+-- received for each; nothing where there are too many; and what it counts of a reservation that was
+-- refused
 abbrev pub CountsBatch : ℕ → Sums → Result Batch BatchFault → Sums → Type 0
 CountsBatch count old (Ok batch) new = new ≡ plus old (sums (min 1 count) count 0)
 CountsBatch count old (Err TooMany) new = (most_jobs < count) × (new ≡ old)
@@ -41,8 +42,9 @@ CountsBatch count old (Err (Book fault)) new = Counts count old (Err fault) new
 CountsBatch count old (Err (OutOfMemory burnt)) new =
     (burnt ≡ count) × (new ≡ plus old (sums 1 count 0))
 
--- what is answered where the reservation was answered so: a lease's batch begins with its first
--- index
+-- what is answered where the reservation was answered so: after a lease, a batch that begins with
+-- its first index, or that memory is refused and all its indices are burnt; else the fault of the
+-- reservation
 abbrev pub IsAnswerAfter : Result LeaseState BookFault → Result Batch BatchFault → Type 0
 IsAnswerAfter (Ok lease) (Ok batch) = start_of batch ≡ lease.start
 IsAnswerAfter (Ok lease) (Err (OutOfMemory burnt)) = burnt ≡ lease.len

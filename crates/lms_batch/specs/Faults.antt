@@ -6,7 +6,7 @@ use Rattle.lms_book.specs.Faults.{book_fault_text}
 use Rattle.lms_batch.specs.declared.fault.BatchFault.{BatchFault}
 use Rattle.lms_batch.specs.declared.fault.BatchFault.TheVariants.{TooMany, Book, OutOfMemory}
 
--- the text of a batch that was not made
+-- what is printed where no batch was made
 abbrev pub batch_fault_text : BatchFault → List ℕ
 batch_fault_text TooMany = codes "too many jobs"
 batch_fault_text (Book fault) = book_fault_text fault

@@ -1,27 +1,11 @@
 -- What an open lease answers.
-use Rattle.std.specs.Prelude.{◌≡◌, ℕ, ◌+◌, ◌<◌, ◌≤◌, All, Result, Ok, Err, IfOk, IfErr, Vec, vec_len}
-use Rattle.std.specs.Global.{Global}
-use Rattle.lms_hss.specs.Covered.{Covered}
+use Rattle.std.specs.Prelude.{◌≡◌, ℕ, ◌+◌, ◌<◌, ◌≤◌, Result, Ok, Err}
 use Rattle.lms_pool.specs.declared.call_log.Reply.{Reply}
 use Rattle.lms_pool.specs.declared.call_log.Reply.TheVariants as replies
-use Rattle.lms_book.specs.States.{LeaseState}
-use Rattle.lms_pool.specs.States.{IsOver, PoolState, SeatState, new_seats}
+use Rattle.lms_pool.specs.States.{PoolState}
 use Rattle.lms_batch.specs.Jobs.{JobText, SignedJob}
 use Rattle.lms_batch.specs.declared.fault.SignFault.{SignFault}
 use Rattle.lms_batch.specs.declared.fault.SignFault.TheVariants.{Ended, OutOfMemory}
-
--- the indices of a pool's lease
-abbrev pub covered_of : PoolState → Covered
-covered_of pool = record { key = pool.key; start = pool.start; len = pool.len }
-
--- a lease is opened with so many seats, all of its pool; or it is handed back as it was
-pub record OpensLease {E : Type 0} (lease : LeaseState) (count : ℕ)
-    (result : Result (PoolState × Vec SeatState Global) (E × LeaseState)) : Type 0 where
-  pub pool : IfOk result (λ r. IsOver lease count r.0)
-  pub seats : IfOk result (λ r. r.1.items ≡ new_seats r.0 count)
-  pub counted : IfOk result (λ r. vec_len r.1 ≡ count)
-  pub own : IfOk result (λ r. All (λ seat. seat.pool ≡ r.0) r.1.items)
-  pub err : IfErr result (λ e. e.1 ≡ lease)
 
 -- the job was signed at this place of the pool's lease
 pub record IsReceiptAt (pool : PoolState) (place : ℕ) (job : JobText)

@@ -9,7 +9,7 @@ use Rattle.lms_batch.specs.declared.fault.TakeFault.TheVariants.{Stranger, Twice
 use Rattle.lms_batch.specs.declared.collector.Batch.{Batch}
 use Rattle.lms_batch.specs.declared.collector.Batch.TheVariants.{Complete, Partial}
 
--- the signed job is the one of its place
+-- a signed job is of the batch: of its key, with the index and the job of its place
 pub record Belongs (batch : Collected) (signed : SignedJob) : Type 0 where
   pub key : signed.key ≡ batch.key
   pub index : signed.index ≡ batch.start + signed.place

@@ -20,7 +20,8 @@ pub enum Batch {
         start: u64,
         signatures: Vec<Vec<u8>>,
     },
-    /// Of some of them or none: a slot a job, in their order, one of them empty at least.
+    /// Of some of them or none: a slot for each job, in their order, of which at least one is
+    /// empty.
     Partial {
         start: u64,
         slots: Vec<Option<Vec<u8>>>,

@@ -18,8 +18,8 @@ use lms_pool::DrawSeat;
 use std::alloc::Global;
 use std::thread::{self, Threads};
 
-/// What a batch needs before its lease is opened: a collector, and for each worker a place and a
-/// list with capacity for the receipts of all jobs.
+/// What a batch needs before its lease is opened: a collector, capacity for the workers, and for
+/// each of them a list with capacity for the receipts of all jobs.
 #[derive(Drop)]
 struct Crew<'a> {
     collector: Collector<'a>,
@@ -32,7 +32,8 @@ struct Crew<'a> {
 }
 
 impl<'a> Crew<'a> {
-    /// A crew of so many workers for jobs that are signed by indices of the key from `start` on.
+    /// A crew for so many workers, none of which is made yet, and for jobs that are signed by
+    /// indices of the key from `start` on. `OutOfMemory` where memory is refused.
     fn new(
         alloc: Global,
         key: HssKey,
@@ -59,7 +60,8 @@ impl<'a> Crew<'a> {
         })
     }
 
-    /// Makes a worker for each list, with a seat of the open lease.
+    /// Makes a worker for each list, at a seat of the open lease, and hands them out with the
+    /// collector.
     fn seated(self, lease: &'a OpenLease, seats: Vec<DrawSeat>) -> (Collector<'a>, Vec<Worker<'a>>)
         requires places { lease.now.len ≡ length self.jobs.now }
         requires own { All (λ seat. seat.pool ≡ lease.now) seats.items }
@@ -100,11 +102,12 @@ fn gathered<'a>(collector: Collector<'a>, workers: Vec<Worker<'a>>) -> Batch
 }
 
 /// Signs the jobs by the indices of the lease, one for each, by 1 to `MOST_WORKERS` workers, but no
-/// more than there are jobs. `trees` are those of the lease, which are computed where they are not
-/// kept there; how many of their leaves are is reported to `progress`.
+/// more than there are jobs; the batch is `Partial` where memory is refused to a worker. The lease's
+/// trees are taken out of `trees`, which computes what it has not kept, and are handed back to it;
+/// how many leaves are computed is reported to `progress`.
 ///
 /// `OutOfMemory` where memory is refused before any worker runs, with the lease handed back as it
-/// was.
+/// was; kept trees may be dropped then.
 pub(crate) fn sign_leased<R: Threads + Sync, G: Gate>(
     rt: &R,
     alloc: Global,

@@ -49,6 +49,7 @@ pub enum TakeFault {
 pub enum SignFault {
     /// No place is left.
     Ended,
-    /// The place was claimed, and memory was refused.
+    /// A place was claimed, and memory for the signature was refused. This is the pass of that
+    /// place.
     OutOfMemory(IndexPass),
 }

@@ -15,6 +15,7 @@ use lms_shared_book::{BookLedger, Desk, SharedBook};
 use std::alloc::Global;
 use std::marker::{Model, Sync};
 use std::sync::Wait;
+use std::sync::ledger::Ledger;
 use std::thread::Threads;
 
 /// The most workers of a batch.
@@ -22,12 +23,11 @@ pub const MOST_WORKERS: usize = 64;
 
 /// Signs batches by the indices of a shared book. Contracts see its key and its number of desks.
 #[derive(Drop)]
-pub struct SigningService<S: StateStore, E: BookLedger, G: BookLedger, B: BookLedger> {
+pub struct SigningService<S: StateStore, E: BookLedger, G: Ledger, B: Ledger> {
     book: SharedBook<S, E, G, B>,
 }
 
-impl<S: StateStore, E: BookLedger, G: BookLedger, B: BookLedger> Model
-    for SigningService<S, E, G, B> {
+impl<S: StateStore, E: BookLedger, G: Ledger, B: Ledger> Model for SigningService<S, E, G, B> {
     ghost use Rattle.lms_shared_book.specs.Desks.{SharedState};
 
     ghost Value = { SharedState };
@@ -35,7 +35,7 @@ impl<S: StateStore, E: BookLedger, G: BookLedger, B: BookLedger> Model
     ghost view = { λ s. s.book };
 }
 
-impl<S: StateStore, E: BookLedger, G: BookLedger, B: BookLedger> SigningService<S, E, G, B> {
+impl<S: StateStore, E: BookLedger, G: Ledger, B: Ledger> SigningService<S, E, G, B> {
     /// The service over a shared book.
     pub fn over(book: SharedBook<S, E, G, B>) -> Self
         ensures { result ≡ book }
@@ -82,39 +82,13 @@ impl<S: StateStore, E: BookLedger, G: BookLedger, B: BookLedger> SigningService<
         requires at_most { workers ≤ most_workers }
         ensures { SignsBatch self.now jobs.now desk.old result desk.new }
     {
-        self.sign_batch_watched(rt, alloc, desk, jobs, workers, gate, &Unwatched)
+        let trees = &mut Trees::per_batch();
+        self.sign_batch_by(rt, alloc, desk, jobs, workers, gate, &Unwatched, trees)
     }
 
-    /// As `sign_batch`, and reports to `progress` how many leaves of the trees that the batch needs
-    /// are computed.
-    pub fn sign_batch_watched<R: Threads + Wait + Sync, W: Gate>(
-        &self,
-        rt: &R,
-        alloc: Global,
-        desk: &mut Desk<E, G, B>,
-        jobs: &[Job],
-        workers: usize,
-        gate: &W,
-        progress: &impl Progress,
-    ) -> Result<Batch, BatchFault>
-        requires some { 1 ≤ workers }
-        requires at_most { workers ≤ most_workers }
-        ensures { SignsBatch self.now jobs.now desk.old result desk.new }
-    {
-        self.sign_batch_by(
-            rt,
-            alloc,
-            desk,
-            jobs,
-            workers,
-            gate,
-            progress,
-            &mut Trees::per_batch(),
-        )
-    }
-
-    /// As `sign_batch_watched`, by trees that are kept from one batch to the next. What it answers
-    /// does not depend on these: trees that are not the key's or not those of the indices are
+    /// As `sign_batch`, by `trees`, which may be kept from one batch to the next; `progress` gets
+    /// how many of their leaves are computed. What it answers does not depend on what is kept:
+    /// where that is of another key or does not cover all indices of the batch, what is missing is
     /// computed.
     pub fn sign_batch_by<R: Threads + Wait + Sync, W: Gate>(
         &self,

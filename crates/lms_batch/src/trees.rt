@@ -27,7 +27,8 @@ pub struct Trees {
 }
 
 impl Trees {
-    /// Of each batch the trees that its indices go through, and no others.
+    /// Trees that are computed for each batch, those that its indices go through and no others, and
+    /// that are not kept.
     pub fn per_batch() -> Self {
         Trees {
             forest: None,
@@ -38,8 +39,9 @@ impl Trees {
 
     /// The trees of a window of up to 1024 indices, kept for as long as the batches' indices are in
     /// it; then the first tree of each level that the next window needs stays, where it is there. A
-    /// window begins at a multiple of 1024, so that it is whole bottom trees of up to 10 levels, or a
-    /// part of a taller one; where a batch reaches into the next window, it begins with the batch.
+    /// window begins at a multiple of 1024, so that it is whole bottom trees of height 5 or 10, or
+    /// a part of a taller one; where a batch would reach past such a window, the window begins with
+    /// the batch.
     pub fn kept() -> Self {
         Trees {
             forest: None,
@@ -48,8 +50,9 @@ impl Trees {
         }
     }
 
-    /// How many jobs a batch of the next indices may have, so that none of them is past the trees
-    /// that are kept: 1 to `MOST_JOBS`, and all these where no index is left before that.
+    /// How many jobs a batch of the next indices may have so that no index is past the trees that
+    /// are kept, 1 to `MOST_JOBS`. It is `MOST_JOBS` where no trees are kept, or where the next
+    /// index is not one that they cover.
     pub fn room(&self) -> usize
         ensures some { 1 ≤ result }
         ensures at_most { result ≤ most_jobs }
@@ -60,9 +63,9 @@ impl Trees {
         }
     }
 
-    /// Computes the trees of the window that an index of a key is in, unless they are there, so that a
-    /// batch that begins with it need not. Nothing where trees are not kept. `OutOfMemory` where
-    /// memory is refused.
+    /// Computes the trees of the window that an index of a key is in, unless they are there, so
+    /// that a batch that begins with this index need not compute them. Does nothing where trees are
+    /// not kept. `OutOfMemory` where memory is refused; no trees are kept then.
     pub fn prepare(
         &mut self,
         rt: &(impl Threads + Sync),
@@ -86,9 +89,10 @@ impl Trees {
         Ok(())
     }
 
-    /// The trees that a lease's indices go through. Those that are kept move on where these indices
-    /// are not among theirs, so that only what is new is computed. `OutOfMemory` where memory is
-    /// refused. Whoever takes them out hands them back by `keep`.
+    /// Takes out trees that cover all indices of a lease. Those that are kept move on where they do
+    /// not cover these, so that only what is new is computed. `OutOfMemory` where memory is
+    /// refused; no trees are kept then. Whoever takes them out hands them back by `keep`, or drops
+    /// them.
     pub(crate) fn take(
         &mut self,
         rt: &(impl Threads + Sync),
@@ -110,14 +114,15 @@ impl Trees {
         moved(rt, alloc, forest, lease.key(), start, len, progress)
     }
 
-    /// Hands trees back.
+    /// Hands trees back, to be kept, or dropped where trees are not kept.
     pub(crate) fn keep(&mut self, forest: Forest) {
         if self.are_kept {
             self.forest = Some(forest);
         }
     }
 
-    /// The indices of which trees are computed for a lease: first and number.
+    /// The indices whose trees are computed for a lease, by the first and their number: those of a
+    /// window where trees are kept, else those of the lease.
     fn range_for(&self, lease: &Lease) -> (u64, u64)
         ensures can { CanCover lease.now.key result.0 result.1 }
         ensures within { IsWithin lease.now.key lease.now.start lease.now.len
@@ -132,8 +137,9 @@ impl Trees {
     }
 }
 
-/// These trees, moved on to 1 to 1024 indices of a key, where they cover others; computed, where they
-/// are another key's.
+/// The trees of `len` indices of a key from `start` on, 1 to 1024: the given ones, moved on where
+/// they cover other indices; or all computed, where they are another key's. `OutOfMemory` where
+/// memory is refused; the given ones are dropped then.
 fn moved(
     rt: &(impl Threads + Sync),
     alloc: Global,
@@ -165,7 +171,7 @@ fn end_of(lease: &Lease) -> u64
     lease.start() + lease.len()
 }
 
-/// Whether the lease's indices are among those that the forest covers.
+/// Whether the forest is of the lease's key and covers all indices of the lease.
 fn holds(forest: &Forest, lease: &Lease) -> bool
     ensures { IsTrue result
         → IsWithin lease.now.key lease.now.start lease.now.len forest.now }
@@ -174,8 +180,8 @@ fn holds(forest: &Forest, lease: &Lease) -> bool
     same_key(&forest.key(), &lease.key()) && forest.covers(lease.start()) && forest.covers(last)
 }
 
-/// How many indices are left of those that the forest covers, from this one on: 1 to `MOST_JOBS`, and
-/// all these where it is not among them.
+/// How many indices are left of those that the forest covers, from this one on, 1 to `MOST_JOBS`.
+/// It is `MOST_JOBS` where this one is not among them.
 fn room_from(forest: &Forest, index: u64) -> usize
     ensures some { 1 ≤ result }
     ensures at_most { result ≤ most_jobs }
@@ -191,7 +197,7 @@ fn room_from(forest: &Forest, index: u64) -> usize
     left as usize
 }
 
-/// The window for these indices of a key: its first and its number.
+/// The window for these indices of a key, by its first index and the number of its indices.
 fn window_around(key: &HssKey, start: u64, len: u64) -> (u64, u64)
     requires { CanCover key.now start len }
     ensures can { CanCover key.now result.0 result.1 }

@@ -27,8 +27,8 @@ pub(crate) struct Worker<'a> {
 }
 
 impl<'a> Worker<'a> {
-    /// A worker for these jobs, one for each place of the lease, with a list that has capacity for
-    /// their receipts.
+    /// A worker at this seat, for these jobs, of which each place of the lease has one. The list
+    /// has capacity for the receipts of all of them.
     pub(crate) fn new(
         lease: &'a OpenLease,
         jobs: &'a [Job],
@@ -50,7 +50,7 @@ impl<'a> Worker<'a> {
     }
 
     /// Signs the jobs of the places that it claims, until no place is left. Where memory is
-    /// refused, it leaves none.
+    /// refused, it stops the pool, so that none is left.
     pub(crate) fn work<G: Gate>(&mut self, gate: &G)
         ensures { seen self.new.seat ≡ self.new.lease.now.len }
     {

@@ -1,399 +1,388 @@
-ghost use Rattle.std.specs.Prelude.{◌≡◌, ◌≤◌, []};
+ghost use Rattle.std.specs.Prelude.{◌≡◌};
+ghost use Rattle.lms_shared_book.specs.Desks.{BlankFits};
 
+mod at_once;
 mod faults;
 mod fixtures;
-mod service;
+mod gates;
+mod kept;
+mod memory;
+mod outcome;
 
-use crate::tests::fixtures::{CHEAP, LEVELS, job, opened, public_key};
-use lms_batch::{Batch, Collector, Job, OpenLease, Receipt, SignFault, TakeFault};
-use lms_fixtures::key_of;
-use lms_hss::verify;
+use crate::tests::fixtures::{CHEAP, LEVELS, job, public_key};
+use gates::Meeting;
+use kept::Means;
+use lms_batch::{BatchFault, Gate, Job, MOST_WORKERS, OpenGate, SigningService, Trees};
+use lms_book::{Book, BookFault, Entry, Left, MemoryStore};
+use lms_fixtures::{book_of, key_of, store_at};
 use lms_params::{LmsType, OtsType, OutOfMemory};
-use lms_pool::{DrawSeat, IndexPass, MissingSeats};
-use lms_slow::{SlowKey, slow_sign};
-use std::alloc::Global;
+use lms_shared_book::{Blanks, BookLedger, Desk, SharedBook};
+use outcome::{Answer, Outcome};
+use std::alloc::{AllocGlobal, Global};
+use std::marker::Brand;
+use std::sync::Wait;
+use std::sync::ledger::{Blank, Ledger};
 use std::test::Fail;
+use std::thread;
 use std::thread::Threads;
 
-/// The slow signer's signature of a job by an index of a key of these levels.
-pub(crate) fn slow(
-    alloc: Global,
-    levels: &[(LmsType, OtsType); 2],
-    g: u64,
-    job: &Job,
-) -> Result<Vec<u8>, Fail> {
-    let key = SlowKey {
-        levels,
-        seed: [0x11; 32],
-        id: [0x22; 16],
+/// What is asked of a service that has four desks: batches one after another at the first desk, of
+/// the first so many jobs each.
+#[derive(Drop)]
+struct Asked<'a, W> {
+    jobs: &'a [Job],
+    lengths: &'a [usize],
+    workers: usize,
+    gate: &'a W,
+    /// Whether each of the four desks asks for them, in a thread of its own.
+    at_once: bool,
+}
+
+/// What a desk counted: entries, received, burnt.
+fn counts<E: BookLedger, G: Ledger, B: Ledger>(desk: &Desk<E, G, B>) -> (u64, u64, u64) {
+    (desk.entries(), desk.received(), desk.burnt())
+}
+
+/// Asks for a batch of so many of the jobs, by 1 to `MOST_WORKERS` workers, and by trees of its own
+/// where all desks ask at once.
+fn answer_at<E: BookLedger, G: Ledger, B: Ledger, W: Gate>(
+    rt: &(impl AllocGlobal + Threads + Wait + Sync),
+    service: &SigningService<MemoryStore, E, G, B>,
+    desk: &mut Desk<E, G, B>,
+    asked: &Asked<W>,
+    length: usize,
+    means: &mut Means,
+) -> Answer {
+    let length = length.min(asked.jobs.len());
+    let workers = asked.workers.clamp(1, MOST_WORKERS);
+    let jobs = &asked.jobs[..length];
+    let (alloc, gate) = (rt.alloc(), asked.gate);
+    let batch = if asked.at_once {
+        service.sign_batch(rt, alloc, desk, jobs, workers, gate)
+    } else {
+        let trees = &mut means.trees;
+        service.sign_batch_by(rt, alloc, desk, jobs, workers, gate, &means.sums, trees)
     };
-    Ok(slow_sign(alloc, &key, g, &job.c, &job.message)?)
-}
-
-/// Signs a job at the next place. Takes no runtime, so it waits for nobody.
-fn signed<'j>(lease: &OpenLease, seat: &mut DrawSeat, job: &'j Job) -> Result<Receipt<'j>, Fail>
-    requires { seat.old.pool ≡ lease.now }
-    ensures { seat.new.pool ≡ lease.now }
-{
-    match lease.sign(seat, job) {
-        Ok(receipt) => Ok(receipt),
-        Err(SignFault::Ended) => Err(Fail::from("no place is left")),
-        Err(SignFault::OutOfMemory(pass)) => {
-            pass.burn();
-            Err(Fail::from("memory for a signature"))
-        }
+    Answer {
+        batch,
+        counts: counts(desk),
     }
 }
 
-/// Claims the next place, and signs a job there. Takes no runtime.
-fn signed_after_claim<'j>(
-    lease: &OpenLease,
-    seat: &mut DrawSeat,
-    job: &'j Job,
-) -> Result<Receipt<'j>, Fail>
-    requires { seat.old.pool ≡ lease.now }
-    ensures { seat.new.pool ≡ lease.now }
-{
-    match lease.claim(seat) {
-        Ok(pass) => signed_with(lease, pass, job),
-        Err(_) => Err(Fail::from("no place is left")),
+/// An empty list with the capacity for so many answers. Memory that is refused once is asked for
+/// again.
+fn no_answers(alloc: Global, count: usize) -> Result<Vec<Answer>, OutOfMemory> {
+    match Vec::with_capacity(alloc, count) {
+        Ok(answers) => Ok(answers),
+        Err(_) => Ok(Vec::with_capacity(alloc, count)?),
     }
 }
 
-/// Signs a job at the next place, with the pass that is handed back where memory was refused.
-fn signed_at_last<'j>(
-    lease: &OpenLease,
-    seat: &mut DrawSeat,
-    job: &'j Job,
-) -> Result<Receipt<'j>, Fail>
-    requires { seat.old.pool ≡ lease.now }
-    ensures { seat.new.pool ≡ lease.now }
-{
-    match lease.sign(seat, job) {
-        Ok(receipt) => Ok(receipt),
-        Err(SignFault::Ended) => Err(Fail::from("no place is left")),
-        Err(SignFault::OutOfMemory(pass)) => signed_with(lease, pass, job),
+/// Asks for the batches at a desk.
+fn answers_at<E: BookLedger, G: Ledger, B: Ledger, W: Gate>(
+    rt: &(impl AllocGlobal + Threads + Wait + Sync),
+    service: &SigningService<MemoryStore, E, G, B>,
+    desk: &mut Desk<E, G, B>,
+    asked: &Asked<W>,
+    means: &mut Means,
+) -> Result<Vec<Answer>, OutOfMemory> {
+    let mut answers = no_answers(rt.alloc(), asked.lengths.len())?;
+    for length in asked.lengths {
+        answers.push(answer_at(rt, service, desk, asked, *length, means))?;
     }
+    Ok(answers)
 }
 
-/// Signs a job with a pass, and again with the pass that is handed back where memory was refused.
-fn signed_with<'j>(lease: &OpenLease, pass: IndexPass, job: &'j Job) -> Result<Receipt<'j>, Fail>
-    requires { pass.pool ≡ lease.now }
-{
-    match lease.sign_with(pass, job) {
-        Ok(receipt) => Ok(receipt),
-        Err((_, pass)) => signed_again(lease, pass, job),
-    }
+/// The same, by a thread that hands the desk back.
+fn visited<E: BookLedger, G: Ledger, B: Ledger, W: Gate>(
+    rt: &(impl AllocGlobal + Threads + Wait + Sync),
+    service: &SigningService<MemoryStore, E, G, B>,
+    desk: Desk<E, G, B>,
+    asked: &Asked<W>,
+) -> (Desk<E, G, B>, Result<Vec<Answer>, OutOfMemory>) {
+    let mut desk = desk;
+    let mut means = Means::new(Trees::per_batch());
+    let answers = answers_at(rt, service, &mut desk, asked, &mut means);
+    (desk, answers)
 }
 
-/// Signs a job with a pass at the second try.
-fn signed_again<'j>(lease: &OpenLease, pass: IndexPass, job: &'j Job) -> Result<Receipt<'j>, Fail>
-    requires { pass.pool ≡ lease.now }
-{
-    match lease.sign_with(pass, job) {
-        Ok(receipt) => Ok(receipt),
-        Err((_, pass)) => {
-            pass.burn();
-            Err(Fail::from("memory for a signature"))
-        }
-    }
-}
-
-/// Whether no place is left to sign a job at.
-fn has_ended(lease: &OpenLease, seat: &mut DrawSeat, job: &Job) -> bool
-    requires { seat.old.pool ≡ lease.now }
-    ensures { seat.new.pool ≡ lease.now }
-{
-    match lease.sign(seat, job) {
-        Ok(_) => false,
-        Err(SignFault::Ended) => true,
-        Err(SignFault::OutOfMemory(pass)) => {
-            pass.burn();
-            false
-        }
-    }
-}
-
-/// Whether a receipt is of this place and index, and its signature the slow signer's of the job.
-fn is_at(
-    alloc: Global,
-    receipt: &Receipt,
-    job: &Job,
-    place: u64,
-    index: u64,
-) -> Result<bool, Fail> {
-    let is_there = receipt.place() == place && receipt.index() == index;
-    Ok(is_there && receipt.signature() == slow(alloc, &LEVELS, index, job)?.as_slice())
-}
-
-/// Whether the next receipt is right, and the one after it, made by a claim and a signature.
-fn signs_twice(
-    alloc: Global,
-    lease: &OpenLease,
-    seat: &mut DrawSeat,
-    job: &Job,
-    start: u64,
-) -> Result<bool, Fail>
-    requires within { start ≤ 900 }
-    requires own { seat.old.pool ≡ lease.now }
-    ensures { seat.new.pool ≡ lease.now }
-{
-    let first = signed(lease, seat, job)?;
-    let second = signed_after_claim(lease, seat, job)?;
-    Ok(is_at(alloc, &first, job, 0, start)? && is_at(alloc, &second, job, 1, start + 1)?)
-}
-
-/// Ends a lease whose one seat is there: how many places were claimed, stopped and left.
-fn finished(alloc: Global, lease: OpenLease, seat: DrawSeat) -> Result<(u64, u64, u64), Fail>
-    requires { seat.pool ≡ lease }
-{
-    match lease.finish(Vec::new(alloc)) {
-        Ok(_) => Err(Fail::from("the seat is missing")),
-        Err((MissingSeats { present: 0 }, lease, seats)) => finished_with(lease, seats, seat),
-        Err(_) => Err(Fail::from("no seat is there")),
-    }
-}
-
-/// Ends a lease with its one seat.
-fn finished_with(
-    lease: OpenLease,
-    seats: Vec<DrawSeat>,
-    seat: DrawSeat,
-) -> Result<(u64, u64, u64), Fail>
-    requires none { seats.items ≡ [] }
-    requires own { seat.pool ≡ lease }
-{
-    let mut seats = seats;
-    seats.push(seat)?;
-    match lease.finish(seats) {
-        Ok(tally) => Ok((tally.claimed, tally.stopped, tally.left)),
-        Err(_) => Err(Fail::from("the seat is there")),
-    }
-}
-
-/// How many places are taken, how many a stop burns, and whether no place is left then.
-fn stopped(lease: &OpenLease, seat: &mut DrawSeat, job: &Job) -> (u64, u64, bool)
-    requires { seat.old.pool ≡ lease.now }
-    ensures { seat.new.pool ≡ lease.now }
-{
-    let taken = lease.look(seat);
-    let burnt = lease.stop(seat);
-    (taken, burnt, has_ended(lease, seat, job))
-}
-
-#[test]
-fn signs_without_a_wait(rt: HostRuntime) -> Result<(), Fail> {
-    let job = job(rt.alloc(), b"abc")?;
-    let (lease, mut seat) = opened(&rt, &LEVELS, 0x11, 31, 4)?;
-    assert!(rt; signs_twice(rt.alloc(), &lease, &mut seat, &job, 31)?);
-    assert!(rt; stopped(&lease, &mut seat, &job) == (2, 2, true));
-    assert!(rt; finished(rt.alloc(), lease, seat)? == (2, 2, 0));
+/// Puts what a thread got after the answers.
+fn keep(
+    answers: &mut Vec<Answer>,
+    found: Result<Vec<Answer>, OutOfMemory>,
+) -> Result<(), OutOfMemory> {
+    let mut found = found?;
+    answers.append(&mut found)?;
     Ok(())
 }
 
-/// Why a receipt is not taken, `None` where it is.
-fn refusal<'j>(collector: &mut Collector<'j>, receipt: Receipt<'j>) -> Option<TakeFault> {
-    match collector.take(receipt) {
-        Ok(()) => None,
-        Err((fault, _)) => Some(fault),
-    }
-}
-
-/// The seat after so many claims, whose passes are burnt.
-fn after_claims(lease: &OpenLease, seat: DrawSeat, claims: u64) -> DrawSeat
-    requires { seat.pool ≡ lease.now }
-    ensures { result.pool ≡ lease.now }
-{
-    let mut seat = seat;
-    for _ in 0..claims {
-        if let Ok(pass) = lease.claim(&mut seat) {
-            pass.burn();
-        }
-    }
-    seat
-}
-
-/// The receipt of a job of another book of this seed, at a place of a lease from `start` on.
-fn receipt_of_another<'j>(
-    rt: &(impl AllocGlobal + Threads + Sync),
-    seed: u8,
-    start: u64,
-    place: u64,
-    job: &'j Job,
-) -> Result<Receipt<'j>, Fail> {
-    if place > 8 {
-        return Err(Fail::from("a place past 8"));
-    }
-    let (lease, seat) = opened(rt, &LEVELS, seed, start, place + 1)?;
-    let mut seat = after_claims(&lease, seat, place);
-    signed(&lease, &mut seat, job)
-}
-
-/// A receipt of another book: its key's seed, its lease's start, place, job, why it is not taken.
-type Row = (u8, u64, u64, usize, Option<TakeFault>);
-
-/// Receipts of another book, one after another.
-const RECEIPTS: [Row; 7] = [
-    (0x11, 30, 0, 0, None),
-    (0x11, 30, 0, 0, Some(TakeFault::Twice)),
-    (0x12, 30, 0, 0, Some(TakeFault::Stranger)),
-    (0x12, 30, 1, 1, Some(TakeFault::Stranger)),
-    (0x11, 29, 1, 1, Some(TakeFault::Stranger)),
-    (0x11, 30, 2, 1, Some(TakeFault::Stranger)),
-    (0x11, 30, 1, 0, Some(TakeFault::Stranger)),
-];
-
-/// Whether the receipt of a row is taken or refused as the row says.
-fn is_refused_so<'j>(
-    rt: &(impl AllocGlobal + Threads + Sync),
-    collector: &mut Collector<'j>,
-    row: Row,
-    jobs: &'j [Job],
-) -> Result<bool, Fail> {
-    let (seed, start, place, of, expected) = row;
-    match jobs.get(of) {
-        Some(job) => {
-            let receipt = receipt_of_another(rt, seed, start, place, job)?;
-            Ok(refusal(collector, receipt) == expected)
-        }
-        None => Err(Fail::from("one of two jobs")),
-    }
-}
-
-/// Whether a batch begins with index 30 and has the slow signer's signature of its first job alone.
-fn has_the_first_alone(alloc: Global, batch: &Batch, first: &Job) -> Result<bool, Fail> {
-    let Batch::Partial { start, slots } = batch else {
-        return Ok(false);
-    };
-    let expected = [Some(slow(alloc, &LEVELS, 30, first)?), None];
-    Ok(*start == 30 && slots.as_slice() == expected.as_slice())
-}
-
-/// Two jobs of these messages.
-fn two_jobs(alloc: Global, first: &[u8], second: &[u8]) -> Result<[Job; 2], Fail> {
-    let first = job(alloc, first)?;
-    let second = job(alloc, second)?;
-    Ok([first, second])
-}
-
-#[test]
-fn a_place_takes_its_receipt_once(rt: HostRuntime) -> Result<(), Fail> {
-    let jobs = two_jobs(rt.alloc(), b"abc", b"")?;
-    let mut collector = Collector::new(rt.alloc(), key_of(&LEVELS, 0x11)?, 30, &jobs)?;
-    for row in RECEIPTS {
-        let (seed, start, place, of, _) = row;
-        assert!(rt;
-            is_refused_so(&rt, &mut collector, row, &jobs)?,
-            "{seed} {start} {place} {of}"
-        );
-    }
-    assert!(rt; has_the_first_alone(rt.alloc(), &collector.finish(), &jobs[0])?);
-    Ok(())
-}
-
-/// Whether a signature is the slow signer's of a job by an index, and the verifier accepts it.
-fn is_signed_so(
+/// The desks that the threads hand back, and the answers that they got.
+fn gathered<E: BookLedger, G: Ledger, B: Ledger>(
     alloc: Global,
-    public: &[u8],
-    g: u64,
-    job: &Job,
-    signature: &[u8],
-) -> Result<bool, Fail> {
-    let slow = slow(alloc, &LEVELS, g, job)?;
-    Ok(signature == slow.as_slice() && verify(public, &job.message, signature))
+    visits: Vec<(Desk<E, G, B>, Result<Vec<Answer>, OutOfMemory>)>,
+) -> Result<(Vec<Desk<E, G, B>>, Vec<Answer>), OutOfMemory> {
+    let mut desks = Vec::new(alloc);
+    let mut answers = Vec::new(alloc);
+    for (desk, found) in visits {
+        desks.push(desk)?;
+        keep(&mut answers, found)?;
+    }
+    Ok((desks, answers))
 }
 
-/// Whether a batch is complete from this index on, with the slow signer's valid signatures.
-pub(crate) fn is_complete(
-    rt: &(impl AllocGlobal + Threads + Sync),
-    batch: &Batch,
-    first: u64,
+/// Asks for the batches at the first desk, or at all desks at once.
+fn asked_for<
+    E: BookLedger + Send + Sync,
+    G: Ledger + Send + Sync,
+    B: Ledger + Send + Sync,
+    W: Gate,
+>(
+    rt: &(impl AllocGlobal + Threads + Wait + Sync),
+    service: &SigningService<MemoryStore, E, G, B>,
+    desks: Vec<Desk<E, G, B>>,
+    asked: &Asked<W>,
+    means: &mut Means,
+) -> Result<(Vec<Desk<E, G, B>>, Vec<Answer>), Fail> {
+    if asked.at_once {
+        let visits = thread::map_vec(rt, desks, &|desk| visited(rt, service, desk, asked))?;
+        return Ok(gathered(rt.alloc(), visits)?);
+    }
+    let mut desks = desks;
+    let desk = desks.first_mut().ok_or("a desk")?;
+    let answers = answers_at(rt, service, desk, asked, means)?;
+    Ok((desks, answers))
+}
+
+/// Asks a service for the batches, and settles then with all desks.
+fn settled<E: BookLedger + Send + Sync, G: Ledger + Send + Sync, B: Ledger + Send + Sync, W: Gate>(
+    rt: &(impl AllocGlobal + Threads + Wait + Sync),
+    service: SigningService<MemoryStore, E, G, B>,
+    desks: Vec<Desk<E, G, B>>,
+    asked: &Asked<W>,
+    means: &mut Means,
+) -> Result<Outcome, Fail> {
+    let key = service.key();
+    let (desks, answers) = asked_for(rt, &service, desks, asked, means)?;
+    match service.into_book().settle(desks) {
+        Ok(book) => Ok(Outcome { key, answers, book }),
+        Err(_) => Err(Fail::from("all desks are there")),
+    }
+}
+
+/// Shares a book, and asks a service over it for the batches.
+fn carried_out<
+    E: BookLedger + Send + Sync,
+    G: Ledger + Send + Sync,
+    B: Ledger + Send + Sync,
+    W: Gate,
+>(
+    rt: &(impl AllocGlobal + Threads + Wait + Sync),
+    book: Book<MemoryStore>,
+    blanks: Blanks,
+    asked: &Asked<W>,
+    means: &mut Means,
+) -> Result<Outcome, Fail>
+    requires same { book ≡ E.book }
+    requires entries { BlankFits blanks.entries E.name E.parts 5 }
+    requires received { BlankFits blanks.received G.name G.parts 5 }
+    requires burnt { BlankFits blanks.burnt B.name B.parts 5 }
+{
+    let shared = match SharedBook::<MemoryStore, E, G, B>::share(rt.alloc(), book, blanks, 4) {
+        Err((_, book, blanks)) => SharedBook::share(rt.alloc(), book, blanks, 4),
+        answer => answer,
+    };
+    match shared {
+        Ok((shared, desks)) => settled(rt, SigningService::over(shared), desks, asked, means),
+        Err(_) => Err(Fail::from("memory for desks")),
+    }
+}
+
+/// Asks a service over the book of this store for the batches.
+fn carry_out<W: Gate>(
+    rt: &(impl AllocGlobal + Threads + Wait + Sync),
+    store: MemoryStore,
+    asked: &Asked<W>,
+    means: &mut Means,
+) -> Result<Outcome, Fail> {
+    let book = book_of(rt.alloc(), store)?;
+    let blanks = Blanks {
+        entries: Blank::new(5),
+        received: Blank::new(5),
+        burnt: Blank::new(5),
+    };
+    carried_out::<Brand, Brand, Brand, W>(rt, book, blanks, asked, means)
+}
+
+/// The same, by trees of each batch alone.
+fn carry_out_alone<W: Gate>(
+    rt: &(impl AllocGlobal + Threads + Wait + Sync),
+    store: MemoryStore,
+    asked: &Asked<W>,
+) -> Result<Outcome, Fail> {
+    let mut means = Means::new(Trees::per_batch());
+    carry_out(rt, store, asked, &mut means)
+}
+
+/// As many jobs, whose messages are the numbers from 0 on, and whose randomizers begin with them.
+fn jobs_of(alloc: Global, count: usize) -> Result<Vec<Job>, Fail> {
+    let mut jobs = match Vec::with_capacity(alloc, count) {
+        Ok(jobs) => jobs,
+        Err(_) => Vec::with_capacity(alloc, count)?,
+    };
+    for number in 0..count {
+        let number = (number as u64).to_be_bytes();
+        let mut job = job(alloc, &number)?;
+        job.c[..8].copy_from_slice(&number);
+        jobs.push(job)?;
+    }
+    Ok(jobs)
+}
+
+/// Signs jobs at the open gate, over a store of a key of these levels whose next index is this one.
+fn signed_from(
+    rt: &(impl AllocGlobal + Threads + Wait + Sync),
+    levels: &[(LmsType, OtsType)],
+    start: u64,
     jobs: &[Job],
-) -> Result<bool, Fail>
-    requires { first ≤ 900 }
-{
-    let Batch::Complete { start, signatures } = batch else {
-        return Ok(false);
+    lengths: &[usize],
+    workers: usize,
+) -> Result<Outcome, Fail> {
+    let store = store_at(rt.alloc(), key_of(levels, 0x11)?, start)?;
+    let asked = Asked {
+        jobs,
+        lengths,
+        workers,
+        gate: &OpenGate,
+        at_once: false,
     };
-    let public = public_key(rt, key_of(&LEVELS, 0x11)?)?;
-    let mut is_right = *start == first && signatures.len() == jobs.len();
-    for ((signature, job), g) in signatures.iter().zip(jobs).zip(first..1024) {
-        is_right = is_right && is_signed_so(rt.alloc(), &public, g, job, signature)?;
-    }
-    Ok(is_right)
+    carry_out_alone(rt, store, &asked)
 }
 
-/// Whether a collector takes two receipts, one after the other.
-fn takes_both<'j>(collector: &mut Collector<'j>, first: Receipt<'j>, second: Receipt<'j>) -> bool {
-    let is_taken = refusal(collector, first).is_none();
-    refusal(collector, second).is_none() && is_taken
-}
-
-/// Whether a collector takes receipts of its two jobs, by indices 31 and 32, the second one first.
-fn takes_the_second_first<'j>(
-    rt: &(impl AllocGlobal + Threads + Sync),
-    collector: &mut Collector<'j>,
-    jobs: &'j [Job; 2],
+/// Whether so many workers sign four jobs.
+fn four_are_signed(
+    rt: &(impl AllocGlobal + Threads + Wait + Sync),
+    jobs: &[Job],
+    workers: usize,
 ) -> Result<bool, Fail> {
-    let (lease, mut seat) = opened(rt, &LEVELS, 0x11, 31, 2)?;
-    let first = signed(&lease, &mut seat, &jobs[0])?;
-    let second = signed(&lease, &mut seat, &jobs[1])?;
-    Ok(takes_both(collector, second, first))
+    let outcome = signed_from(rt, &LEVELS, 30, jobs, &[4], workers)?;
+    let is_counted = outcome.has_counted(0, (1, 4, 0));
+    let has_ended = outcome.has_ended(&[Entry::Given { len: 4 }], 34);
+    Ok(is_counted && has_ended && outcome.is_complete(rt, 0, 30, jobs)?)
 }
 
 #[test]
-fn a_batch_is_in_the_order_of_its_jobs(rt: HostRuntime) -> Result<(), Fail> {
-    let jobs = two_jobs(rt.alloc(), b"a", b"b")?;
-    let mut collector = Collector::new(rt.alloc(), key_of(&LEVELS, 0x11)?, 31, &jobs)?;
-    assert!(rt; takes_the_second_first(&rt, &mut collector, &jobs)?);
-    assert!(rt; is_complete(&rt, &collector.finish(), 31, &jobs)?);
+fn four_jobs_are_signed_by_each_number_of_workers(rt: HostRuntime) -> Result<(), Fail> {
+    let jobs = jobs_of(rt.alloc(), 4)?;
+    for workers in [1, 4, 64] {
+        assert!(rt; four_are_signed(&rt, &jobs, workers)?, "{workers}");
+    }
     Ok(())
 }
 
-/// A collector for jobs from index 5 of 5/2,5/2 on. Memory that is refused once is asked for again.
-fn collector_of(alloc: Global, jobs: &[Job]) -> Result<Collector<'_>, Fail> {
-    let key = key_of(&CHEAP, 0x11)?;
-    match Collector::new(alloc, key, 5, jobs) {
-        Ok(collector) => Ok(collector),
-        Err(OutOfMemory) => Ok(Collector::new(alloc, key, 5, jobs)?),
-    }
-}
-
-/// Whether a receipt is of this place and index.
-fn is_of(receipt: &Receipt, place: u64, index: u64) -> bool {
-    receipt.place() == place && receipt.index() == index
-}
-
-/// Whether a collector takes two receipts of 5/2,5/2 where any request for memory may be refused.
-fn takes_at_last<'j>(
-    rt: &(impl AllocGlobal + Threads + Sync),
-    collector: &mut Collector<'j>,
-    jobs: &'j [Job; 2],
-) -> Result<bool, Fail> {
-    let (lease, mut seat) = opened(rt, &CHEAP, 0x11, 5, 2)?;
-    let first = signed_at_last(&lease, &mut seat, &jobs[0])?;
-    let second = signed_after_claim(&lease, &mut seat, &jobs[1])?;
-    let are_there = is_of(&first, 0, 5) && is_of(&second, 1, 6);
-    Ok(takes_both(collector, first, second) && are_there)
-}
-
-/// Whether a batch is complete, from this index on.
-fn is_complete_from(batch: &Batch, first: u64) -> bool {
-    match batch {
-        Batch::Complete {
-            start,
-            signatures: _,
-        } => *start == first,
-        Batch::Partial { .. } => false,
-    }
-}
-
-/// The merge check refuses each request for memory in turn.
+/// No job makes a batch of none; 1025 jobs are refused, and 1024 where 994 indices are left.
+/// Nothing is reserved.
 #[test]
-fn a_lease_signs_after_refused_memory(rt: HostRuntime) -> Result<(), Fail> {
-    let jobs = two_jobs(rt.alloc(), b"abc", b"")?;
-    let mut collector = collector_of(rt.alloc(), &jobs)?;
-    assert!(rt; takes_at_last(&rt, &mut collector, &jobs)?);
-    assert!(rt; is_complete_from(&collector.finish(), 5));
+fn too_few_and_too_many_jobs_reserve_nothing(rt: HostRuntime) -> Result<(), Fail> {
+    let jobs = jobs_of(rt.alloc(), 1025)?;
+    let outcome = signed_from(&rt, &LEVELS, 30, &jobs, &[0, 1025, 1024], 1)?;
+    assert!(rt; outcome.is_of_none(0));
+    assert!(rt; outcome.has_fault(1, BatchFault::TooMany));
+    assert!(rt; outcome.has_fault(2, BatchFault::Book(BookFault::Exhausted { left: 994 })));
+    assert!(rt; outcome.has_counted(2, (0, 0, 0)));
+    assert!(rt; outcome.has_ended(&[], 30));
+    Ok(())
+}
+
+/// Two batches of the jobs by two workers at a store whose first write fails.
+fn signed_past_a_failed_write(
+    rt: &(impl AllocGlobal + Threads + Wait + Sync),
+    jobs: &[Job],
+) -> Result<Outcome, Fail> {
+    let mut store = store_at(rt.alloc(), key_of(&LEVELS, 0x11)?, 0)?;
+    store.fail_replace(1, Left::Old);
+    let asked = Asked {
+        jobs,
+        lengths: &[4, 4],
+        workers: 2,
+        gate: &OpenGate,
+        at_once: false,
+    };
+    carry_out_alone(rt, store, &asked)
+}
+
+/// A batch of four whose write fails burns its indices, and the next one goes on after them.
+#[test]
+fn a_failed_write_burns_a_batch(rt: HostRuntime) -> Result<(), Fail> {
+    let jobs = jobs_of(rt.alloc(), 4)?;
+    let outcome = signed_past_a_failed_write(&rt, &jobs)?;
+    assert!(rt; outcome.has_fault(0, BatchFault::Book(BookFault::Store { start: 0, len: 4 })));
+    assert!(rt; outcome.has_counted(0, (1, 0, 4)));
+    assert!(rt; outcome.is_complete(&rt, 1, 4, &jobs)?);
+    assert!(rt; outcome.has_counted(1, (2, 4, 4)));
+    assert!(rt; outcome.has_ended(&[Entry::Burnt { len: 4 }, Entry::Given { len: 4 }], 8));
+    Ok(())
+}
+
+/// Whether so many workers sign as many jobs as the key has indices.
+fn all_are_signed(
+    rt: &(impl AllocGlobal + Threads + Wait + Sync),
+    jobs: &[Job],
+    workers: usize,
+) -> Result<bool, Fail> {
+    let outcome = signed_from(rt, &CHEAP, 0, jobs, &[1024], workers)?;
+    let public = public_key(rt, outcome.key)?;
+    let is_valid = outcome.start_of(0, &public, jobs) == Some(0);
+    Ok(is_valid && outcome.has_ended(&[Entry::Given { len: 1024 }], 1024))
+}
+
+/// 1024 jobs are signed by 64 workers, and by one, which has all the receipts.
+#[test]
+fn all_indices_are_signed_by_most_workers_and_by_one(rt: HostRuntime) -> Result<(), Fail> {
+    let jobs = jobs_of(rt.alloc(), 1024)?;
+    for workers in [64, 1] {
+        assert!(rt; all_are_signed(&rt, &jobs, workers)?, "{workers}");
+    }
+    Ok(())
+}
+
+/// Signs the jobs from index 30 on at a gate.
+fn signed_at<W: Gate>(
+    rt: &(impl AllocGlobal + Threads + Wait + Sync),
+    jobs: &[Job],
+    workers: usize,
+    gate: &W,
+) -> Result<Outcome, Fail> {
+    let store = store_at(rt.alloc(), key_of(&LEVELS, 0x11)?, 30)?;
+    let asked = Asked {
+        jobs,
+        lengths: &[2],
+        workers,
+        gate,
+        at_once: false,
+    };
+    carry_out_alone(rt, store, &asked)
+}
+
+/// Whether so many workers sign two jobs, where one alone waits in vain for another.
+fn two_are_signed(
+    rt: &(impl AllocGlobal + Threads + Wait + Sync),
+    jobs: &[Job],
+    workers: usize,
+) -> Result<bool, Fail> {
+    let gate = Meeting::new();
+    let outcome = signed_at(rt, jobs, workers, &gate)?;
+    let is_met = gate.is_missed() == (workers == 1) && gate.is_called_in_turn();
+    let has_ended = outcome.has_ended(&[Entry::Given { len: 2 }], 32);
+    Ok(is_met && has_ended && outcome.is_complete(rt, 0, 30, jobs)?)
+}
+
+/// Each signature waits a while until the other one has begun. Where three workers are asked for,
+/// two sign, since there are two jobs.
+#[test]
+fn two_workers_sign_at_once(rt: HostRuntime) -> Result<(), Fail> {
+    let jobs = jobs_of(rt.alloc(), 2)?;
+    for workers in [3, 2, 1] {
+        assert!(rt; two_are_signed(&rt, &jobs, workers)?, "{workers}");
+    }
     Ok(())
 }

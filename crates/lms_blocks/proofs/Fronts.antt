@@ -1,7 +1,7 @@
 -- What is appended by one write after another, and beginnings of it.
 use Rattle.std.proofs.Common.{ℕ, List, [], ◌++◌, Option, None, Some, ap, sym, ◌∙◌, append_assoc, append-nil}
 use Rattle.std.specs.Prelude.{Result, Ok, Err, OnErr}
-use Rattle.std.specs.Io.KnownBytes.{Appends, Keeps}
+use Rattle.std.specs.Io.KnownBytes.{Appends}
 use Rattle.lms_blocks.specs.Writing.{AppendsFront}
 
 pub Appends-none : (a : Option (List ℕ)) → Appends a a []
@@ -13,12 +13,6 @@ Appends-both None b c xs ys p q = tt
 Appends-both (Some x) None c xs ys p q = absurd p
 Appends-both (Some x) (Some y) None xs ys p q = absurd q
 Appends-both (Some x) (Some y) (Some z) xs ys p q = q ∙ ap (λ l. l ++ ys) p ∙ append_assoc x xs ys
-
-pub Appends-kept : (a b c : Option (List ℕ)) (xs : List ℕ) → Appends a b xs → Keeps b c → Appends a c xs
-Appends-kept None b c xs p q = tt
-Appends-kept (Some x) None c xs p q = absurd p
-Appends-kept (Some x) (Some y) None xs p q = absurd q
-Appends-kept (Some x) (Some y) (Some z) xs p q = q ∙ p
 
 -- a beginning of the first part is one of the whole
 pub AppendsFront-more : (a b : Option (List ℕ)) (xs ys : List ℕ) → AppendsFront a b xs → AppendsFront a b (xs ++ ys)

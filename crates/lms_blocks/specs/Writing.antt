@@ -9,6 +9,6 @@ pub record AppendsFront (old new : Option (List ℕ)) (text : List ℕ) : Type 0
   pub whole : text ≡ front ++ rest
   pub appended : Appends old new front
 
--- the text of what was not all written
+-- what a fault of writing prints
 abbrev pub write_fault_text : List ℕ
 write_fault_text = codes "cannot write output"

@@ -16,8 +16,9 @@ const MOST_BYTES: usize = 128;
 /// Prints a line, with its end, in one write where the writer takes it whole, so that a crash
 /// leaves no half of it, and flushes it.
 ///
-/// On a fault a beginning of the line was printed; nothing of one that has over 128 bytes. It takes
-/// no memory, so that a line can be printed where memory ran out.
+/// `WriteFault` where the line has over 128 bytes with its end: then nothing of it was printed.
+/// Also where the writer fails: then a beginning of it was printed, perhaps all. It takes no
+/// memory, so that a line can be printed where memory ran out.
 pub fn print_line<W: Write, D: Display + Drop>(writer: &mut W, text: D) -> Result<(), WriteFault>
     ensures printed { OnOk result (IfSome (D.output text) (λ bytes.
         Appends (W.contents writer.old) (W.contents writer.new) (bytes ++ codes "\n"))) }

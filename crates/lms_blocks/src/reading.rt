@@ -5,8 +5,9 @@ ghost use Rattle.std.specs.Io.KnownBytes.{Consumes, IsAtEnd, Keeps};
 use std::io;
 use std::io::{ErrorKind, Read};
 
-/// Reads once, again where it was interrupted: the first bytes of the block are then the next ones
-/// of the reader, as many as are answered, none where the reader is at its end.
+/// Reads once, again where it was interrupted, and answers how many bytes were read, 0 only where
+/// the reader is at its end: so many bytes at the beginning of the block are the next ones of the
+/// reader.
 ///
 /// An error is the reader's own; no byte is taken from it then.
 pub fn read_block<R: Read>(reader: &mut R, block: &mut [u8]) -> io::Result<usize>

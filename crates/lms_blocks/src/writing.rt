@@ -20,8 +20,8 @@ pub fn write_bytes<W: Write>(writer: &mut W, bytes: &[u8]) -> Result<(), WriteFa
     Ok(())
 }
 
-/// One write, which is tried again where it was interrupted. A writer that takes nothing has
-/// failed.
+/// Writes once, again where that was interrupted, and answers how many of the first bytes the
+/// writer took, 1 at least. A writer that takes nothing has failed. On a fault nothing was written.
 fn write_some<W: Write>(writer: &mut W, bytes: &[u8]) -> Result<usize, WriteFault>
     ensures some { IfOk result (λ n. (0 < n) × (n ≤ length bytes.now)) }
     ensures ok { IfOk result (λ n.

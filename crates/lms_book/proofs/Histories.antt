@@ -190,17 +190,6 @@ kept_confirmed r last i counter stored burnt at is kept =
     (subst (λ (l : List Entry). IsKept (with_history r l) counter counter (burnt - burnt_len e)) there
     (kept_given r front e counter stored burnt before))
 
--- what is burnt last is counted
-pub last_counted : (r : ReservationsState) (last : Entry) (i counter stored burnt : ℕ) → i + 1 ≡ length r.history
-    → last ≡ slice_index_or r.history i last
-    → IsKept r counter stored burnt → burnt_len last ≤ burnt
-last_counted r last i counter stored burnt at is kept =
-    let (front, e, ends_so) = ends r.history (omega (arith, at)) in
-    let same : last ≡ e = is ∙ last-at r.history front e last i at ends_so in
-    let all : burnt_after r.burnt r.history ≡ burnt_after r.burnt front + burnt_len e =
-    ap (burnt_after r.burnt) ends_so ∙ burnt-push r.burnt front e in
-    omega (arith, kept.burnt_is, all, ap burnt_len same)
-
 -- ---- what a crash leaves
 
 -- the bytes that a reservation of n indices more stores

@@ -42,7 +42,7 @@ burnt_len (Burnt len) = len
 abbrev pub burnt_of : List Entry → ℕ
 burnt_of history = sum_by burnt_len history
 
--- those that were burnt before, and these
+-- how many indices are burnt: `burnt` before the history, and those that it burnt
 abbrev pub burnt_after : ℕ → List Entry → ℕ
 burnt_after burnt history = burnt + burnt_of history
 
@@ -52,7 +52,7 @@ leases base [] = []
 leases base (Given len ∷ history) = range_of base len ∷ leases (base + len) history
 leases base (Burnt len ∷ history) = leases (base + len) history
 
--- the end of the last range, or else this
+-- the end of the last range, or `base` where there is none
 abbrev pub last_end : ℕ → List Range → ℕ
 last_end base [] = base
 last_end base (range ∷ ranges) = last_end (end range) ranges
@@ -61,7 +61,7 @@ last_end base (range ∷ ranges) = last_end (end range) ranges
 abbrev pub stored_of : ℕ → List Entry → ℕ
 stored_of base history = last_end base (leases base history)
 
--- the last entry is given
+-- the history with its last entry made `Given`
 abbrev pub confirmed : List Entry → List Entry
 confirmed [] = []
 confirmed (last ∷ []) = Given (len_of last) ∷ []

@@ -42,7 +42,7 @@ view_of store =
           store.failures;
     }
 
--- nothing recorded, given, counted or planned
+-- nothing recorded, given, counted or planned, no crash, and this capacity
 pub record IsFresh (capacity : ℕ) (store : MemoryState) : Type 0 where
   pub past : store.past ≡ []
   pub given : store.given ≡ None
@@ -76,7 +76,7 @@ next_write store = get_or store.writes 0 None
 abbrev pub next_read : MemoryState → Bool
 next_read store = get_or store.reads 0 false
 
--- whether every later call fails
+-- whether every call after a write with this plan fails
 abbrev pub is_stop : Option Plan → Bool
 is_stop None = false
 is_stop (Some plan) = plan.stops

@@ -20,7 +20,7 @@ pub record ReservationsState : Type 0 where
   pub burnt : ℕ
   pub history : List Entry
 
--- these, and what is seen of the store
+-- a book: what is seen of its reservations, and of its store
 pub record BookState : Type 0 where
   pub key : KeyOfCode
   pub base : ℕ
@@ -59,7 +59,7 @@ IsSafe key number ranges may_leave =
     AllByRecursion (λ range.
     (left : List ℕ) → may_leave left → IsImageFrom key number (end range) left) ranges
 
--- the running numbers are those of the history, and the key has so many indices
+-- the running numbers are those of the history, and there is an image of the key with them
 pub record IsKept (reserved : ReservationsState) (counter stored burnt : ℕ) : Type 0 where
   pub counter_is : counter ≡ counter_of reserved.base reserved.history
   pub stored_is : stored ≡ stored_of reserved.base reserved.history
@@ -75,8 +75,9 @@ pub record IsNextOf (reserved : ReservationsState) (n : ℕ) (image : Image) : T
   pub burnt : image.burnt ≡ burnt_after reserved.burnt reserved.history
   pub counted : HasImage image.key image.counter image.openings image.burnt
 
--- the store counts each lease as used; and since it held one of some byte strings, perhaps of all,
--- what was reserved is an opening of which the laws of lives speak
+-- each lease is counted as used by all that a crash could leave in the store; and what was
+-- reserved, since the store held one of the byte strings `held`, is an opening of which the laws of
+-- lives speak
 pub record IsBackedBy (reserved : ReservationsState) (store : StoreView) : Type 0 where
   pub safe : IsSafe reserved.key (reserved.openings + 1) (leases reserved.base reserved.history)
       (MayLeave store)

@@ -13,7 +13,7 @@ pub enum Entry {
 }
 
 impl Entry {
-    /// How many indices were reserved.
+    /// How many indices it reserved.
     pub(crate) fn len(&self) -> u64
         ensures { result ≡ len_of self.now }
     {
@@ -22,7 +22,7 @@ impl Entry {
         }
     }
 
-    /// How many indices were burnt.
+    /// How many indices it burnt: its length where it is `Burnt`, and else 0.
     pub(crate) fn burnt(&self) -> u64
         ensures { result ≡ burnt_len self.now }
     {
@@ -33,7 +33,8 @@ impl Entry {
     }
 }
 
-/// Whether one of the leases has this range, where the reservations begin at `base`.
+/// Whether one of the leases has just the `len` indices from `start` on, where the reservations
+/// begin at `base`.
 pub(crate) fn is_given(history: &[Entry], base: u64, start: u64, len: u64) -> bool
     requires { counter_of base history.now < 2 ^ 64 }
     ensures { result ≡ has_range (range_of start len) (leases base history.now) }

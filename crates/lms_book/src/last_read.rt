@@ -20,14 +20,14 @@ impl Model for LastRead {
 }
 
 impl LastRead {
-    /// No read gave bytes yet.
+    /// What a store has before any read gave bytes.
     pub fn none() -> Self
         ensures { result ≡ None }
     {
         LastRead { bytes: None }
     }
 
-    /// A read gives these bytes.
+    /// What a store has once a read gave these bytes.
     pub fn of(bytes: &Vec<u8>) -> Self
         ensures { result ≡ Some bytes.now.items }
     {

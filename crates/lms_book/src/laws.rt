@@ -16,8 +16,8 @@ pub fn leases_never_overlap()
     ensures { LeasesNeverOverlap }
 {}
 
-/// An image that a life of a store leaves counts at least as many indices as used as were given in
-/// that life and are burnt by its count.
+/// In an image that a life of a store leaves, the indices that the life gave and those that the
+/// image counts as burnt are together at most those that it counts as used.
 pub fn images_count_all_uses()
     ensures { ImagesCountAllUses }
 {}

@@ -149,7 +149,8 @@ impl MemoryStore {
         !self.stopped && self.past.len() < self.capacity && text.len() <= MOST_BYTES
     }
 
-    /// How the next write is to fail, if it is. The plans for the others move one place forward.
+    /// How the next write is to fail, `None` where it isn't. The plans for the others move one
+    /// place forward. Where that write is to be a crash, every later call fails.
     fn next_write(&mut self) -> Option<Plan>
         ensures plan { result ≡ next_write self.old }
         ensures others { self.new ≡ past_write self.old }
@@ -169,7 +170,8 @@ impl MemoryStore {
         take_first(&mut self.reads, false)
     }
 
-    /// Holds these bytes from now on, and records those before.
+    /// Holds these bytes, at most 256, from now on, and records those before. There must be room in
+    /// the record.
     fn hold(&mut self, text: &[u8])
         requires capacity { length self.old.past < self.old.capacity }
         requires short { length text.now ≤ longest_text }
@@ -202,8 +204,8 @@ impl StateStore for MemoryStore {
 
     ghost may_fail = { cannot_read };
 
-    /// Fails as planned, after a planned crash, and while nothing is stored (`text` answers
-    /// `None`).
+    /// `Device` as planned, after a planned crash, and while nothing is stored (`text` answers
+    /// `None`). `OutOfMemory`, which is not counted, where memory for the bytes is refused.
     fn read(&mut self, alloc: Global) -> Result<Vec<u8>, ReadFault>
         ensures reads { ReadsStore (cannot_read self.old) (view_of self.old) result (view_of self.new) }
         ensures planned { Reads self.old result self.new }

@@ -52,7 +52,7 @@ impl Model for Reservations {
 }
 
 impl Reservations {
-    /// None yet since this image was read.
+    /// The key and the numbers of an image that was read, and no reservations yet.
     pub(crate) fn none_since(alloc: Global, image: &Image) -> Self
         requires { HasImage image.now.key image.now.counter image.now.openings image.now.burnt }
         ensures { result ≡ record {
@@ -160,7 +160,8 @@ impl Reservations {
         Ok(())
     }
 
-    /// The indices that were burnt last are given, now that their image is stored.
+    /// Makes the last entry `Given`, now that its image is stored: its indices no longer count as
+    /// burnt. Nothing changes where there is no entry.
     pub(crate) fn confirm(&mut self)
         ensures { self.new ≡ record self.old { history = confirmed self.old.history } }
     {

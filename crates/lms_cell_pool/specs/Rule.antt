@@ -66,11 +66,12 @@ SeatTells P v w =
     (n : ℕ) (h : Hand) → v ≡ Some (known n (h ∷ [])) → (k : Hand) × (w ≡ Some (known n (k ∷ [])))
     × P h k
 
--- a call took effect at x
+-- a call took effect when the cell held x
 abbrev pub MakesAt : Call → Places → Hand → Hand → Type 0
 MakesAt call x h k = Makes call (reply_at h.len x.taken call) h k
 
--- the fill gives its token the hands of all seats
+-- the fill gives its token the hands of all seats. Here and below, v and w are what a token knows
+-- before and after a step, and x and y what the cell holds
 abbrev pub filled : View → Places → Places → View → Type 0
 filled v x y w = w ≡ Some (known y.seats (new_hands y.len (below y.seats)))
 

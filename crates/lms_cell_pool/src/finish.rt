@@ -1,7 +1,6 @@
 //! The end of a pool.
-ghost use Rattle.std.specs.Prelude.{◌≡◌, ◌+◌, ◌≤◌, ◌↔◌, List, All, IfOk, IfErr, IsOk, vec_len};
-ghost use Rattle.lms_pool.specs.declared.call_log.LoggedCall.{LoggedCall};
-ghost use Rattle.lms_pool.specs.Ends.{IsWhole, Tallies};
+ghost use Rattle.std.specs.Prelude.{◌≡◌, All};
+ghost use Rattle.lms_pool.specs.Ends.{EndsPool};
 
 use crate::pool::CellPool;
 use crate::rule::{Find, HandOver, Together};
@@ -10,10 +9,10 @@ use lms_pool::{MissingSeats, Tally};
 use std::sync::Wait;
 
 impl CellPool {
-    /// Ends the pool where all its seats came, and answers how many places were claimed, stopped
-    /// and left. The call log of one seat begins with the log of each, and has just the calls of
-    /// each and no other. Places that are left are not given again. It takes the runtime to read
-    /// the cell once more.
+    /// Ends the pool where all its seats are given, and answers how many places were claimed,
+    /// stopped and left. The call log of one of these seats is then the whole pool's: it begins
+    /// with the log of each seat, has of each just the calls in its own log, and has no other call.
+    /// Places that are left are never claimed. It takes the runtime to read the cell once more.
     ///
     /// `MissingSeats` where a seat is missing, with the pool and the seats handed back as they
     /// were.
@@ -23,12 +22,7 @@ impl CellPool {
         mut seats: Vec<CellSeat>,
     ) -> Result<Tally, (MissingSeats, CellPool, Vec<CellSeat>)>
         requires { All (λ seat. seat.pool ≡ self) seats.items }
-        ensures ok { IsOk result ↔ (self.seats ≤ vec_len seats) }
-        ensures call_log { IfOk result (λ t.
-            (log : List LoggedCall) × IsWhole self.len seats.items log × Tallies self.len log t) }
-        ensures sum { IfOk result (λ t. t.claimed + t.stopped + t.left ≡ self.len) }
-        ensures err { IfErr result (λ e.
-            (e.0.present ≡ vec_len seats) × (e.1 ≡ self) × (e.2 ≡ seats)) }
+        ensures { EndsPool self seats result }
     {
         let present = seats.len();
         if present < self.seats {

@@ -10,7 +10,8 @@ use crate::seat::CellSeat;
 use std::sync::Wait;
 
 impl CellPool {
-    /// How many places are taken, at most the length. It may wait for other calls.
+    /// How many places are taken, at most the length. It may wait for other calls. The call stands in
+    /// one legal call log, after all that the seat had seen.
     pub fn look<R: Wait>(&self, rt: &R, me: &mut CellSeat) -> u64
         requires { me.old.pool ≡ self.now }
         ensures seat { me.new.pool ≡ self.now }

@@ -1,8 +1,8 @@
 //! Makes a pool over a lease.
-ghost use Rattle.std.specs.Prelude.{◌≡◌, ◌+◌, ◌<◌, ◌≤◌, None, All, IfOk, IfErr, vec_len};
+ghost use Rattle.std.specs.Prelude.{◌≡◌, ◌+◌, ◌<◌, ◌≤◌, None};
 ghost use Rattle.crossbeam_utils.specs.Seq.{cell_view};
 ghost use Rattle.lms_pool.specs.Rule.{most_seats};
-ghost use Rattle.lms_pool.specs.States.{IsOver, new_seat, new_seats};
+ghost use Rattle.lms_pool.specs.States.{OpensLease, new_seat};
 ghost use Rattle.lms_cell_pool.specs.States.{IsRest};
 
 use crate::pool::CellPool;
@@ -15,8 +15,8 @@ use std::snapshot::Snapshot;
 use std::sync::Wait;
 
 impl CellPool {
-    /// The pool of the lease's indices, and its seats, 1 to 64, numbered from 0 on. It takes the
-    /// runtime to fill the cell, which no other call can use yet.
+    /// Makes the pool of the lease's indices, and `seats` seats for it, 1 to 64, whose numbers
+    /// begin at 0. It takes the runtime to fill the cell, which no other call can use yet.
     ///
     /// `OutOfMemory` where memory is refused, with the lease handed back as it was.
     pub fn over<R: Wait>(
@@ -27,11 +27,7 @@ impl CellPool {
     ) -> Result<(Self, Vec<CellSeat>), (OutOfMemory, Lease)>
         requires some { 1 ≤ seats }
         requires at_most { seats ≤ most_seats }
-        ensures pool { IfOk result (λ r. IsOver lease seats r.0) }
-        ensures seats { IfOk result (λ r. r.1.items ≡ new_seats r.0 seats) }
-        ensures count { IfOk result (λ r. vec_len r.1 ≡ seats) }
-        ensures own { IfOk result (λ r. All (λ seat. seat.pool ≡ r.0) r.1.items) }
-        ensures err { IfErr result (λ e. e.1 ≡ lease) }
+        ensures { OpensLease lease seats result }
     {
         let Ok(mut all_seats) = Vec::with_capacity(alloc, seats) else {
             return Err((OutOfMemory, lease));

@@ -22,23 +22,18 @@ impl Model for CellPass {
 }
 
 impl CellPass {
-    ghost use Rattle.std.specs.Prelude.{◌≡◌, ◌<◌};
-    ghost use Rattle.lms_spec.specs.Hss.{capacity_of};
-    ghost use Rattle.lms_hss.specs.Keys.{hss_key_of};
-    ghost use Rattle.lms_pool.specs.States.{index_of};
+    ghost use Rattle.lms_pool.specs.States.{IsIndexOf, IsPlaceOf};
 
     /// Its place in the pool.
     pub fn place(&self) -> u64
-        ensures place { result ≡ self.now.place }
-        ensures below { result < self.now.pool.len }
+        ensures { IsPlaceOf self.now result }
     {
         self.place
     }
 
     /// The index: the lease's start plus the place.
     pub fn index(&self) -> u64
-        ensures index { result ≡ index_of self.now }
-        ensures below { result < capacity_of (hss_key_of self.now.pool.key) }
+        ensures { IsIndexOf self.now result }
     {
         self.index
     }

@@ -1,7 +1,6 @@
 -- What a run changes in a world in memory.
-use Rattle.std.proofs.Common.{◌≡◌, ◌∙◌, ℕ, List, Option, Some, ap, inl, inr, refl, sym}
-use Rattle.std.specs.Prelude.{String, string_bytes}
-use Rattle.std.specs.Global.{Global}
+use Rattle.std.proofs.Common.{◌⊎◌, ◌≡◌, ◌∙◌, ℕ, List, Option, Some, String, Global, ap, inl, inr, refl, sym}
+use Rattle.std.specs.Prelude.{◌≢◌, string_bytes}
 use Rattle.clap.specs.Words.{Text}
 use Rattle.lms_hss.specs.declared.key.HssKey.{HssKey as KeyOfCode}
 use Rattle.lms_world.specs.Names.{Bytes}
@@ -17,6 +16,7 @@ use Rattle.lms_key_commands.specs.ResumeInMemory.{FailsOnceLocked, FailsToResume
 use Rattle.lms_key_commands.specs.WitnessInMemory.{FailsToMakeWitness}
 use Rattle.lms_signature_commands.specs.SignInMemory.{FailsToSign}
 use Rattle.lms_commands.specs.declared.fault.Fault.{Fault}
+use Rattle.lms_commands.specs.declared.fault.Fault.TheVariants.{WriteOutput}
 use Rattle.lms_commands.specs.declared.status.Status.{Status}
 use Rattle.lms_signature_commands.proofs.ServingCalls.{serve_failed_keeps, serve_keeps, stays_unwritten}
 use Rattle.lms_signature_commands.proofs.BatchInMemory.{fails_to_sign_jobs_in_memory, signs_jobs_in_memory}
@@ -31,20 +31,20 @@ use Rattle.lms_commands.proofs.Telling.{nothing_done}
 use Rattle.lms_join_commands.proofs.JoinInMemory.{fails_to_join_in_memory, fails_to_join_keys_in_memory}
 use Rattle.lms_join_commands.proofs.JoinInMemory.{joins_in_memory, joins_keys_in_memory}
 use Rattle.lms_cli.specs.Commands.{AreTakenAs}
-use Rattle.lms_cli.specs.RunLogs.{LogsFailed, LogsObeyed}
-use Rattle.lms_cli.specs.RunsInMemory.{ChangesAsked, ChangesAskedInMemory, KeepsSome, LocksState, StoresState, Writes}
-use Rattle.lms_cli.specs.RunsInMemory.{WritesSome, WritesWitness}
+use Rattle.lms_cli.specs.Deeds.{Rights, deed}
+use Rattle.lms_cli.specs.RunsInMemory.{ChangesAsked, ChangesAskedInMemory}
 use Rattle.lms_cli.specs.declared.command.types.Command.{Command}
 use Rattle.lms_cli.specs.declared.command.types.Command.TheVariants.{Batch, Info, Join, JoinPublic, Keygen, Public}
 use Rattle.lms_cli.specs.declared.command.types.Command.TheVariants.{Resume, Serve, Sign, Verify, Witness}
 
--- ---- which files and nodes stay
-
 at_name : (name : Text) (old new : Answers) → new ≡ old → answer_in new name ≡ answer_in old name
 at_name name old new same = ap (λ (files : Answers). answer_in files name) same
 
-pub files_of : {old new : Held} → new ≡ old → new.files ≡ old.files
+files_of : {old new : Held} → new ≡ old → new.files ≡ old.files
 files_of same = ap (λ (h : Held). h.files) same
+
+state_of : {old new : Held} → new ≡ old → new.state ≡ old.state
+state_of same = ap (λ (h : Held). h.state) same
 
 nodes_of : {old new : Held} → new ≡ old → new.nodes ≡ old.nodes
 nodes_of same = ap (λ (h : Held). h.nodes) same
@@ -71,23 +71,30 @@ OnlyState old new = (new.files ≡ old.files) × (new.nodes ≡ old.nodes) × (n
 abbrev Others : Bytes → Held → Held → Type 0
 Others written old new = SameFilesBut written old.files new.files
 
-module _ (fault : Fault) (old new : Held) where
-  keygen_files : (key : KeyOfCode) (public : Bytes) → FailsToMakeKey key public fault old new → Others public old new
-  keygen_files key public (inl (why, same)) = λ name other. at_name name _ _ (files_of same)
-  keygen_files key public (inr (inl (at, free, there, same))) = λ name other. at_name name _ _ (files_of same)
-  keygen_files key public (inr (inr (inl (at, free, none, stays)))) = λ name other. at_name name _ _ stays.files
-  keygen_files key public (inr (inr (inr (inl (at, may))))) = λ name other. at_name name _ _ may.files
-  keygen_files key public (inr (inr (inr (inr (made, inl (refused, why, same)))))) = λ name other. at_name name _ _ same
-  keygen_files key public (inr (inr (inr (inr (made, inr (at, published)))))) = published.others
+-- no file is changed, unless the output fails
+abbrev pub SparesFiles : Fault → Held → Held → Type 0
+SparesFiles fault old new = fault ≢ WriteOutput → new.files ≡ old.files
 
-  -- nor is the witness
-  keygen_witness : (key : KeyOfCode) (public : Bytes) → FailsToMakeKey key public fault old new
-      → new.witness ≡ old.witness
-  keygen_witness key public (inl (why, same)) = witness_of same
-  keygen_witness key public (inr (inl (at, free, there, same))) = witness_of same
-  keygen_witness key public (inr (inr (inl (at, free, none, stays)))) = stays.witness
-  keygen_witness key public (inr (inr (inr (inl (at, may))))) = may.witness
-  keygen_witness key public (inr (inr (inr (inr (made, published))))) = made.witness
+module _ (fault : Fault) (old new : Held) where
+  others_of : (written : Bytes) → new.files ≡ old.files → Others written old new
+  others_of written same = λ name other. at_name name _ _ same
+
+  -- `keygen` changes no other file, and no witness
+  abbrev KeygenLeaves : Bytes → Type 0
+  KeygenLeaves public = Others public old new × (new.witness ≡ old.witness) × SparesFiles fault old new
+
+  keygen_none : (public : Bytes) → new.files ≡ old.files → new.witness ≡ old.witness → KeygenLeaves public
+  keygen_none public files witness = (others_of public files, witness, λ other. files)
+
+  keygen_leaves : (key : KeyOfCode) (public : Bytes) → FailsToMakeKey key public fault old new → KeygenLeaves public
+  keygen_leaves key public (inl (why, same)) = keygen_none public (files_of same) (witness_of same)
+  keygen_leaves key public (inr (inl (at, free, there, same))) = keygen_none public (files_of same) (witness_of same)
+  keygen_leaves key public (inr (inr (inl (at, free, none, stays)))) = keygen_none public stays.files stays.witness
+  keygen_leaves key public (inr (inr (inr (inl (at, may))))) = keygen_none public may.files may.witness
+  keygen_leaves key public (inr (inr (inr (inr (made, inl (refused, why, same)))))) =
+      keygen_none public same made.witness
+  keygen_leaves key public (inr (inr (inr (inr (made, inr (at, published)))))) =
+      (published.others, made.witness, λ other. absurd (other at))
 
   unwatched : FailsToWatch fault old new → Unwritten old new
   unwatched (inl (why, stays)) = (stays.files, stays.nodes)
@@ -103,23 +110,20 @@ module _ (fault : Fault) (old new : Held) where
   none_signed n (inr (inr (inr (inr (uses, there, at))))) = (uses.files, uses.nodes)
 
   sign_files : (random message out : Bytes) → FailsToSign random message out fault old new → Others out old new
-  sign_files random message out (inl (at, bad, same)) = λ name other. at_name name _ _ (files_of same)
-  sign_files random message out (inr (hex, inl (at, same))) = λ name other. at_name name _ _ (files_of same)
-  sign_files random message out (inr (hex, inr (inl (at, refused, same)))) =
-      λ name other. at_name name _ _ (files_of same)
-  sign_files random message out (inr (hex, inr (inr (text, given, inl (why, same))))) =
-      λ name other. at_name name _ _ (files_of same)
+  sign_files random message out (inl (at, bad, same)) = others_of out (files_of same)
+  sign_files random message out (inr (hex, inl (at, same))) = others_of out (files_of same)
+  sign_files random message out (inr (hex, inr (inl (at, refused, same)))) = others_of out (files_of same)
+  sign_files random message out (inr (hex, inr (inr (text, given, inl (why, same))))) = others_of out (files_of same)
   sign_files random message out (inr (hex, inr (inr (text, given, inr (free, inl why))))) =
-      λ name other. at_name name _ _ (unwatched why).0
+      others_of out (unwatched why).0
   sign_files random message out (inr (hex, inr (inr (text, given, inr (free, inr (inl none)))))) =
-      λ name other. at_name name _ _ (none_signed 1 none).0
-  sign_files random message out
-      (inr (hex, inr (inr (text, given, inr (free, inr (inr (at, (signs, inl same)))))))) =
-      λ name other. at_name name _ _ same
+      others_of out (none_signed 1 none).0
+  sign_files random message out (inr (hex, inr (inr (text, given, inr (free, inr (inr (at, (signs, inl same)))))))) =
+      others_of out same
   sign_files random message out (inr (hex, inr (inr (text, given, inr (free, inr (inr (at, (signs, inr file)))))))) =
       file.others
 
-  pub batch_unwritten : (workers : Bytes) (input rest : Option (List ℕ)) (before printed : List ℕ)
+  batch_unwritten : (workers : Bytes) (input rest : Option (List ℕ)) (before printed : List ℕ)
       → FailsToSignJobs workers input rest before printed fault old new → Unwritten old new
   batch_unwritten workers input rest before printed (inl (at, bad, same)) = (files_of same, nodes_of same)
   batch_unwritten workers input rest before printed (inr (are, inl (why, same))) = (files_of same, nodes_of same)
@@ -142,31 +146,34 @@ module _ (fault : Fault) (old new : Held) where
     witness = witness_of same;
   }
 
-  pub info_stays : (before printed : List ℕ) → FailsToDescribe before printed fault old new → Stays old new
+  info_stays : (before printed : List ℕ) → FailsToDescribe before printed fault old new → Stays old new
   info_stays before printed (inl (why, same)) = stays_as same
   info_stays before printed (inr (free, inl (why, stays))) = stays
   info_stays before printed (inr (free, inr (at, (finds, lines)))) = finds.stays
 
-  -- a file of the name is written, or nothing is
-  abbrev WritesAtMost : Bytes → Type 0
-  WritesAtMost written =
-      Others written old new × (new.state ≡ old.state) × (new.nodes ≡ old.nodes) × (new.witness ≡ old.witness)
+  -- `public` changes no other file, and nothing else
+  abbrev PublicLeaves : Bytes → Type 0
+  PublicLeaves public =
+      (Others public old new × (new.state ≡ old.state) × (new.nodes ≡ old.nodes) × (new.witness ≡ old.witness))
+      × SparesFiles fault old new
 
-  public_changes : (public : Bytes) (before printed : List ℕ) → FailsToPublishKey public before printed fault old new
-      → WritesAtMost public
-  public_changes public before printed (inl (why, same)) =
-      (λ name other. at_name name _ _ (files_of same), ap (λ (h : Held). h.state) same, nodes_of same, witness_of same)
-  public_changes public before printed (inr (free, inl (why, stays))) =
-      (λ name other. at_name name _ _ stays.files, stays.state, stays.nodes, stays.witness)
-  public_changes public before printed (inr (free, inr (inl (refused, why, finds)))) =
-      (λ name other. at_name name _ _ finds.stays.files, finds.stays.state, finds.stays.nodes, finds.stays.witness)
-  public_changes public before printed (inr (free, inr (inr (at, (published, line))))) =
-      (published.file.others, published.state_stays, published.nodes, published.witness)
+  public_none : (public : Bytes) → Stays old new → PublicLeaves public
+  public_none public same = ((others_of public same.files, same.state, same.nodes, same.witness), λ other. same.files)
+
+  public_leaves : (public : Bytes) (before printed : List ℕ) → FailsToPublishKey public before printed fault old new
+      → PublicLeaves public
+  public_leaves public before printed (inl (why, same)) = public_none public (stays_as same)
+  public_leaves public before printed (inr (free, inl (why, stays))) = public_none public stays
+  public_leaves public before printed (inr (free, inr (inl (refused, why, finds)))) = public_none public finds.stays
+  public_leaves public before printed (inr (free, inr (inr (at, (published, line))))) = (
+    (published.file.others, published.state_stays, published.nodes, published.witness),
+    λ other. absurd (other at),
+  )
 
   stays_but : Stays old new → OnlyWitness old new
   stays_but stays = (stays.files, stays.state, stays.nodes)
 
-  pub witness_at_most : (counter : Bytes) (before printed : List ℕ)
+  witness_at_most : (counter : Bytes) (before printed : List ℕ)
       → FailsToMakeWitness counter before printed fault old new → OnlyWitness old new
   witness_at_most counter before printed (inl (at, none, same)) = stays_but (stays_as same)
   witness_at_most counter before printed (inr (number, is, inl (why, same))) = stays_but (stays_as same)
@@ -192,215 +199,158 @@ module _ (fault : Fault) (old new : Held) where
   unresumed_alone end before printed (inr (inr (inr (at, ((older, counts), line))))) =
       (older.files, older.nodes, older.witness)
 
-  pub state_alone : (counter : Bytes) (before printed : List ℕ) → FailsToResume counter before printed fault old new
+  state_alone : (counter : Bytes) (before printed : List ℕ) → FailsToResume counter before printed fault old new
       → OnlyState old new
   state_alone counter before printed (inl (at, none, same)) = all_but (stays_as same)
   state_alone counter before printed (inr (end, is, inl (why, same))) = all_but (stays_as same)
   state_alone counter before printed (inr (end, is, inr (free, never))) = unresumed_alone end before printed never
 
--- ---- what a command changes
+-- what a command changes
+pub record ChangesOwn (may : Rights) (old new : Held) : Type 0 where
+  files : (name : Text) → ¬ may.writes name → answer_in new.files name ≡ answer_in old.files name
+  state : ¬ may.stores → new.state ≡ old.state
+  nodes : ¬ may.keeps → new.nodes ≡ old.nodes
+  witness : ¬ may.watches → new.witness ≡ old.witness
+  only : ¬ may.locks → OnlyFiles old new
+  all : ¬ may.locks → ¬ ((name : Text) × may.writes name) → new ≡ old
 
-record ChangesOwn (command : Command) (old new : Held) : Type 0 where
-  files : (name : Text) → ¬ Writes name command → answer_in new.files name ≡ answer_in old.files name
-  state : ¬ StoresState command → new.state ≡ old.state
-  nodes : ¬ KeepsSome command → new.nodes ≡ old.nodes
-  witness : ¬ WritesWitness command → new.witness ≡ old.witness
-  only : ¬ LocksState command → OnlyFiles old new
-  all : ¬ LocksState command → ¬ WritesSome command → new ≡ old
-
-none_changed : (command : Command) (old new : Held) → new ≡ old → ChangesOwn command old new
-none_changed command old new same = record {
+none_changed : (may : Rights) (old new : Held) → new ≡ old → ChangesOwn may old new
+none_changed may old new same = record {
   files = λ name other. at_name name _ _ (files_of same);
-  state = λ other. ap (λ (h : Held). h.state) same;
+  state = λ other. state_of same;
   nodes = λ other. nodes_of same;
   witness = λ other. witness_of same;
   only = λ other. only_files same;
   all = λ other none. same;
 }
 
+-- a file alone, by the right to write it
+file_changed : (may : Rights) (old new : Held)
+    → ((name : Text) → ¬ may.writes name → answer_in new.files name ≡ answer_in old.files name)
+    → OnlyFiles old new → (name : Text) × may.writes name → ChangesOwn may old new
+file_changed may old new files only written = record {
+  files = files;
+  state = λ other. state_of only;
+  nodes = λ other. nodes_of only;
+  witness = λ other. witness_of only;
+  only = λ other. only;
+  all = λ other none. absurd (none written);
+}
+
+unless : {A B : Type 0} → A ⊎ B → ¬ A → B
+unless (inl is) other = absurd (other is)
+unless (inr is) other = is
+
+-- what there is a right to, or not, of one that locks a state
+locked_changed : (may : Rights) (old new : Held) → may.locks
+    → ((name : Text) → ¬ may.writes name → answer_in new.files name ≡ answer_in old.files name)
+    → may.stores ⊎ (new.state ≡ old.state) → may.keeps ⊎ (new.nodes ≡ old.nodes)
+    → may.watches ⊎ (new.witness ≡ old.witness) → ChangesOwn may old new
+locked_changed may old new locks files state nodes witness = record {
+  files = files;
+  state = λ other. unless state other;
+  nodes = λ other. unless nodes other;
+  witness = λ other. unless witness other;
+  only = λ other. absurd (other locks);
+  all = λ other none. absurd (other locks);
+}
+
+-- the same, where no file is changed
+files_left : (may : Rights) (old new : Held) → may.locks → new.files ≡ old.files
+    → may.stores ⊎ (new.state ≡ old.state) → may.keeps ⊎ (new.nodes ≡ old.nodes)
+    → may.watches ⊎ (new.witness ≡ old.witness) → ChangesOwn may old new
+files_left may old new locks same state nodes witness =
+    locked_changed may old new locks (λ name other. at_name name _ _ same) state nodes witness
+
 module _ (input rest : Option (List ℕ)) (before printed : List ℕ) (old new : Held) (earlier now : WorldCalls)
     (follows : Follows (Some old) earlier (Some new) now) where
-  keygen_changes : (levels seed id state public : String Global) → Others (string_bytes public) old new
-      → new.witness ≡ old.witness → ChangesOwn (Keygen levels seed id state public) old new
-  keygen_changes levels seed id state public others witness = record {
-    files = others;
-    state = λ other. absurd (other tt);
-    nodes = λ other. absurd (other tt);
-    witness = λ other. witness;
-    only = λ other. absurd (other tt);
-    all = λ other none. absurd (other tt);
-  }
+  unchanged : (may : Rights) (fault : Fault) → new ≡ old → ChangesOwn may old new × SparesFiles fault old new
+  unchanged may fault same = (none_changed may old new same, λ other. files_of same)
 
-  info_changes : (state : String Global) → Stays old new → ChangesOwn (Info state) old new
-  info_changes state stays = record {
-    files = λ name other. at_name name _ _ stays.files;
-    state = λ other. stays.state;
-    nodes = λ other. stays.nodes;
-    witness = λ other. stays.witness;
-    only = λ other. absurd (other tt);
-    all = λ other none. absurd (other tt);
-  }
+  info_changed : (state : String Global) → Stays old new → ChangesOwn (deed (Info state)).may old new
+  info_changed state stays =
+      files_left _ old new tt stays.files (inr stays.state) (inr stays.nodes) (inr stays.witness)
 
-  public_file_changes : (state public : String Global) → Others (string_bytes public) old new → new.state ≡ old.state
-      → new.nodes ≡ old.nodes → new.witness ≡ old.witness → ChangesOwn (Public state public) old new
-  public_file_changes state public others state_stays nodes witness = record {
-    files = others;
-    state = λ other. state_stays;
-    nodes = λ other. nodes;
-    witness = λ other. witness;
-    only = λ other. absurd (other tt);
-    all = λ other none. absurd (other tt);
-  }
-
-  sign_changes : (state random message out : String Global) → Others (string_bytes out) old new
-      → ChangesOwn (Sign state random message out) old new
-  sign_changes state random message out others = record {
-    files = others;
-    state = λ other. absurd (other tt);
-    nodes = λ other. absurd (other tt);
-    witness = λ other. absurd (other tt);
-    only = λ other. absurd (other tt);
-    all = λ other none. absurd (other tt);
-  }
-
-  batch_changes : (state workers : String Global) → Unwritten old new → ChangesOwn (Batch state workers) old new
-  batch_changes state workers unwritten = record {
-    files = λ name other. at_name name _ _ unwritten.0;
-    state = λ other. absurd (other tt);
-    nodes = λ other. unwritten.1;
-    witness = λ other. absurd (other tt);
-    only = λ other. absurd (other tt);
-    all = λ other none. absurd (other tt);
-  }
-
-  serve_changes : (state workers : String Global) → Unwritten old new → ChangesOwn (Serve state workers) old new
-  serve_changes state workers unwritten = record {
-    files = λ name other. at_name name _ _ unwritten.0;
-    state = λ other. absurd (other tt);
-    nodes = λ other. unwritten.1;
-    witness = λ other. absurd (other tt);
-    only = λ other. absurd (other tt);
-    all = λ other none. absurd (other tt);
-  }
-
-  witness_changes : (state on counter : String Global) → OnlyWitness old new
-      → ChangesOwn (Witness state on counter) old new
-  witness_changes state on counter stays = record {
-    files = λ name other. at_name name _ _ stays.0;
-    state = λ other. stays.1;
-    nodes = λ other. stays.2;
-    witness = λ other. absurd (other tt);
-    only = λ other. absurd (other tt);
-    all = λ other none. absurd (other tt);
-  }
-
-  resume_changes : (state counter : String Global) → OnlyState old new → ChangesOwn (Resume state counter) old new
-  resume_changes state counter stays = record {
-    files = λ name other. at_name name _ _ stays.0;
-    state = λ other. absurd (other tt);
-    nodes = λ other. stays.1;
-    witness = λ other. stays.2;
-    only = λ other. absurd (other tt);
-    all = λ other none. absurd (other tt);
-  }
-
-  join_changes : (public endorsement signer signature out : String Global) → Others (string_bytes out) old new
-      → OnlyFiles old new → ChangesOwn (Join public endorsement signer signature out) old new
-  join_changes public endorsement signer signature out others only = record {
-    files = others;
-    state = λ other. ap (λ (h : Held). h.state) only;
-    nodes = λ other. nodes_of only;
-    witness = λ other. witness_of only;
-    only = λ other. only;
-    all = λ other none. absurd (none (string_bytes out, refl));
-  }
-
-  join_keys_changes : (public signer out : String Global) → Others (string_bytes out) old new → OnlyFiles old new
-      → ChangesOwn (JoinPublic public signer out) old new
-  join_keys_changes public signer out others only = record {
-    files = others;
-    state = λ other. ap (λ (h : Held). h.state) only;
-    nodes = λ other. nodes_of only;
-    witness = λ other. witness_of only;
-    only = λ other. only;
-    all = λ other none. absurd (none (string_bytes out, refl));
-  }
-
-  obeyed : (command : Command) (end : Status) → LogsObeyed command end input rest before printed earlier now
-      → ChangesOwn command old new
+  obeyed : (command : Command) (end : Status) → (deed command).done end input rest before printed earlier now
+      → ChangesOwn (deed command).may old new
   obeyed (Keygen levels seed id state public) end (done, (key, is_key, is)) =
       let made = makes_key_in_memory key _ _ before printed old new earlier now is follows in
-      keygen_changes levels seed id state public made.1.others made.0.witness
+      locked_changed _ old new tt made.1.others (inl tt) (inl tt) (inr made.0.witness)
   obeyed (Info state) end (done, is) =
       let found = describes_in_memory _ before printed old new earlier now is follows in
-      info_changes state found.1.0.stays
+      info_changed state found.1.0.stays
   obeyed (Public state public) end (done, is) =
       let made = (publishes_key_in_memory _ _ before printed old new earlier now is follows).1.0 in
-      public_file_changes state public made.file.others made.state_stays made.nodes made.witness
+      locked_changed _ old new tt made.file.others (inr made.state_stays) (inr made.nodes) (inr made.witness)
   obeyed (Sign state random message out) end (done, is) =
-      let made = signs_in_memory _ _ _ _ before printed old new earlier now is follows in
-      sign_changes state random message out made.1.others
+      let made = signs_in_memory _ before printed old new earlier now is follows in
+      locked_changed _ old new tt made.1.others (inl tt) (inl tt) (inl tt)
   obeyed (Batch state workers) end (done, is) =
       let made = signs_jobs_in_memory _ _ input rest before printed old new earlier now is follows in
-      batch_changes state workers (made.1.0.files, made.1.0.nodes)
+      files_left _ old new tt made.1.0.files (inl tt) (inr made.1.0.nodes) (inl tt)
   obeyed (Serve state workers) end (done, is) =
-      serve_changes state workers
-      (stays_unwritten old new earlier now (serve_keeps _ _ input rest before printed earlier now is) follows)
+      let kept = stays_unwritten old new earlier now
+      (serve_keeps _ _ input rest before printed earlier now is) follows in
+      files_left _ old new tt kept.0 (inl tt) (inr kept.1) (inl tt)
   obeyed (Witness state on counter) end (done, is) =
       let made = (makes_witness_in_memory _ _ _ before printed old new earlier now is follows).1.0 in
-      witness_changes state on counter (made.files, made.state_stays, made.nodes)
+      files_left _ old new tt made.files (inr made.state_stays) (inr made.nodes) (inl tt)
   obeyed (Resume state counter) end (done, is) =
       let older = (resumes_in_memory _ _ before printed old new earlier now is follows).1.2.0.0 in
-      resume_changes state counter (older.files, older.nodes, older.witness)
+      files_left _ old new tt older.files (inl tt) (inr older.nodes) (inr older.witness)
   obeyed (Verify public message signature) end (verdict, at, is) =
       let judged = judges_in_memory _ _ _ verdict before printed old new earlier now is follows in
       none_changed _ old new judged.1
   obeyed (Join public endorsement signer signature out) end (done, quiet, is) =
       let made = joins_in_memory _ old new earlier now is follows in
-      join_changes public endorsement signer signature out made.file.others made.only
+      file_changed _ old new made.file.others made.only (string_bytes out, refl)
   obeyed (JoinPublic public signer out) end (done, quiet, is) =
       let made = joins_keys_in_memory _ _ _ old new earlier now is follows in
-      join_keys_changes public signer out made.file.others made.only
+      file_changed _ old new made.file.others made.only (string_bytes out, refl)
 
-  failed : (command : Command) (fault : Fault) → LogsFailed command fault input rest before printed earlier now
-      → ChangesOwn command old new
+  -- where it fails; and no file is changed, unless the output fails
+  pub failed : (command : Command) (fault : Fault)
+      → (deed command).failed fault input rest before printed earlier now
+      → ChangesOwn (deed command).may old new × SparesFiles fault old new
   failed (Keygen levels seed id state public) fault (inl (no_key, calls, same)) =
-      none_changed _ old new (nothing_done old new calls follows)
+      unchanged _ fault (nothing_done old new calls follows)
   failed (Keygen levels seed id state public) fault (inr (key, is_key, is)) =
       let why = fails_to_make_key_in_memory key _ _ before printed fault old new earlier now is follows in
-      keygen_changes levels seed id state public (keygen_files fault old new key _ why)
-      (keygen_witness fault old new key _ why)
+      let leaves = keygen_leaves fault old new key _ why in
+      (locked_changed _ old new tt leaves.0 (inl tt) (inl tt) (inr leaves.1), leaves.2)
   failed (Info state) fault is =
       let why = fails_to_describe_in_memory _ before printed fault old new earlier now is follows in
-      info_changes state (info_stays fault old new before printed why)
+      let stays = info_stays fault old new before printed why in (info_changed state stays, λ other. stays.files)
   failed (Public state public) fault is =
       let why = fails_to_publish_key_in_memory _ _ before printed fault old new earlier now is follows in
-      let changes = public_changes fault old new _ before printed why in
-      public_file_changes state public changes.0 changes.1 changes.2 changes.3
+      let leaves = public_leaves fault old new _ before printed why in
+      (locked_changed _ old new tt leaves.0.0 (inr leaves.0.1) (inr leaves.0.2) (inr leaves.0.3), leaves.1)
   failed (Sign state random message out) fault is =
-      let why = fails_to_sign_in_memory _ _ _ _ before printed fault old new earlier now is follows in
-      sign_changes state random message out (sign_files fault old new _ _ _ why.0)
+      let why = fails_to_sign_in_memory _ before printed fault old new earlier now is follows in
+      let others = sign_files fault old new _ _ _ why.0 in
+      (locked_changed _ old new tt others (inl tt) (inl tt) (inl tt), why.1)
   failed (Batch state workers) fault is =
       let why = fails_to_sign_jobs_in_memory _ _ input rest before printed fault old new earlier now is follows in
-      batch_changes state workers (batch_unwritten fault old new _ input rest before printed why)
+      let kept = batch_unwritten fault old new _ input rest before printed why in
+      (files_left _ old new tt kept.0 (inl tt) (inr kept.1) (inl tt), λ other. kept.0)
   failed (Serve state workers) fault is =
-      serve_changes state workers (stays_unwritten old new earlier now
-      (serve_failed_keeps _ _ input rest before printed fault earlier now is) follows)
+      let kept = stays_unwritten old new earlier now
+      (serve_failed_keeps _ _ input rest before printed fault earlier now is) follows in
+      (files_left _ old new tt kept.0 (inl tt) (inr kept.1) (inl tt), λ other. kept.0)
   failed (Witness state on counter) fault is =
       let why = fails_to_make_witness_in_memory _ _ _ before printed fault old new earlier now is follows in
-      witness_changes state on counter (witness_at_most fault old new _ before printed why)
+      let most = witness_at_most fault old new _ before printed why in
+      (files_left _ old new tt most.0 (inr most.1) (inr most.2) (inl tt), λ other. most.0)
   failed (Resume state counter) fault is =
       let why = fails_to_resume_in_memory _ _ before printed fault old new earlier now is follows in
-      resume_changes state counter (state_alone fault old new _ before printed why)
+      let most = state_alone fault old new _ before printed why in
+      (files_left _ old new tt most.0 (inl tt) (inr most.1) (inr most.2), λ other. most.0)
   failed (Verify public message signature) fault is =
-      let why = fails_to_judge_in_memory _ _ _ before printed fault old new earlier now is follows in
-      none_changed _ old new why.1
+      unchanged _ fault (fails_to_judge_in_memory _ _ _ before printed fault old new earlier now is follows).1
   failed (Join public endorsement signer signature out) fault (quiet, is) =
-      none_changed _ old new (fails_to_join_in_memory _ fault old new earlier now is follows).1
+      unchanged _ fault (fails_to_join_in_memory _ fault old new earlier now is follows).1
   failed (JoinPublic public signer out) fault (quiet, is) =
-      none_changed _ old new (fails_to_join_keys_in_memory _ _ _ fault old new earlier now is follows).1
-
--- ---- what a run changes
+      unchanged _ fault (fails_to_join_keys_in_memory _ _ _ fault old new earlier now is follows).1
 
 module _ (words : List Text) (old new : Held) (earlier now : WorldCalls)
     (follows : Follows (Some old) earlier (Some new) now) where
@@ -409,7 +359,7 @@ module _ (words : List Text) (old new : Held) (earlier now : WorldCalls)
       let same = nothing_done old new none follows in
       record {
         files = λ name other. at_name name _ _ (files_of same);
-        state = λ other. ap (λ (h : Held). h.state) same;
+        state = λ other. state_of same;
         nodes = λ other. nodes_of same;
         witness = λ other. witness_of same;
         in_use = ap (λ (h : Held). h.in_use) same;
@@ -417,7 +367,7 @@ module _ (words : List Text) (old new : Held) (earlier now : WorldCalls)
         all = λ other none. same;
       }
 
-  changes_own : (command : Command) → AreTakenAs words command → ChangesOwn command old new
+  changes_own : (command : Command) → AreTakenAs words command → ChangesOwn (deed command).may old new
       → ChangesAsked words old new
   changes_own command taken own = record {
     files = λ name other. own.files name (λ such. other (command, taken, such));
@@ -444,4 +394,4 @@ changes_what_is_asked words end input rest before printed eb ea old new earlier 
 changes_what_is_asked words end input rest before printed eb ea old new earlier now
     (inr (fault, end_is, line, inr (command, taken, is))) follows =
     let own = failed input rest before printed old new earlier now follows command fault is in
-    changes_own words old new earlier now follows command taken own
+    changes_own words old new earlier now follows command taken own.0

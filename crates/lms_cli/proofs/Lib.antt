@@ -1,6 +1,8 @@
 pub mod Building
 pub mod CommandLine
 pub mod Ending
+pub mod HighFaults
+pub mod ServingFaults
 pub mod Turning
 pub mod FullRows
 pub mod Parsing

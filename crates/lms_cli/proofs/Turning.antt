@@ -25,9 +25,9 @@ use Rattle.lms_key_commands.proofs.KeyTurns.{info_failed_turn, info_turn, keygen
 use Rattle.lms_signature_commands.proofs.VerifyTurns.{verify_failed_turn, verify_turn}
 use Rattle.lms_join_commands.proofs.JoinTurns.{join_failed_turn, join_keys_failed_turn, join_keys_turn, join_turn}
 use Rattle.lms_cli.specs.Commands.{AreTakenAs, AsksForHelp}
-use Rattle.lms_cli.specs.RunLogs.{LogsFailed, LogsObeyed, LogsRun}
-use Rattle.lms_cli.specs.Runs.{IsServe}
-use Rattle.lms_cli.specs.RunTurns.{HandsOut, ProgramRun, TakesTurns, TakeTurns, all_turns}
+use Rattle.lms_cli.specs.Deeds.{deed}
+use Rattle.lms_cli.specs.RunLogs.{LogsRun}
+use Rattle.lms_cli.specs.RunTurns.{ProgramRun, TakesTurns, TakeTurns, all_turns}
 use Rattle.lms_cli.specs.declared.command.types.Command.{Command}
 use Rattle.lms_cli.specs.declared.command.types.Command.TheVariants.{Batch, Info, Join, JoinPublic, Keygen, Public}
 use Rattle.lms_cli.specs.declared.command.types.Command.TheVariants.{Resume, Serve, Sign, Verify, Witness}
@@ -38,8 +38,8 @@ record Obeyed (command : Command) (whole : WorldCalls) (before printed : List �
   calls : whole_calls turns ≡ whole
   are : AreWholeTurns turns
   linked : AreLinked None turns
-  one : (length turns ≡ 1) ⊎ IsServe command
-  hands : HandsOut command (turn_signatures turns) whole before printed
+  one : (length turns ≡ 1) ⊎ (deed command).may.serves
+  hands : (deed command).hands (turn_signatures turns) whole before printed
 
 -- a turn that is the first
 starts : (turn : Turn) → Continues turn None
@@ -51,7 +51,8 @@ starts (Resumes count state watch) = tt
 
 -- in one
 once : (command : Command) (whole : WorldCalls) (before printed : List ℕ) → (turn : Turn)
-    × (signatures : List Signature) × IsTurn turn signatures whole × HandsOut command signatures whole before printed
+    × (signatures : List Signature) × IsTurn turn signatures whole
+    × (deed command).hands signatures whole before printed
     → Obeyed command whole before printed
 once command whole before printed (turn, signatures, is, hands) = record {
   turns = record { turn = turn; due = None; signatures = signatures; whole = whole; begun = whole } ∷ [];
@@ -59,8 +60,8 @@ once command whole before printed (turn, signatures, is, hands) = record {
   are = (is, tt);
   linked = (refl, starts turn, tt);
   one = inl refl;
-  hands = subst (λ (ones : List Signature). HandsOut command ones whole before printed) (sym (append-nil signatures))
-      hands;
+  hands = subst (λ (ones : List Signature). (deed command).hands ones whole before printed)
+      (sym (append-nil signatures)) hands;
 }
 
 -- by `serve`
@@ -72,7 +73,7 @@ served state workers whole before printed (turns, calls, are, linked, prints) =
 -- a command that is done
 obeyed : (command : Command) (end : Status) (input rest : Option (List ℕ)) (before printed : List ℕ)
     (whole : WorldCalls)
-    → LogsObeyed command end input rest before printed [] whole → Obeyed command whole before printed
+    → (deed command).done end input rest before printed [] whole → Obeyed command whole before printed
 obeyed (Keygen levels seed id state public) end input rest before printed whole (done, (key, is_key, is)) =
     let turn = keygen_turn key _ _ before printed whole is in
     once (Keygen levels seed id state public) whole before printed (turn.0, [], turn.1, (refl, turn.2))
@@ -83,7 +84,7 @@ obeyed (Public state public) end input rest before printed whole (done, is) =
     let turn = public_turn _ _ before printed whole is in
     once (Public state public) whole before printed (turn.0, [], turn.1, (refl, turn.2))
 obeyed (Sign state random message out) end input rest before printed whole (done, is) =
-    once (Sign state random message out) whole before printed (sign_turn _ _ _ _ before printed whole is)
+    once (Sign state random message out) whole before printed (sign_turn _ before printed whole is)
 obeyed (Batch state workers) end input rest before printed whole (done, is) =
     once (Batch state workers) whole before printed (jobs_turn _ _ input rest before printed whole is)
 obeyed (Serve state workers) end input rest before printed whole (done, is) =
@@ -107,7 +108,7 @@ obeyed (JoinPublic public signer out) end input rest before printed whole (done,
 -- one that fails
 failed : (command : Command) (fault : Fault) (input rest : Option (List ℕ)) (before printed : List ℕ)
     (whole : WorldCalls)
-    → LogsFailed command fault input rest before printed [] whole → Obeyed command whole before printed
+    → (deed command).failed fault input rest before printed [] whole → Obeyed command whole before printed
 failed (Keygen levels seed id state public) fault input rest before printed whole (inl (no_key, calls, same)) =
     once (Keygen levels seed id state public) whole before printed
     (StoresNothing, [], idle_as whole [] calls refl refl, (refl, inl (ap written_in calls, same)))
@@ -121,7 +122,7 @@ failed (Public state public) fault input rest before printed whole is =
     let turn = public_failed_turn _ _ before printed fault whole is in
     once (Public state public) whole before printed (turn.0, [], turn.1, (refl, turn.2))
 failed (Sign state random message out) fault input rest before printed whole is =
-    once (Sign state random message out) whole before printed (sign_failed_turn _ _ _ _ before printed fault whole is)
+    once (Sign state random message out) whole before printed (sign_failed_turn _ before printed fault whole is)
 failed (Batch state workers) fault input rest before printed whole is =
     once (Batch state workers) whole before printed (jobs_failed_turn _ _ input rest before printed fault whole is)
 failed (Serve state workers) fault input rest before printed whole is =
@@ -173,11 +174,11 @@ turns_of_run run = by_log run.logged
             are_turns = cut.are;
             linked = cut.linked None is.linked;
             one = ⊎_elim (λ (one : length is.turns ≡ 1). inl (cut.count ∙ one))
-                (λ (serves : IsServe command). inr (command, taken, serves)) is.one;
+                (λ (serves : (deed command).may.serves). inr (command, taken, serves)) is.one;
             hands = inr (
               command,
               taken,
-              subst (λ (ones : List Signature). HandsOut command ones run.whole run.before run.printed)
+              subst (λ (ones : List Signature). (deed command).hands ones run.whole run.before run.printed)
                   (sym cut.signatures) is.hands,
             );
           },

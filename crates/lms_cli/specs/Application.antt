@@ -22,10 +22,11 @@ shape_for s = record (new_shape s.name) { rules = map required_option s.options 
 abbrev pub app_for : Subcommand → App
 app_for s = record { top = shape_for s; subs = [] }
 
--- the subcommand in a row
+-- a row of a table of subcommands, as code borrows it
 abbrev pub TableRow : Type 0
 TableRow = Bor Text × Bor Text × Bor Text × Bor (List (Bor Text × Bor Text × Bor Text))
 
+-- the subcommand in a row
 abbrev pub subcommand_in : TableRow → Subcommand
 subcommand_in row = record { name = row.0.now; options = map (λ option. option.0.now) row.3.now }
 
@@ -33,17 +34,18 @@ subcommand_in row = record { name = row.0.now; options = map (λ option. option.
 abbrev pub with_rows : App → List TableRow → App
 with_rows = fold (λ a row. with_subcommand a (shape_for (subcommand_in row)))
 
--- the subcommand in a row of the program's table, whose references have no address
+-- a text in the program's table, whose references have no address
 abbrev pub TextIn : Type 0
 TextIn = record { now : Text }
 
+-- the subcommand in a row of the program's table
 abbrev pub described : TextIn × TextIn × TextIn × record { now : List (TextIn × TextIn × TextIn) } → Subcommand
 described row = record { name = row.0.now; options = map (λ option. option.0.now) row.3.now }
 
 abbrev pub subcommands : List Subcommand
 subcommands = map described SUBCOMMANDS
 
--- the subcommand of this name, of some
+-- the first of some subcommands that has this name
 abbrev pub subcommand_called_in : List Subcommand → Text → Option Subcommand
 subcommand_called_in among name = find (λ s. bytes_eq s.name name) among
 

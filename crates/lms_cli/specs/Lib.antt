@@ -1,5 +1,6 @@
 pub mod Application
 pub mod Commands
+pub mod Deeds
 pub mod Runs
 pub mod UsageArguments
 pub mod RunLogs

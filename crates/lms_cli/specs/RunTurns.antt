@@ -1,49 +1,16 @@
 -- Runs of the program at one state, one after another, each perhaps cut off by a crash.
-use Rattle.std.specs.Prelude.{◌≡◌, ◌⊎◌, ℕ, List, [], ◌∷◌, ◌++◌, length, AllPairs, None, Option, string_bytes}
+use Rattle.std.specs.Prelude.{◌≡◌, ◌⊎◌, ℕ, List, [], ◌∷◌, ◌++◌, length, AllPairs, None, Option}
 use Rattle.clap.specs.Words.{Text}
 use Rattle.lms_commands.specs.Expectations.{Expected, IsCarriedAlong}
-use Rattle.lms_commands.specs.Histories.{AreDelivered, ArePrinted, HandsNothing}
-use Rattle.lms_key_commands.specs.KeyTurns.{HandsKey, HandsState, HandsWitness}
-use Rattle.lms_key_commands.specs.ResumeTurns.{HandsResumed}
-use Rattle.lms_signature_commands.specs.VerifyTurns.{HandsVerdict}
-use Rattle.lms_commands.specs.Histories.{AreCutTurns, AreLinked, IsBeginning, IsEarlier}
-use Rattle.lms_commands.specs.Histories.{TakenTurn}
-use Rattle.lms_commands.specs.Histories.{Signature, all_left, begun_calls, turn_signatures, whole_calls}
+use Rattle.lms_commands.specs.Histories.{AreCutTurns, AreLinked, IsBeginning, IsEarlier, Signature, TakenTurn}
+use Rattle.lms_commands.specs.Histories.{all_left, begun_calls, turn_signatures, whole_calls}
 use Rattle.lms_commands.specs.Logs.{WorldCalls}
 use Rattle.lms_commands.specs.declared.status.Status.{Status}
-use Rattle.lms_join_commands.specs.Joined.{HandsJoined, HandsJoinedKey}
 use Rattle.lms_cli.specs.Commands.{AreTakenAs, AsksForHelp}
+use Rattle.lms_cli.specs.Deeds.{deed}
 use Rattle.lms_cli.specs.RunLogs.{LogsRun}
 use Rattle.lms_cli.specs.Runs.{AsksToServe}
 use Rattle.lms_cli.specs.declared.command.types.Command.{Command}
-use Rattle.lms_cli.specs.declared.command.types.Command.TheVariants.{Batch, Info, Join, JoinPublic, Keygen, Public}
-use Rattle.lms_cli.specs.declared.command.types.Command.TheVariants.{Resume, Serve, Sign, Verify, Witness}
-
--- what a command hands out: `sign` writes signatures to its file, `batch` and `serve` print their lines, and
--- no other has any of its own; what `join` writes repeats one that was read
-abbrev pub HandsOut : Command → List Signature → WorldCalls → List ℕ → List ℕ → Type 0
-HandsOut (Keygen levels seed id state public) signatures whole before printed =
-    (signatures ≡ []) × (HandsNothing whole before printed ⊎ HandsKey whole before printed)
-HandsOut (Info state) signatures whole before printed =
-    (signatures ≡ []) × HandsState whole before printed
-HandsOut (Public state public) signatures whole before printed =
-    (signatures ≡ []) × (HandsNothing whole before printed ⊎ HandsKey whole before printed)
-HandsOut (Sign state random message out) signatures whole before printed =
-    AreDelivered signatures whole before printed
-HandsOut (Batch state workers) signatures whole before printed =
-    ArePrinted signatures whole before printed
-HandsOut (Serve state workers) signatures whole before printed =
-    ArePrinted signatures whole before printed
-HandsOut (Witness state on counter) signatures whole before printed =
-    (signatures ≡ []) × HandsWitness whole before printed
-HandsOut (Resume state counter) signatures whole before printed =
-    (signatures ≡ []) × HandsResumed whole before printed
-HandsOut (Verify public message signature) signatures whole before printed =
-    (signatures ≡ []) × HandsVerdict whole before printed
-HandsOut (Join public endorsement signer signature out) signatures whole before printed =
-    (signatures ≡ []) × HandsJoined (string_bytes signature) whole before printed
-HandsOut (JoinPublic public signer out) signatures whole before printed =
-    (signatures ≡ []) × HandsJoinedKey whole before printed
 
 -- a run of the program: what it is handed and what comes of it, by the contract of `run` on its
 -- calls; all calls that it would make, and those that it began before it ended or crashed
@@ -67,7 +34,7 @@ abbrev pub HandsOutAll : ProgramRun → List Signature → Type 0
 HandsOutAll run signatures =
     ((run.whole ≡ []) × (signatures ≡ []) × (AsksForHelp run.words ⊎ (run.printed ≡ run.before)))
     ⊎ ((command : Command) × AreTakenAs run.words command
-    × HandsOut command signatures run.whole run.before run.printed)
+    × (deed command).hands signatures run.whole run.before run.printed)
 
 -- a run takes these turns at its state, one after another: `serve` any number, and every other
 -- command one

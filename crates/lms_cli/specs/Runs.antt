@@ -1,47 +1,27 @@
 -- What a run of the program comes to, from the arguments, the files and the states to the bytes
 -- printed.
-use Rattle.std.specs.Prelude.{ℕ, ◌≡◌, ◌≤◌, ◌<◌, ◌⊎◌, List, Option, string_bytes}
+use Rattle.std.specs.Prelude.{ℕ, ◌≡◌, ◌≤◌, ◌<◌, ◌⊎◌, List, Option}
 use Rattle.clap.specs.Words.{Text}
-use Rattle.lms_cli.specs.Commands.{AreTakenAs}
-use Rattle.lms_cli.specs.RunLogs.{LogsRun}
 use Rattle.lms_commands.specs.Faults.{status_number}
 use Rattle.lms_commands.specs.Logs.{WorldCalls}
-use Rattle.lms_texts.specs.Seeds.{on_input}
-use Rattle.lms_world.specs.Held.{Follows, Memory}
-use Rattle.lms_cli.specs.declared.command.types.Command.{Command}
-use Rattle.lms_cli.specs.declared.command.types.Command.TheVariants.{Batch, Keygen, Serve}
 use Rattle.lms_commands.specs.declared.status.Status.{Status}
 use Rattle.lms_commands.specs.declared.status.Status.TheVariants as status
-
--- the command is `batch` or `serve`
-abbrev pub SignsJobLines : Command → Type 0
-SignsJobLines (Batch state workers) = Unit {0}
-SignsJobLines (Serve state workers) = Unit {0}
-SignsJobLines _ = ⊥
-
--- the command is `serve`
-abbrev pub IsServe : Command → Type 0
-IsServe (Serve state workers) = Unit {0}
-IsServe _ = ⊥
-
--- the command reads standard input: `batch` and `serve` do, and `keygen` where its seed is there
-abbrev pub ReadsInput : Command → Type 0
-ReadsInput (Batch state workers) = Unit {0}
-ReadsInput (Serve state workers) = Unit {0}
-ReadsInput (Keygen levels seed id state public) = string_bytes seed ≡ on_input
-ReadsInput _ = ⊥
+use Rattle.lms_world.specs.Held.{Follows, Memory}
+use Rattle.lms_cli.specs.Deeds.{IsAsked}
+use Rattle.lms_cli.specs.RunLogs.{LogsRun}
 
 -- the arguments ask for `serve`
 abbrev pub AsksToServe : List Text → Type 0
-AsksToServe words = (command : Command) × AreTakenAs words command × IsServe command
+AsksToServe = IsAsked (λ may. may.serves)
 
 -- the arguments ask for `batch` or `serve`
 abbrev pub AsksToSignLines : List Text → Type 0
-AsksToSignLines words = (command : Command) × AreTakenAs words command × SignsJobLines command
+AsksToSignLines = IsAsked (λ may. may.signs_lines)
 
--- the arguments ask for a command that reads standard input
+-- the arguments ask for a command that reads standard input: `batch` and `serve` do, and `keygen` where
+-- its seed is there
 abbrev pub AsksToRead : List Text → Type 0
-AsksToRead words = (command : Command) × AreTakenAs words command × ReadsInput command
+AsksToRead = IsAsked (λ may. may.reads)
 
 -- what a run of the program finds or leaves: what is known of the world and the calls on it; the
 -- input and what is still to be read of it; what is printed to the output; standard error and

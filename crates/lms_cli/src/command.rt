@@ -171,7 +171,8 @@ fn option_text(alloc: Global, options: &ArgMatches<'_>, name: &str) -> Result<St
     String::from_str(alloc, options.get_str(name).unwrap())
 }
 
-/// The fault that clap's error is.
+/// The fault that clap's error is: `Help` where it shows help, `OutOfMemory` where memory ran out,
+/// also for its text, and else `Usage`.
 fn fault_from(alloc: Global, error: &Error) -> CommandFault
     ensures { FaultOf (kind_of error.now) result }
 {

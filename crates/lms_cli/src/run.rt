@@ -4,8 +4,9 @@ ghost use Rattle.std.specs.Io.KnownBytes.{Appends};
 ghost use Rattle.lms_blocks.specs.Writing.{AppendsFront};
 ghost use Rattle.lms_commands.specs.Faults.{fault_line, status_number, status_of};
 ghost use Rattle.lms_world.specs.Held.{Follows};
-ghost use Rattle.lms_cli.specs.RunLogs.{LogsAnswered, LogsFailed, LogsObeyed, LogsRefused, TellsUsage};
-ghost use Rattle.lms_cli.specs.Runs.{AsksToRead, ReadsInput, Runs, setting};
+ghost use Rattle.lms_cli.specs.Deeds.{deed};
+ghost use Rattle.lms_cli.specs.RunLogs.{LogsAnswered, LogsFailed, TellsUsage};
+ghost use Rattle.lms_cli.specs.Runs.{AsksToRead, Runs, setting};
 
 use crate::command::{ClapText, Command, CommandFault, command};
 use lms_blocks::{WriteFault, write_bytes};
@@ -25,11 +26,12 @@ use std::thread::Threads;
 ///
 /// A fault is one line on `errors`, `error: ` and its text. Help is printed to `output` and a
 /// mistake in the arguments to `errors`, both in clap's wording. Nothing but `keygen`, `sign`,
-/// `batch`, `serve` and `resume` changes states, and of the files only the one that `--public` or
-/// `--out` names is changed. `witness` alone makes a witness, and `sign`, `batch` and `serve` alone
-/// replace one. `keygen` and `sign` alone keep nodes of trees beside the state. `input` is read by
-/// `batch` and `serve`, and by `keygen` where its seed is `-`. `resources.progress` gets how far
-/// `keygen`, `public`, `sign`, `batch` and `serve` are while they compute trees.
+/// `batch`, `serve` and `resume` changes states. Of the files only one is changed: by `keygen` and
+/// `public` the one that `--public` names, by `sign`, `join` and `join-public` the one of `--out`.
+/// `witness` alone makes a witness, and `sign`, `batch` and `serve` alone replace one. `keygen` and
+/// `sign` alone keep nodes of trees beside the state. `input` is read by `batch` and `serve`, and
+/// by `keygen` where its seed is `-`. `resources.progress` gets how far `keygen`, `public`, `sign`,
+/// `batch` and `serve` are while they compute trees.
 pub fn run<S: AsStr, W: World, I: Read, O: Write, E: Write>(
     resources: &Resources<impl Threads + Wait + Sync, impl Progress>,
     words: &[S],
@@ -61,7 +63,8 @@ pub fn report<E: Write>(fault: Fault, errors: &mut E) -> Status
     fault.status()
 }
 
-/// Does what the arguments ask, and prints all but a fault.
+/// Does what the arguments ask: a command, or help. A mistake in them is printed to `errors` and
+/// answered as `Status::Usage`. A fault is left for the caller to print.
 fn answer<S: AsStr, W: World, I: Read, O: Write, E: Write>(
     resources: &Resources<impl Threads + Wait + Sync, impl Progress>,
     words: &[S],
@@ -73,7 +76,7 @@ fn answer<S: AsStr, W: World, I: Read, O: Write, E: Write>(
     ensures logged { IfOk result (λ status. LogsAnswered (map S.text words.now) status
         (I.remaining input.old) (I.remaining input.new) output.old output.new
         (W.events world.old) (W.events world.new)) }
-    ensures log_failed { IfErr result (λ fault. LogsRefused (map S.text words.now) fault
+    ensures log_failed { IfErr result (λ fault. LogsFailed (map S.text words.now) fault
         (I.remaining input.old) (I.remaining input.new) output.old output.new
         (W.events world.old) (W.events world.new)) }
     ensures usage { IfOk result (λ status.
@@ -116,13 +119,13 @@ fn obey<W: World, I: Read, O: Write>(
     input: &mut I,
     output: &mut Printer<O>,
 ) -> Result<Status, Fault>
-    ensures logged { IfOk result (λ status. LogsObeyed command status
+    ensures logged { IfOk result (λ status. (deed command).done status
         (I.remaining input.old) (I.remaining input.new) output.old output.new
         (W.events world.old) (W.events world.new)) }
-    ensures log_failed { IfErr result (λ fault. LogsFailed command fault
+    ensures log_failed { IfErr result (λ fault. (deed command).failed fault
         (I.remaining input.old) (I.remaining input.new) output.old output.new
         (W.events world.old) (W.events world.new)) }
-    ensures unread { (input.new ≡ input.old) ⊎ ReadsInput command }
+    ensures unread { (input.new ≡ input.old) ⊎ (deed command).may.reads }
     ensures follows { Follows (W.memory world.old) (W.events world.old)
         (W.memory world.new) (W.events world.new) }
 {
@@ -220,7 +223,7 @@ fn obey<W: World, I: Read, O: Write>(
     }
 }
 
-/// Prints a text, or, where that can't be done, a beginning of it.
+/// Prints a text. `WriteFault` where that can't be done, maybe after a beginning of it.
 fn print_text<W: Write>(writer: &mut W, text: &ClapText) -> Result<(), WriteFault>
     ensures whole { OnOk result
         (Appends (W.contents writer.old) (W.contents writer.new) (string_bytes text.now.text)) }

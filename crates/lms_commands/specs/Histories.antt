@@ -42,7 +42,7 @@ AreInOrder key start end (one ∷ later) =
     IsSignature one × (one.key ≡ key) × (start ≤ one.index) × (one.index < end)
     × AreInOrder key (one.index + 1) end later
 
--- what a run does with its state
+-- what a turn of a run does with its state and its witness
 pub data Turn : Type 0 where
   -- it stores nothing
   StoresNothing : Turn
@@ -53,11 +53,11 @@ pub data Turn : Type 0 where
   Uses : (count : ℕ) (state : KeyState) (text : List ℕ) (watch : Watch) → Turn
   -- it reads bytes, the image of a state that has no witness, and makes one that says what it counts
   Watches : (state : KeyState) (text : List ℕ) → Turn
-  -- it reads the image of a state that counts so many indices less than its witness says, and stores
-  -- the one that counts as many
+  -- it reads the image of a state that counts so many indices less than its witness says, and stores images that count
+  -- more, up to the one that counts as many
   Resumes : (count : ℕ) (state : KeyState) (watch : List ℕ) → Turn
 
--- the image that it stores, for certain or not
+-- the image that a turn stores, for certain or not; of one that resumes the last, before which it may store others
 abbrev pub image_by : Turn → Option (List ℕ)
 image_by StoresNothing = None
 image_by (Makes key) = Some (image_of key 0 0 0)
@@ -83,7 +83,7 @@ is_of_witness other = false
 abbrev pub witness_calls : WorldCalls → WorldCalls
 witness_calls calls = filter is_of_witness calls
 
--- the witnesses that were read
+-- what was read of the witness, `None` where there was none; reads that failed are left out
 abbrev pub found_in : WorldCalls → List Watch
 found_in [] = []
 found_in (WitnessRead (Ok found) ∷ calls) = found ∷ found_in calls
@@ -120,14 +120,14 @@ FindsNone calls =
     (later earlier : WorldCalls) × (calls ≡ later ++ Asked false ∷ earlier)
     × (store_calls earlier ≡ [])
 
--- a witness was written, for certain or not, or none was
+-- the witness was written, for certain or not, to say that so many more indices are used; or none was written
 abbrev pub NotesAtMost : ℕ → KeyState → Watch → WorldCalls → Type 0
 NotesAtMost count state watch calls =
     (witness_calls calls ≡ [])
     ⊎ ((answer : Writing) × (witness_calls calls ≡ notes count watch state.key.i state.index answer))
 
--- bytes are read, the image of a state that its witness does not refuse; the image that counts so many
--- indices more is stored, for certain or not, and the witness at most is written
+-- bytes are read, the image of a state that its witness does not refuse; the image that counts so many indices more is
+-- stored, for certain or not; and the witness is written, for certain or not, or is not
 pub record CountsIndices (count : ℕ) (state : KeyState) (text : List ℕ) (watch : Watch)
     (calls : WorldCalls) : Type 0 where
   pub taken : Taking
@@ -171,7 +171,7 @@ pub record CountsUp (count : ℕ) (state : KeyState) (watch : List ℕ) (calls :
   pub says : Says watch state.key.i (state.index + count)
   pub unnoted : witness_calls calls ≡ []
 
--- the calls on the state that a turn makes, and no other
+-- the calls that a turn makes on the state and its witness, and no other
 abbrev pub IsDoneBy : Turn → WorldCalls → Type 0
 IsDoneBy StoresNothing calls =
     (witness_calls calls ≡ [])
@@ -205,8 +205,8 @@ Signs (Uses count state text watch) signatures calls =
     × ((signatures ≡ []) ⊎ AreCounted count state watch calls)
 Signs other signatures calls = signatures ≡ []
 
--- all calls of a run: at first those on its state and its witness, while nothing leaves; then those
--- with which something leaves, while nothing is done with either
+-- all calls of a turn: at first those on its state and its witness, while nothing leaves; then those with which
+-- something may leave, while nothing is done with the state, and no witness is written
 pub record IsTurn (turn : Turn) (signatures : List Signature) (whole : WorldCalls) : Type 0 where
   pub first : WorldCalls
   pub later : WorldCalls
@@ -235,7 +235,7 @@ abbrev pub ArePrinted : List Signature → WorldCalls → List ℕ → List ℕ 
 ArePrinted signatures whole before printed =
     (written_in whole ≡ []) × Prints before printed (signature_lines signatures)
 
--- these signatures are written to files, and at most the index of the one that there is is printed
+-- these signatures are written to files; and nothing is printed or, of one signature, a beginning of its index's line
 abbrev pub AreDelivered : List Signature → WorldCalls → List ℕ → List ℕ → Type 0
 AreDelivered signatures whole before printed = AreWritten signatures whole
     × ((printed ≡ before)
@@ -263,9 +263,9 @@ pub record TakenTurn : Type 0 where
 
 -- the signatures that left, each perhaps in part: all, once anything did
 abbrev pub left_in : TakenTurn → List Signature
-left_in run = if list_any hands_out run.begun then run.signatures else []
+left_in taken = if list_any hands_out taken.begun then taken.signatures else []
 
--- where its run stored an image before, that is what a turn reads
+-- where its run stored an image before, that is what a turn reads that uses indices
 abbrev pub Continues : Turn → Option (List ℕ) → Type 0
 Continues (Uses count state text watch) (Some image) = text ≡ image
 Continues (Uses count state text watch) None = Unit {0}
@@ -274,8 +274,8 @@ Continues (Makes key) due = Unit {0}
 Continues (Watches state text) due = Unit {0}
 Continues (Resumes count state watch) due = Unit {0}
 
--- the image that a run stored last, after a turn; a run that makes a key or a witness, or resumes, takes
--- no other
+-- the image that a run stored last, after a turn; a run that makes a key or a witness, or resumes, takes no other turn,
+-- so that `None` will do
 abbrev pub stored_last : Turn → Option (List ℕ) → Option (List ℕ)
 stored_last StoresNothing due = due
 stored_last (Makes key) due = None
@@ -287,13 +287,13 @@ stored_last (Resumes count state watch) due = None
 -- anything before
 abbrev pub AreLinked : Option (List ℕ) → List TakenTurn → Type 0
 AreLinked due [] = Unit {0}
-AreLinked due (run ∷ later) =
-    (run.due ≡ due) × Continues run.turn due × AreLinked (stored_last run.turn due) later
+AreLinked due (taken ∷ later) =
+    (taken.due ≡ due) × Continues taken.turn due × AreLinked (stored_last taken.turn due) later
 
 -- all signatures that left, in order
 abbrev pub all_left : List TakenTurn → List Signature
 all_left [] = []
-all_left (run ∷ runs) = left_in run ++ all_left runs
+all_left (taken ∷ later) = left_in taken ++ all_left later
 
 -- of one key, the second is by a later index
 abbrev pub IsEarlier : Signature → Signature → Type 0
@@ -302,27 +302,27 @@ IsEarlier first second = first.key ≡ second.key → first.index < second.index
 -- all calls that turns would make, one turn after another
 abbrev pub whole_calls : List TakenTurn → WorldCalls
 whole_calls [] = []
-whole_calls (run ∷ later) = whole_calls later ++ run.whole
+whole_calls (taken ∷ later) = whole_calls later ++ taken.whole
 
 -- those that they began
 abbrev pub begun_calls : List TakenTurn → WorldCalls
 begun_calls [] = []
-begun_calls (run ∷ later) = begun_calls later ++ run.begun
+begun_calls (taken ∷ later) = begun_calls later ++ taken.begun
 
 -- the signatures that leave them if all come so far
 abbrev pub turn_signatures : List TakenTurn → List Signature
 turn_signatures [] = []
-turn_signatures (run ∷ later) = run.signatures ++ turn_signatures later
+turn_signatures (taken ∷ later) = taken.signatures ++ turn_signatures later
 
 -- turns one after another, cut off somewhere: where one is not begun to its end, nothing is begun of
 -- those after it
 abbrev pub AreCutTurns : List TakenTurn → Type 0
 AreCutTurns [] = Unit {0}
-AreCutTurns (run ∷ later) = IsTurn run.turn run.signatures run.whole
-    × IsBeginning run.begun run.whole
-    × ((run.begun ≡ run.whole) ⊎ (begun_calls later ≡ [])) × AreCutTurns later
+AreCutTurns (taken ∷ later) = IsTurn taken.turn taken.signatures taken.whole
+    × IsBeginning taken.begun taken.whole
+    × ((taken.begun ≡ taken.whole) ⊎ (begun_calls later ≡ [])) × AreCutTurns later
 
 -- turns one after another, none of them cut off
 abbrev pub AreWholeTurns : List TakenTurn → Type 0
 AreWholeTurns [] = Unit {0}
-AreWholeTurns (run ∷ later) = IsTurn run.turn run.signatures run.whole × AreWholeTurns later
+AreWholeTurns (taken ∷ later) = IsTurn taken.turn taken.signatures taken.whole × AreWholeTurns later

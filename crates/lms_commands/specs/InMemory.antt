@@ -37,7 +37,7 @@ WitnessHeld = Result (Option (List ℕ)) WorldFault
 abbrev pub IsWatched : KeyState → WitnessHeld → Type 0
 IsWatched state held = (watch : Watch) × (held ≡ Ok watch) × IsAdmitted watch state.key.i state.index
 
--- it says that n indices more of a state are used, where there is one; of none, it stays
+-- what is held once the witness, if there is one, says that n indices more of a state are used; where n is 0, it stays
 abbrev pub noted : ℕ → KeyState → WitnessHeld → WitnessHeld
 noted zero state held = held
 noted (suc n) state (Ok (Some text)) = Ok (Some (witness_text state.key.i (state.index + suc n)))
@@ -48,7 +48,7 @@ noted (suc n) state (Err fault) = Err fault
 abbrev pub OnlyFiles : Held → Held → Type 0
 OnlyFiles old new = new ≡ record old { files = new.files }
 
--- a read of the name fails
+-- a read of the name fails at the device, as where there is no file
 abbrev pub IsUnreadable : Bytes → Held → Type 0
 IsUnreadable name held = answer_in held.files name ≡ Err Device
 
@@ -79,7 +79,7 @@ pub record WasState (state : KeyState) (held : Texts) : Type 0 where
   pub counted : HasImage state.key state.index state.openings state.burnt
   pub image : IsImage text state.key state.index state.openings state.burnt
 
--- it was, and is left as it was
+-- the state was an image of some key and numbers, and is left as it was, as all else is
 pub record FindsState (old new : Held) : Type 0 where
   pub state : KeyState
   pub was : WasState state old.state
@@ -112,7 +112,7 @@ FailsToWatch fault old new =
     ⊎ ((found : FindsState old new) × (text : List ℕ) × (old.witness ≡ Ok (Some text))
     × IsRefusedBy (Some text) found.state.key.i found.state.index fault)))
 
--- fewer than n indices are left, so many
+-- of a state that its witness does not refuse fewer than n indices are left, namely `left`; all stays as it was
 pub record LacksIndices (n left : ℕ) (old new : Held) : Type 0 where
   pub finds : FindsState old new
   pub watched : IsWatched finds.state old.witness
@@ -131,7 +131,7 @@ pub record BurnsIndices (n start : ℕ) (old new : Held) : Type 0 where
   pub witness : new.witness ≡ old.witness
   pub left : (new.state ≡ old.state) ⊎ IsLeftBy (image_using n state) old.state new.state
 
--- they are stored as used, and the witness does not say so
+-- n indices of the state are stored as used, and the witness stays as it was
 pub record UsesIndices (n : ℕ) (old new : Held) : Type 0 where
   pub state : KeyState
   pub was : WasState state old.state

@@ -53,7 +53,7 @@ state_in image =
 abbrev pub image_using : ℕ → KeyState → List ℕ
 image_using n state = image_of state.key (state.index + n) (state.openings + 1) state.burnt
 
--- a store that was taken out gave bytes, the image of this state
+-- a store that was taken out gave bytes, the image of this state; `read` is what contracts see of it then
 pub record ReadsState (state : KeyState) (taken read : StoreView) : Type 0 where
   pub text : List ℕ
   pub left : MayLeave taken text
@@ -106,7 +106,7 @@ TriesUse n state old new =
     × FailsToWrite (image_using n state) read left
     × PutsBack taken left old new
 
--- the image that counts all indices below this one as used
+-- the image that counts all indices below this one as used, and their opening
 abbrev pub image_below : ℕ → KeyState → List ℕ
 image_below end state = image_of state.key end (state.openings + 1) state.burnt
 
@@ -122,40 +122,40 @@ StoresUpTo state (end ∷ earlier) read left =
     (before : StoreView) × StoresUpTo state earlier read before × (used_after state earlier < end)
     × (left ≡ after_write (image_below end state) before)
 
--- so some images are stored, none that counts beyond this end, and then perhaps one more, not for certain
+-- so images are stored, perhaps none, and none that counts beyond this end; and then perhaps one more, not for certain
 abbrev pub StoresSome : ℕ → KeyState → StoreView → StoreView → Type 0
 StoresSome end state read left =
     (ends : List ℕ) × (mid : StoreView) × (used_after state ends ≤ end) × StoresUpTo state ends read mid
     × ((left ≡ mid)
     ⊎ ((at : ℕ) × (used_after state ends < at) × (at ≤ end) × FailsToWrite (image_below at state) mid left))
 
--- n indices of a state that was opened are not used: there are too few, or memory runs out
+-- a state is read, and n of its indices are not used: there are too few, or memory runs out
 abbrev pub LeavesUnsigned : ℕ → Fault → KeyState → WorldCalls → WorldCalls → Type 0
 LeavesUnsigned n fault state old new =
     ((fault ≡ Exhausted (capacity_of (hss_key_of state.key) - state.index))
     × (capacity_of (hss_key_of state.key) < state.index + n) × LeavesState state old new)
     ⊎ ((fault ≡ OutOfMemory) × LeavesState state old new)
 
--- their use is stored, for certain or not, and they sign nothing
+-- a state is read, and the use of n of its indices is stored, for certain or not, and they sign nothing
 abbrev pub BurnsUnsigned : ℕ → Fault → KeyState → WorldCalls → WorldCalls → Type 0
 BurnsUnsigned n fault state old new =
     ((fault ≡ WriteStateBurnt state.index n) × TriesUse n state old new)
     ⊎ ((fault ≡ OutOfMemoryBurnt n) × StoresUse n state old new)
 
--- n indices of a state that was opened sign nothing
+-- a state is read, and n of its indices sign nothing
 abbrev pub LogsUnsigned : ℕ → Fault → KeyState → WorldCalls → WorldCalls → Type 0
 LogsUnsigned n fault state old new =
     LeavesUnsigned n fault state old new ⊎ BurnsUnsigned n fault state old new
 
--- the bytes of these trees are kept, which is done or fails, or nothing is, since memory for them was
--- refused or there are no trees
+-- the bytes of these trees are written beside the state, which is done or fails; or no call is made, since memory for
+-- the bytes was refused or there are no trees
 abbrev pub LogsKeeping : Option Way → WorldCalls → WorldCalls → Type 0
 LogsKeeping trees old new =
     (new ≡ old)
     ⊎ ((way : Way) × (answer : Writing) × (trees ≡ Some way)
     × (new ≡ after (NodesWritten (nodes_text way) answer ∷ []) old))
 
--- what was not locked, not read, or not written, at this fault
+-- what the world answered to a lock, a read or a write that failed by this fault
 abbrev pub lock_answer : Fault → Locking
 lock_answer StateInUse = NotAvailable
 lock_answer fault = NoMemory
@@ -193,14 +193,14 @@ IsReadRefused fault = (fault ≡ ReadInput) ⊎ (fault ≡ OutOfMemory)
 abbrev pub IsWriteRefused : Fault → Type 0
 IsWriteRefused fault = (fault ≡ WriteOutput) ⊎ (fault ≡ OutOfMemory)
 
--- these bytes are written to a file, and the line after them is printed
+-- these bytes are written to the file of this name, and then this line is printed, after what was printed before
 abbrev pub Publishes : Bytes → List ℕ → List ℕ → List ℕ → List ℕ → WorldCalls → WorldCalls → Type 0
 Publishes name bytes line before printed old new =
     (new ≡ after (Written name bytes (Ok tt) ∷ Printing before ∷ []) old)
     × (printed ≡ before ++ line)
 
--- at this fault these bytes are not written to a file and nothing is printed; or they are, and of
--- the line after them a beginning at most is printed
+-- at this fault these bytes are not written to the file and nothing is printed; or they are, and of the line a
+-- beginning at most is printed
 abbrev pub FailsToPublish : Bytes → List ℕ → List ℕ → List ℕ → List ℕ → Fault → WorldCalls
     → WorldCalls → Type 0
 FailsToPublish name bytes line before printed fault old new =

@@ -18,7 +18,7 @@ use Rattle.lms_commands.specs.declared.witness.Witness.{Witness}
 abbrev pub Watch : Type 0
 Watch = Option (List ℕ)
 
--- as code has it, with its draft
+-- those bytes of a witness as code has it, with its draft
 abbrev pub watch_of : {D : Type 0} → Option (Witness D) → Watch
 watch_of witness = option_map (λ it. it.text.items) witness
 
@@ -27,23 +27,24 @@ abbrev pub watch_calls : Watch → WorldCalls
 watch_calls None = WitnessRead (Ok None) ∷ []
 watch_calls (Some text) = WitnessDrafted (Ok tt) ∷ WitnessRead (Ok (Some text)) ∷ []
 
--- it can't be read, or no draft of it be made, at this fault
+-- it can't be read, at this fault
 abbrev pub LogsUnseen : Fault → WorldCalls → WorldCalls → Type 0
 LogsUnseen fault old new =
     ((fault ≡ ReadWitness) × (new ≡ WitnessRead (Err world.Device) ∷ old))
     ⊎ ((fault ≡ OutOfMemory) × (new ≡ WitnessRead (Err world.OutOfMemory) ∷ old))
 
+-- no draft of it can be made, at this fault; there is no call where memory for its next bytes was refused
 abbrev pub LogsUndrafted : Fault → WorldCalls → WorldCalls → Type 0
 LogsUndrafted fault old new =
     ((fault ≡ WriteWitness) × (new ≡ WitnessDrafted (Err world.Device) ∷ old))
     ⊎ ((fault ≡ OutOfMemory) × ((new ≡ old) ⊎ (new ≡ WitnessDrafted (Err world.OutOfMemory) ∷ old)))
 
--- the bytes say that all indices of the key of this identifier below this are used
+-- the bytes say that all indices below this number of the key of this identifier are used
 pub record Says (text id : List ℕ) (counter : ℕ) : Type 0 where
   pub text_is : text ≡ witness_text id counter
   pub fits : counter < 2 ^ 64
 
--- a state that counts so many indices is not older than its witness
+-- a state of the key of this identifier that counts so many indices is not older than its witness, or has none
 abbrev pub IsAdmitted : Watch → List ℕ → ℕ → Type 0
 IsAdmitted None id index = Unit {0}
 IsAdmitted (Some text) id index = (counter : ℕ) × Says text id counter × (counter ≤ index)
@@ -55,7 +56,8 @@ IsRefusedBy (Some text) id index fault =
     ((fault ≡ BadWitness) × ((counter : ℕ) → ¬ Says text id counter))
     ⊎ ((fault ≡ StateOlder) × ((counter : ℕ) × Says text id counter × (index < counter)))
 
--- the call by which the witness says that so many indices from one on are used, too
+-- the call by which the witness says that so many indices from this one on are used, too; there is none where there are
+-- no such indices, or no witness
 abbrev pub notes : ℕ → Watch → List ℕ → ℕ → Writing → WorldCalls
 notes zero watch id start answer = []
 notes (suc n) None id start answer = []
@@ -75,7 +77,7 @@ pub record Admits (state : KeyState) : Type 0 where
   pub watch : Watch
   pub admitted : IsAdmitted watch state.key.i state.index
 
--- what is logged once it was read
+-- the calls up to where that witness is read and drafted
 abbrev pub watched : {state : KeyState} → Admits state → WorldCalls → WorldCalls
 watched by old = watch_calls by.watch ++ old
 
@@ -98,19 +100,21 @@ LogsUnwatched fault old new =
 abbrev pub LeavesWatched : KeyState → WorldCalls → WorldCalls → Type 0
 LeavesWatched state old new = (by : Admits state) × LeavesState state (watched by old) new
 
--- the image that counts n indices more is stored for certain, and then so is the witness
+-- the image that counts n indices more is stored for certain, and then the witness, if there is one, is written for
+-- certain
 abbrev pub UsesWatched : ℕ → KeyState → WorldCalls → WorldCalls → Type 0
 UsesWatched n state old new =
     (by : Admits state) × (last : WorldCalls) × StoresUse n state (watched by old) last
     × (new ≡ notes n by.watch state.key.i state.index (Ok tt) ++ last)
 
--- n indices of a state that was opened are not used: there are too few, or memory runs out
+-- a state is read that its witness does not refuse, and n of its indices are not used: there are too few, or memory
+-- runs out
 abbrev pub SparesWatched : ℕ → Fault → KeyState → WorldCalls → WorldCalls → Type 0
 SparesWatched n fault state old new =
     (by : Admits state) × LeavesUnsigned n fault state (watched by old) new
 
--- their use is stored, for certain or not, and they sign nothing; or it is for certain, and not in the
--- witness
+-- such a state is read, and n of its indices sign nothing: their use is not stored for certain; or it is, and then
+-- memory runs out, or the witness does not say so for certain
 abbrev pub BurnsWatched : ℕ → Fault → KeyState → WorldCalls → WorldCalls → Type 0
 BurnsWatched n fault state old new =
     (by : Admits state)
@@ -118,7 +122,7 @@ BurnsWatched n fault state old new =
     ⊎ ((last : WorldCalls) × StoresUse n state (watched by old) last
     × FailsToNote n by.watch state.key.i state.index fault last new))
 
--- n indices of a state that was opened sign nothing
+-- such a state is read, and n of its indices sign nothing
 abbrev pub UnsignedWatched : ℕ → Fault → KeyState → WorldCalls → WorldCalls → Type 0
 UnsignedWatched n fault state old new =
     SparesWatched n fault state old new ⊎ BurnsWatched n fault state old new

@@ -34,45 +34,50 @@ pub enum Fault {
     BadId,
     /// The randomizer is not 64 hexadecimal digits.
     BadRandom,
-    /// The text for the workers is no decimal number from 1 to the most of a batch.
+    /// The text for the workers is no decimal number from 1 to 64.
     BadWorkers,
-    /// The text for the counter is no number in decimal.
+    /// The text for the counter is no number below 2^64 in decimal.
     BadCounter,
     /// A file is no HSS public key of known typecodes, or two keys have more than 8 levels together.
     BadPublicKey,
     /// The endorsement is not accepted for the signer's key under the top key.
     BadEndorsement,
-    /// The signature has no count of signed keys, or another than signatures by the signer's key.
+    /// The signature has no count of signed keys, or another than signatures by the signer's key
+    /// have.
     BadSignature,
     /// This line of the input, counted from 1, is the first that is no job line.
     BadJob { line: u64 },
-    /// The input has over 1024 lines, of which the first 1024 are job lines.
+    /// The input has over 1024 lines, of which the first 1024 are job lines; or `serve` has
+    /// answered 2^53 groups.
     TooManyJobs,
     /// A new key's state is there already.
     StateExists,
-    /// Something has the name of the state's witness already.
+    /// The state has a witness already, which can be read.
     WitnessExists,
-    /// The state's lock is not available: another program has it, or its file can't be made.
+    /// The state's lock is not available: another program has it, or it can't be acquired, as where
+    /// its file can't be made.
     StateInUse,
-    /// The state is not there, or can't be read.
+    /// The state is not there, or can't be read; or `serve` finds another than it left.
     ReadState,
     /// The state is no image.
     BadState(ImageFault),
     /// A new key's state was not stored for certain.
     WriteState,
-    /// The state was not stored for certain: `len` indices from `start` on are burnt.
+    /// The state was not stored for certain: `len` indices from `start` on sign nothing, and may
+    /// count as used.
     WriteStateBurnt { start: u64, len: u64 },
-    /// The witness is not there, or can't be read.
+    /// The witness can't be read or, for `resume`, is not there.
     ReadWitness,
-    /// The witness is none of the state's key.
+    /// The witness is no line of a witness, or another key's.
     BadWitness,
     /// The witness says that more indices are used than the state does.
     StateOlder,
-    /// It doesn't, so that there is nothing to resume.
+    /// The witness says no more than the state counts, so that there is nothing to resume.
     StateNotOlder,
     /// The counter of the state, or of its witness, is this one and not the one that was expected.
     OtherCounter { counter: u64 },
-    /// A witness was not made for certain: it is not there, or says what it did, or what it should.
+    /// No draft of the witness can be made, and the witness stays as it is; or `witness` did not
+    /// make one for certain, so that it may be there or not.
     WriteWitness,
     /// The witness was not written for certain: the indices from `first` to `last` are used, and
     /// sign nothing.
@@ -83,13 +88,13 @@ pub enum Fault {
     OutOfMemory,
     /// Memory ran out after a reservation: `count` indices are used, and signed nothing.
     OutOfMemoryBurnt { count: u64 },
-    /// Memory ran out while a batch was signed: all its indices are used, and the lines of the
-    /// signatures are printed.
+    /// Memory ran out while a batch was signed: of its `asked` jobs `signed` have signatures, whose
+    /// lines are printed, and all its indices are used.
     Partial { signed: usize, asked: usize },
-    /// Standard input, a file other than the state, or the program's arguments can't be read, or
-    /// `/dev/null` can't be opened.
+    /// Standard input, a file other than the state and its witness, or the program's arguments
+    /// can't be read, or `/dev/null` can't be opened.
     ReadInput,
-    /// A file or standard output can't be written.
+    /// A file other than the state and its witness, or standard output, can't be written.
     WriteOutput,
 }
 
@@ -306,7 +311,8 @@ impl From<BookFault> for Fault {
     }
 }
 
-/// Prints the fault's line, `error: ` and its text; where the writer fails, a beginning of it.
+/// Prints the fault's line, `error: ` and its text. `WriteFault` where the writer fails, maybe
+/// after a beginning of it.
 pub fn print_fault<W: Write>(errors: &mut W, fault: Fault) -> Result<(), WriteFault>
     ensures printed { OnOk result
         (Appends (W.contents errors.old) (W.contents errors.new) (fault_line fault)) }

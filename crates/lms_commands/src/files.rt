@@ -39,7 +39,8 @@ pub fn open_file<W: World>(alloc: Global, world: &mut W, name: &str) -> Result<W
     }
 }
 
-/// Hands the bytes of a file over, piece by piece. Faults as `read_file`.
+/// Hands the bytes of an opened file to `taker`, piece by piece. Faults as `read_file`, after some
+/// of the pieces perhaps; none where contracts know the file's bytes, as of one in memory.
 pub fn hand_over<C: Contents, T: Taker>(contents: C, taker: &mut T) -> Result<(), Fault>
     ensures handed { OnOk result ((bytes : List ℕ)
         × IfSome (C.holds contents) (λ held. bytes ≡ held) × T.after taker.old bytes taker.new) }
@@ -66,7 +67,8 @@ pub fn write_file<W: World>(world: &mut W, name: &str, bytes: &[u8]) -> Result<(
     }
 }
 
-/// The same, and flushes the file where that can be done.
+/// As `write_file`, and flushes the file, unless it is one that has no flush, as a pipe.
+/// `WriteOutput` also where the flush fails. No contract sees a flush.
 pub fn write_flushed<W: World>(
     alloc: Global,
     world: &mut W,
@@ -85,7 +87,8 @@ pub fn write_flushed<W: World>(
     }
 }
 
-/// Why a file was not written.
+/// The fault of a file that was not written: `WriteOutput` where the device failed, `OutOfMemory`
+/// where memory for that was refused.
 fn unwritten(cause: WorldFault) -> Fault
     ensures refused { IsWriteRefused result }
     ensures cause { write_cause result ≡ cause }
@@ -96,8 +99,8 @@ fn unwritten(cause: WorldFault) -> Fault
     }
 }
 
-/// The lock of a state. `StateInUse` where it is held, can't be acquired or can't be reached,
-/// `OutOfMemory` where memory for it was refused.
+/// Locks a state, without waiting, and answers the lock. `StateInUse` where another holds it, or
+/// where it can't be acquired or reached; `OutOfMemory` where memory for it was refused.
 pub fn lock_state<W: World>(alloc: Global, world: &mut W, state: &str) -> Result<W::Lock, Fault>
     ensures logged { W.events world.new ≡ Locked state.now (locked_so result) ∷ W.events world.old }
     ensures refused { IfErr result IsLockRefused }
@@ -111,8 +114,10 @@ pub fn lock_state<W: World>(alloc: Global, world: &mut W, state: &str) -> Result
     }
 }
 
-/// Takes the state of a lock out of the world, and opens its book, whose store the caller puts
-/// back. `ReadState`, `BadState` and `OutOfMemory` leave the state where it was.
+/// Takes the store of a lock's state out of the world, and opens its book; the caller puts the
+/// store back. `ReadState` where the state can't be read, `BadState` where it is no image,
+/// `OutOfMemory` where memory was refused: after a fault the store is in the world, and the state
+/// as it was.
 pub fn open_state<W: World>(
     alloc: Global,
     world: &mut W,
@@ -135,7 +140,7 @@ pub fn open_state<W: World>(
     }
 }
 
-/// What a book has read that was just opened.
+/// What a book that was just opened has read.
 pub fn image_read<S: StateStore>(book: &Book<S>) -> Image
     requires fresh { book.now.history ≡ [] }
     ensures { state_in result ≡ state_of book.now }

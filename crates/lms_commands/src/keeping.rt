@@ -8,7 +8,8 @@ use lms_kept::{KeptTrees, MOST_TEXT_LEN};
 use lms_world::World;
 use std::alloc::Global;
 
-/// What is kept beside the state of a lock, where that can be read.
+/// What is kept of trees beside the state of a lock. `None` where nothing is, where it is longer
+/// than `MOST_TEXT_LEN` bytes or can't be read, and where memory for it was refused.
 pub fn kept_text<W: World>(alloc: Global, world: &mut W, lock: &W::Lock) -> Option<Vec<u8>>
     ensures logged { W.events world.new
         ≡ NodesRead (option_map (λ text. text.items) result) ∷ W.events world.old }

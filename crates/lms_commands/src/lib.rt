@@ -1,5 +1,5 @@
-//! What all commands of the program share: their faults and statuses, and what they do with files and
-//! states.
+//! What all commands of the program share: their faults and statuses, and what they do with files,
+//! states and witnesses.
 //!
 //! Files and states are reached through a [`World`](lms_world::World).
 #![tactic(auto)]

@@ -9,15 +9,17 @@ pub enum Status {
     Done = 0,
     /// The signature is invalid, or a batch has not all its signatures.
     Negative = 1,
-    /// The arguments are no command, or an option's value is bad.
+    /// The arguments are no command, an option's value is bad, or so is a job line or a file that
+    /// is to be joined; or there are too many job lines.
     Usage = 2,
-    /// The state exists already, is in use, can't be read or written, or is no image.
+    /// The state is in use; or it or its witness exists already, can't be read or written, is bad,
+    /// or counts otherwise than it should.
     State = 3,
     /// The key does not have enough indices left.
     Exhausted = 4,
     /// Memory ran out.
     Memory = 5,
-    /// A file or a stream failed.
+    /// A stream failed, or a file other than the state and its witness.
     Stream = 6,
 }
 

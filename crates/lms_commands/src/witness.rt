@@ -23,8 +23,8 @@ pub struct Witness<D> {
     draft: D,
 }
 
-/// The bytes of the witness beside the state of the lock, where there is one. `ReadWitness` where it
-/// can't be read, `OutOfMemory` where memory for it was refused.
+/// The bytes of the witness beside the state of the lock, `None` where there is none. `ReadWitness`
+/// where it can't be read, `OutOfMemory` where memory for it was refused.
 pub fn see_witness<W: World>(
     alloc: Global,
     world: &mut W,
@@ -44,8 +44,9 @@ pub fn see_witness<W: World>(
     }
 }
 
-/// A witness of these bytes, with its draft. `WriteWitness` where that can't be made, `OutOfMemory`
-/// where memory for it or for the next bytes was refused.
+/// The witness that was read as these bytes, with a draft that is made here and room for the next
+/// bytes. `WriteWitness` where the draft can't be made, `OutOfMemory` where memory for it or for
+/// the next bytes was refused.
 fn draft<W: World>(
     alloc: Global,
     world: &mut W,
@@ -68,8 +69,8 @@ fn draft<W: World>(
     }
 }
 
-/// The witness beside the state of the lock, where there is one, with its draft. Faults as `see_witness`
-/// and `draft`.
+/// The witness beside the state of the lock, with a draft that is made here; `None` where there is
+/// no witness. Faults as `see_witness` and `draft`.
 fn watch<W: World>(
     alloc: Global,
     world: &mut W,
@@ -89,8 +90,9 @@ fn watch<W: World>(
     }
 }
 
-/// Compares the state of the key of this identifier, which counts so many indices, with its witness:
-/// `BadWitness` where that is none of the key, `StateOlder` where it says more.
+/// Compares the state of the key of this identifier, which counts `index` indices as used, with its
+/// witness: `BadWitness` where that is none of the key, `StateOlder` where it says more. A state
+/// that has no witness is admitted.
 fn admit<D>(witness: &Option<Witness<D>>, id: &[u8; 16], index: u64) -> Result<(), Fault>
     ensures admitted { OnOk result (IsAdmitted (watch_of witness.now) id.now index) }
     ensures refused { IfErr result (IsRefusedBy (watch_of witness.now) id.now index) }
@@ -146,7 +148,8 @@ pub fn open_watched<W: World>(
     }
 }
 
-/// Lets a witness go, which stays as it is. Its draft is removed if that can be done.
+/// Lets a witness go, if there is one: its bytes stay as they are, and its draft is removed if that
+/// can be done.
 pub fn discard<W: World>(world: &mut W, witness: Option<Witness<W::Draft>>)
     ensures unlogged { W.events world.new ≡ W.events world.old }
     ensures same { W.memory world.new ≡ W.memory world.old }
@@ -156,9 +159,9 @@ pub fn discard<W: World>(world: &mut W, witness: Option<Witness<W::Draft>>)
     }
 }
 
-/// Has the witness of a state say that `count` indices more are used than were when the state was read.
-/// `WriteWitnessBurnt` where that was not stored for certain. Of no indices, and where there is no
-/// witness, nothing is done.
+/// Has the witness of a state say that `count` indices more are used than were when the state was
+/// `read`. `WriteWitnessBurnt` where that was not stored for certain. Where `count` is 0, and where
+/// there is no witness, nothing is written.
 pub fn note<W: World>(
     world: &mut W,
     witness: Option<Witness<W::Draft>>,
@@ -185,7 +188,7 @@ pub fn note<W: World>(
     }
 }
 
-/// The same, of a witness that there is, and at least one index.
+/// As `note`, where there is a witness and `count` is at least 1.
 fn write_note<W: World>(
     world: &mut W,
     witness: Witness<W::Draft>,
@@ -221,7 +224,8 @@ fn write_note<W: World>(
     }
 }
 
-/// The line of a witness that says so, in place of what this has. `None` where memory for it was refused.
+/// The line of a witness that says that all indices below `counter` of the key of this identifier
+/// are used, in the memory of `room`. `None` where memory for it was refused.
 fn line_in(room: Vec<u8>, id: &[u8; 16], counter: u64) -> Option<Vec<u8>>
     ensures { IfSome result (λ line. line.items ≡ witness_text id.now counter) }
 {

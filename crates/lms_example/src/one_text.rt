@@ -47,7 +47,8 @@ impl OneText {
         }
     }
 
-    /// Holds these bytes from now on. An error changes nothing.
+    /// Holds these bytes from now on. `OutOfMemory` where memory for them is refused, with nothing
+    /// changed.
     fn hold(&mut self, text: &[u8]) -> Result<(), OutOfMemory>
         ensures held { OnOk result (self.new ≡ holding self.old text.now) }
         ensures same { OnErr result (self.new ≡ self.old) }
@@ -67,7 +68,8 @@ impl StateStore for OneText {
 
     ghost may_fail = { λ store. is_none store.text };
 
-    /// Fails while it holds no bytes.
+    /// `Device`, which is counted, while it holds no bytes. `OutOfMemory` where memory for a copy
+    /// of them is refused.
     fn read(&mut self, alloc: Global) -> Result<Vec<u8>, ReadFault> {
         match &self.text {
             Some(text) => {
@@ -82,7 +84,8 @@ impl StateStore for OneText {
         }
     }
 
-    /// Fails where memory is refused. It then holds what it held before.
+    /// An error, which is counted, where memory is refused. The store then holds what it held
+    /// before.
     fn replace(&mut self, text: &[u8]) -> Result<(), StoreFault> {
         match self.hold(text) {
             Ok(()) => Ok(()),

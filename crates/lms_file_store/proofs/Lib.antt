@@ -1,3 +1,3 @@
 pub mod Sent
 pub mod Keeping
-pub mod Reading
+pub mod Files

@@ -18,8 +18,8 @@ pub record FileState : Type 0 where
   pub given : Option (List ℕ)
   pub failures : ℕ
 
--- the byte strings of which a crash leaves one after a write of these bytes, which were stored for
--- certain or not, by those before it
+-- the byte strings of which a crash leaves one after a write of these bytes: they alone where they
+-- were stored for certain, and else they or those of before the write
 abbrev pub left_after : Bool → List ℕ → Texts → Texts
 left_after true text before = only text
 left_after false text before = or_else text before
@@ -29,7 +29,8 @@ abbrev pub texts_now : List FileWrite → Texts
 texts_now [] = None
 texts_now (newest ∷ older) = left_after newest.stored newest.text (texts_now older)
 
--- those before each of the writes, the first write first
+-- the byte strings of which a crash before each of the writes would have left one, the first write
+-- first
 abbrev pub texts_before : List FileWrite → List Texts
 texts_before [] = []
 texts_before (newest ∷ older) = texts_before older ++ texts_now older ∷ []
@@ -65,7 +66,7 @@ giving store text = record store { given = Some text }
 abbrev pub failed : FileState → FileState
 failed store = record store { failures = raised store.failures }
 
--- how many writes that it tried since the last certain one a store keeps at most
+-- of the writes that were tried since the last certain one, a store keeps at most so many
 abbrev pub most_tried : ℕ
 most_tried = 3
 
@@ -74,13 +75,13 @@ abbrev pub last_certain : List FileWrite → Option (List ℕ)
 last_certain [] = None
 last_certain (newest ∷ older) = if newest.stored then Some newest.text else last_certain older
 
--- the bytes of each write that was tried since then, the newest first
+-- the bytes of each write that was tried since the last certain one, the newest first
 abbrev pub tried_since : List FileWrite → List (List ℕ)
 tried_since [] = []
 tried_since (newest ∷ older) = if newest.stored then [] else newest.text ∷ tried_since older
 
--- the certain bytes, then the newest tried ones, the oldest of them first; nothing where none are
--- certain
+-- the certain bytes, then the newest tried ones, at most three, the oldest of them first; nothing
+-- where none are certain
 abbrev pub kept_of : Option (List ℕ) → List (List ℕ) → List (List ℕ)
 kept_of None tried = []
 kept_of (Some certain) tried = certain ∷ reverse (take most_tried tried)
@@ -112,7 +113,7 @@ ReadsKnown old (Err OutOfMemory) new = new ≡ old
 abbrev pub AreWrittenTo : (F : Type 0) → (F → Option (List ℕ)) → F → List ℕ → Type 0
 AreWrittenTo F contents file bytes = (after : F) × Appends (contents file) (contents after) bytes
 
--- to some file
+-- these bytes were written to some file
 abbrev pub AreWritten : (F : Type 0) → (F → Option (List ℕ)) → List ℕ → Type 0
 AreWritten F contents bytes = (file : F) × AreWrittenTo F contents file bytes
 
@@ -124,7 +125,7 @@ blanks = replicate 128 32
 abbrev pub AreLeftIn : (F : Type 0) → (F → Option (List ℕ)) → F → List ℕ → Type 0
 AreLeftIn F remaining file bytes = IfSome (remaining file) (λ rest. bytes ≡ rest)
 
--- in some file
+-- these bytes are all that was left in some file, where that is known
 abbrev pub AreLeft : (F : Type 0) → (F → Option (List ℕ)) → List ℕ → Type 0
 AreLeft F remaining bytes = (file : F) × AreLeftIn F remaining file bytes
 

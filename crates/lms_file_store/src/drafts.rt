@@ -43,7 +43,7 @@ pub(crate) fn place_draft<R: Files>(
     placed
 }
 
-/// Writes the bytes to a file, flushes it and closes it.
+/// Writes the bytes to a file, flushes it and closes it. An error where a step fails.
 pub(crate) fn fill_and_close<F: OpenFile + Write + Drop>(file: F, text: &[u8]) -> io::Result<()>
     ensures { OnOk result (AreWrittenTo F F.contents file text.now) }
 {
@@ -51,7 +51,7 @@ pub(crate) fn fill_and_close<F: OpenFile + Write + Drop>(file: F, text: &[u8]) -
     fill(&mut file, text)
 }
 
-/// Writes the bytes to a file and flushes it.
+/// Writes the bytes to a file and flushes it. An error where a step fails.
 fn fill<F: OpenFile + Write>(file: &mut F, text: &[u8]) -> io::Result<()>
     ensures { OnOk result (Appends (F.contents file.old) (F.contents file.new) text.now) }
 {

@@ -1,16 +1,17 @@
 //! A store in a file.
 ghost use Rattle.std.specs.Prelude.{◌≡◌, IfOk, OnOk};
-ghost use Rattle.lms_file_store.specs.FileStores.{AreLeft, AreLeftIn, AreWritten, fresh, giving, failed};
+ghost use Rattle.lms_file_store.specs.FileStores.{AreLeft, AreWritten, fresh, giving, failed};
 
 use crate::drafts::{make_draft, place_draft};
 use crate::locking::StateLock;
 use crate::paths::{DRAFT, folder_of, sibling};
+use crate::reading::read_rest;
 use crate::record::Record;
 use lms_book::{LastRead, ReadFault, StateStore, StoreFault, StoredBytes};
 use lms_params::OutOfMemory;
 use std::alloc::Global;
 use std::fs::OpenFile;
-use std::io::{ErrorKind, Read};
+use std::io::ErrorKind;
 use std::marker::Model;
 use std::rt::Files;
 use std::{fs, io};
@@ -67,18 +68,19 @@ impl<'a, R: Files> FileStore<'a, R> {
         })
     }
 
-    /// All bytes of the file.
+    /// All bytes of the state's file. An error where they can't be read, or memory for them is
+    /// refused.
     fn fetch(&self, alloc: Global) -> io::Result<Vec<u8>>
         ensures { IfOk result (λ text. AreLeft R.File R.File.remaining text.items) }
     {
         read_rest(alloc, fs::open(self.files, self.state.as_str())?)
     }
 
-    /// Writes the bytes beside the state, flushes them, and renames them over the state. A crash
-    /// before the rename leaves the old state, and the draft; between the rename and the flush of
-    /// the folder it leaves the old or the new one. Where a step up to the rename fails no draft is
-    /// left if possible. The folder is opened first, so that nothing changes where it can't be
-    /// opened.
+    /// Writes the bytes beside the state, flushes them, renames them over the state, and flushes
+    /// the folder. An error where a step fails. A crash before the rename leaves the old state, and
+    /// the draft; between the rename and the flush of the folder it leaves the old or the new one.
+    /// Where a step up to the rename fails no draft is left if possible. The folder is opened
+    /// first, so that nothing changes where it can't be opened.
     fn put(&self, text: &[u8]) -> io::Result<()>
         ensures { OnOk result (AreWritten R.File R.File.contents text.now) }
     {
@@ -102,15 +104,6 @@ impl<'a, R: Files> FileStore<'a, R> {
     {
         self.failures = self.failures.saturating_add(1);
     }
-}
-
-/// All that is left in a file, which it closes.
-fn read_rest<F: Read + Drop>(alloc: Global, file: F) -> io::Result<Vec<u8>>
-    ensures { IfOk result (λ text. AreLeftIn F F.remaining file text.items) }
-{
-    let (mut file, mut text) = (file, Vec::new(alloc));
-    file.read_to_end(&mut text)?;
-    Ok(text)
 }
 
 impl<R: Files + Sync> StateStore for FileStore<'_, R> {
@@ -147,9 +140,9 @@ impl<R: Files + Sync> StateStore for FileStore<'_, R> {
 
     /// Writes the bytes to `NAME.new`, which only the owner may read, flushes it, renames it over
     /// the file and flushes the folder. `Err` where a step fails; `NAME.new`, which may have a seed
-    /// in it, is then removed where possible. More than 256 bytes are refused
-    /// before any file is touched; a book burns the range all the same. A crash at any point leaves
-    /// the file with the old bytes or with these. It takes no memory.
+    /// in it, is then removed where possible. More than 256 bytes are refused before any file is
+    /// touched; a book burns the range all the same. A crash at any point leaves the file with the
+    /// old bytes or with these. It takes no memory.
     fn replace(&mut self, text: &[u8]) -> Result<(), StoreFault>
         ensures writes { WritesStore text.now (view_of self.old) result (view_of self.new) }
         ensures recorded { RecordsWrite self.old text.now result self.new }

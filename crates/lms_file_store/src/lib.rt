@@ -19,6 +19,7 @@ mod locking;
 mod nodes;
 mod outputs;
 mod paths;
+mod reading;
 mod record;
 mod witness;
 

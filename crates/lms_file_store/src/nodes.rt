@@ -2,14 +2,14 @@
 //!
 //! A reader does not depend on it: it may be missing, and a check value in it has to show whether
 //! it is what was written.
-ghost use Rattle.std.specs.Prelude.{◌≤◌, length, IfOk, IfSome, OnOk};
-ghost use Rattle.lms_file_store.specs.FileStores.{AreLeft, AreLeftIn, AreWritten};
+ghost use Rattle.std.specs.Prelude.{◌≤◌, length, IfSome, OnOk};
+ghost use Rattle.lms_file_store.specs.FileStores.{AreLeft, AreWritten};
 
 use crate::drafts::{make_draft, place_draft};
 use crate::locking::StateLock;
 use crate::paths::{NODES, NODES_DRAFT, sibling};
+use crate::reading::read_at_most;
 use std::alloc::Global;
-use std::io::Read;
 use std::rt::Files;
 use std::{fs, io};
 
@@ -51,7 +51,7 @@ impl<F> StateLock<F> {
 }
 
 /// The length of a plain file, at most `most`. `None` where it is longer, where there is no such
-/// file, and where something else has its name, as a symbolic link.
+/// file, where something else has its name, as a symbolic link, and where that can't be known.
 fn plain_size<R: Files>(files: &R, name: &str, most: usize) -> Option<usize>
     ensures { IfSome result (λ size. size ≤ most) }
 {
@@ -62,24 +62,4 @@ fn plain_size<R: Files>(files: &R, name: &str, most: usize) -> Option<usize>
     } else {
         None
     }
-}
-
-/// All that is left in a file, which it closes. `None` where that is over `most` bytes. It takes memory
-/// for one byte more than these.
-pub(crate) fn read_at_most<F: Read + Drop>(
-    alloc: Global,
-    file: F,
-    most: usize,
-) -> io::Result<Option<Vec<u8>>>
-    ensures at_most { IfOk result (λ found. IfSome found (λ text. length text.items ≤ most)) }
-    ensures left { IfOk result (λ found.
-        IfSome found (λ text. AreLeftIn F F.remaining file text.items)) }
-{
-    let limit = most.saturating_add(1);
-    let mut text = Vec::with_capacity(alloc, limit)?;
-    file.take(limit as u64).read_to_end(&mut text)?;
-    if text.len() >= limit {
-        return Ok(None);
-    }
-    Ok(Some(text))
 }

@@ -1,7 +1,7 @@
 //! Files that are no state, as those of public keys and signatures.
 //!
-//! None is written over a state image or a witness, whatever its name. That guards against a slip, and
-//! not against who puts one there between the look and the write.
+//! None is written over a state image or a witness, whatever its name. That guards against a slip,
+//! and not against who puts one there between the look and the write.
 ghost use Rattle.std.specs.Prelude.{◌≡◌, ◌↔◌, ◌≤◌, IfOk, IsTrue, OnOk};
 ghost use Rattle.std.specs.Io.KnownBytes.{Appends};
 ghost use Rattle.lms_file_store.specs.FileStores.{AreWritten};
@@ -41,16 +41,17 @@ enum Kept {
 pub fn write_output<R: Files>(files: &R, name: &str, bytes: &[u8]) -> io::Result<()>
     ensures { OnOk result (AreWritten R.File R.File.contents bytes.now) }
 {
-    let _file = filled(files, name, bytes)?;
+    let _file = write_unless_kept(files, name, bytes)?;
     Ok(())
 }
 
-/// The same, and flushes the file and then its folder, so that a loss of power leaves it as it is.
-/// What can't be flushed, as a pipe, is only written.
+/// Makes these the bytes of a file, with `write_output`'s errors, and flushes the file and then its
+/// folder, so that a loss of power leaves it as it is. What can't be flushed, as a pipe, is only
+/// written. Contracts see that some file got the bytes, and neither its name nor a flush.
 pub fn write_flushed<R: Files>(files: &R, alloc: Global, name: &str, bytes: &[u8]) -> io::Result<()>
     ensures { OnOk result (AreWritten R.File R.File.contents bytes.now) }
 {
-    let file = filled(files, name, bytes)?;
+    let file = write_unless_kept(files, name, bytes)?;
     match file.sync_all() {
         Ok(()) => flush_folder(files, alloc, name),
         Err(error) if error.kind() == ErrorKind::InvalidInput => Ok(()),
@@ -58,8 +59,10 @@ pub fn write_flushed<R: Files>(files: &R, alloc: Global, name: &str, bytes: &[u8
     }
 }
 
-/// The file of this name, with these bytes.
-fn filled<R: Files>(files: &R, name: &str, bytes: &[u8]) -> io::Result<R::File>
+/// Makes these the bytes of a file, and returns it open. An error where the name leads to a plain
+/// file that begins as a state image or a witness and is no longer than one, or can't be read to
+/// see that, and where the file can't be written.
+fn write_unless_kept<R: Files>(files: &R, name: &str, bytes: &[u8]) -> io::Result<R::File>
     ensures { IfOk result (λ file. (before : R.File)
         × Appends (R.File.contents before) (R.File.contents file) bytes.now) }
 {
@@ -92,19 +95,20 @@ fn kept_at<R: Files>(files: &R, name: &str) -> io::Result<Option<Kept>> {
     }
 }
 
-/// Whether a state image may be so long.
+/// Whether a file of this length may begin as a state image and is no longer than one: 4 to 180
+/// bytes.
 fn has_image_length(length: u64) -> bool
     ensures { IsTrue result ↔ ((magic_size ≤ length) × (length ≤ longest_image)) }
 {
     MAGIC_LEN as u64 <= length && length <= MOST_IMAGE
 }
 
-/// Whether a witness may be so long.
+/// Whether a file of this length may begin as a witness and is no longer than one: 8 to 128 bytes.
 fn has_witness_length(length: u64) -> bool {
     2 * MAGIC_LEN as u64 <= length && length <= MOST_WITNESS as u64
 }
 
-/// As what a file of that length begins.
+/// What a file of this length is, by its beginning: a state image, a witness or neither.
 fn begins_as<R: Files>(files: &R, name: &str, length: u64) -> io::Result<Option<Kept>> {
     let mut head = [0; MAGIC_LEN];
     let mut file = fs::open(files, name)?;
@@ -122,6 +126,7 @@ fn begins_as<R: Files>(files: &R, name: &str, length: u64) -> io::Result<Option<
     Ok(None)
 }
 
+/// Whether these are the bytes that a state image begins with.
 fn is_magic(head: [u8; MAGIC_LEN]) -> bool
     ensures { IsTrue result ↔ (head ≡ magic) }
 {

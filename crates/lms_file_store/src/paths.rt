@@ -8,13 +8,13 @@ use std::path::Path;
 use std::rt::Files;
 use std::{fs, io};
 
-/// The name of a draft after that of the file that it is to replace.
+/// How the name of a draft ends, after that of the file that it is to replace.
 pub(crate) const DRAFT: &str = ".new";
 
-/// The name of the file of kept nodes after that of the state.
+/// How the name of the file of kept nodes ends, after that of the state.
 pub(crate) const NODES: &str = ".nodes";
 
-/// The same of its draft.
+/// How the name of the draft of kept nodes ends, after that of the state.
 pub(crate) const NODES_DRAFT: &str = ".nodes.new";
 
 /// Reading and writing for the owner alone, since the state holds the secret seed.
@@ -32,7 +32,8 @@ pub(crate) fn resolve<R: Files>(files: &R, alloc: Global, name: &str) -> io::Res
     }
 }
 
-/// The path with this ending after it: that of another file in the same folder.
+/// The path with this ending after it: that of another file in the same folder. An error where
+/// memory is refused.
 pub(crate) fn sibling(alloc: Global, path: &str, ending: &str) -> Result<String, AllocError>
     ensures { IfOk result (λ sibling. string_bytes sibling ≡ path.now ++ ending.now) }
 {

@@ -44,7 +44,7 @@ impl Model for Record {
 }
 
 impl Record {
-    /// No writes.
+    /// A record of no writes.
     pub(crate) fn new() -> Self
         ensures { result ≡ [] }
     {
@@ -64,7 +64,8 @@ impl Record {
         self.kept.push(write.text);
     }
 
-    /// Adds a write that was tried. Where four are kept, the oldest tried one is forgotten.
+    /// Adds a write that was tried and is not certain. Its bytes are kept only after a certain
+    /// write; where four are kept, the oldest tried one is forgotten.
     pub(crate) fn failed(&mut self, text: StoredBytes)
         ensures { self.new ≡ record { text = text; stored = false } ∷ self.old }
     {

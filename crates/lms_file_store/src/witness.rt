@@ -1,13 +1,14 @@
-//! The file of a key's witness beside its state. Its name may be a link to a file on another medium.
+//! The file of a key's witness beside its state. Its name may be a link to a file on another
+//! medium.
 ghost use Rattle.std.specs.Prelude.{◌≤◌, length, IfOk, IfSome, IsOk, OnOk};
 ghost use Rattle.std.specs.Io.KnownBytes.{Appends};
 ghost use Rattle.lms_file_store.specs.FileStores.{AreLeft, AreWritten, AreWrittenTo, blanks};
 
 use crate::drafts::{fill_and_close, make_draft};
 use crate::locking::StateLock;
-use crate::nodes::read_at_most;
 use crate::outputs::leads_to_image;
 use crate::paths::{DRAFT, NODES, NODES_DRAFT, OWNER_ONLY, exists, folder_of, resolve, sibling};
+use crate::reading::read_at_most;
 use std::alloc::Global;
 use std::fs::{OpenFile, OpenOptions};
 use std::io::{ErrorKind, Seek, Write};
@@ -18,7 +19,7 @@ use std::{fs, io};
 /// The most bytes of a witness.
 pub const MOST_WITNESS: usize = 128;
 
-/// The name of the file after that of the state.
+/// How the name of the file ends, after that of the state.
 const WITNESS: &str = ".witness";
 
 /// What a draft has before it is written.
@@ -34,8 +35,8 @@ pub struct WitnessDraft<F> {
 }
 
 impl<F> StateLock<F> {
-    /// The bytes of the file `NAME.witness` beside the state, where NAME is that of the state's file
-    /// after symbolic links. `None` where nothing has that name.
+    /// The bytes of the file `NAME.witness` beside the state, where NAME is that of the state's
+    /// file after symbolic links. `None` where nothing has that name.
     ///
     /// An error where it is a link that leads nowhere, where it leads to anything but a plain file
     /// of at most `MOST_WITNESS` bytes, where it can't be read or nobody knows whether it is there,
@@ -60,13 +61,13 @@ impl<F> StateLock<F> {
         }
     }
 
-    /// Makes a new file `NAME.new`, NAME being what the witness's name leads to, which only the owner
-    /// may read and which replaces one that an earlier crash left. It gets `MOST_WITNESS` blanks, and
-    /// is flushed, as its folder is. So all memory is there that `place` needs for as many, and, where
-    /// the file system writes a file over in place, all room.
+    /// Makes a new file `NAME.new`, NAME being what the witness's name leads to, which only the
+    /// owner may read and which replaces one that an earlier crash left. It gets `MOST_WITNESS`
+    /// blanks, and is flushed, as its folder is. So all memory is there that `place` needs for as
+    /// many, and, where the file system writes a file over in place, all room.
     ///
-    /// An error where a step fails, where `NAME.new` is a state image, which stays, and where memory
-    /// for the paths is refused. The witness is as it was in any case.
+    /// An error where a step fails, where `NAME.new` is a state image, which stays, and where
+    /// memory for the paths is refused. The witness is as it was in any case.
     pub fn draft_witness<R: Files>(
         &self,
         files: &R,
@@ -93,14 +94,15 @@ impl<F> StateLock<F> {
     }
 }
 
-/// Makes a state's first witness: a new file of the name `path` with these bytes, which only its owner
-/// may read, and `NAME.witness` beside the state as a link to it, unless that is this file. Both are
-/// flushed, and their folders. Returns the path of the file, after symbolic links.
+/// Makes a state's first witness: a new file of the name `path` with these bytes, which only its
+/// owner may read, and `NAME.witness` beside the state as a link to it, unless that is this file.
+/// Both are flushed, and their folders. Returns the path of the file, after symbolic links.
 ///
-/// An error where a step fails; where something has one of both names, be it a link that leads nowhere,
-/// or the name of the file's draft; where `path` is one of the names beside the state that the program
-/// writes; and where memory for the paths is refused. Then no link is made, and the file is removed if
-/// possible, unless the state's folder alone could not be flushed. Nothing is written over.
+/// An error where a step fails; where something has one of both names, be it a link that leads
+/// nowhere, or the name of the file's draft; where `path` is one of the names beside the state that
+/// the program writes; and where memory for the paths is refused. Then no link is made, and the
+/// file is removed if possible, unless the state's folder alone could not be flushed. Nothing is
+/// written over.
 pub fn make_witness<R: Files>(
     files: &R,
     alloc: Global,
@@ -133,8 +135,10 @@ pub fn make_witness<R: Files>(
     }
 }
 
-/// Fills a new file of the name `path`, and links the other name to it, unless that is there now, as it
-/// is the same one. Returns where the file is.
+/// Fills a new file of the name `path`, flushes it and its folder, and makes `name` a link to it,
+/// unless `name` leads to it already. Returns the file's path after symbolic links. An error where
+/// a step fails, where `name` leads elsewhere, where the program writes a file of that path
+/// (`is_written_over`), and where memory for the paths is refused.
 fn linked<R: Files>(
     files: &R,
     alloc: Global,
@@ -160,8 +164,8 @@ fn linked<R: Files>(
     Ok(place)
 }
 
-/// Whether the program writes a file of this name beside the state, or something has the name of its
-/// draft.
+/// Whether the program writes a file of this name beside the state, or something has the name of
+/// its draft.
 fn is_written_over<R: Files>(
     files: &R,
     alloc: Global,
@@ -177,16 +181,18 @@ fn is_written_over<R: Files>(
 }
 
 impl<F: OpenFile + Write + Seek + Drop> WitnessDraft<F> {
-    /// Fills its room, and flushes the file and its folder.
+    /// Writes `MOST_WITNESS` blanks to the draft, so that it has room for any witness, and flushes
+    /// it and its folder. An error where a step fails.
     fn make_room(&mut self) -> io::Result<()>
         ensures { OnOk result (AreWritten F F.contents blanks) }
     {
-        self.fill(&BLANK)?;
+        self.overwrite(&BLANK)?;
         self.folder.sync_all()
     }
 
-    /// Has the file have these bytes, and flushes it.
-    fn fill(&mut self, text: &[u8]) -> io::Result<()>
+    /// Makes these the bytes of the draft, from the beginning, and flushes it. An error where a
+    /// step fails.
+    fn overwrite(&mut self, text: &[u8]) -> io::Result<()>
         ensures { OnOk result ((rewound : F)
             × Appends (F.contents rewound) (F.contents self.new.file) text.now) }
     {
@@ -196,7 +202,8 @@ impl<F: OpenFile + Write + Seek + Drop> WitnessDraft<F> {
         self.file.sync_all()
     }
 
-    /// Itself, or, where a step failed, removed if possible.
+    /// The draft itself where the step succeeded. Where it failed, its error, and the draft is
+    /// removed if possible.
     fn or_removed<R: Files>(self, files: &R, step: io::Result<()>) -> io::Result<Self>
         ensures { OnOk result (IsOk step) }
     {
@@ -209,8 +216,8 @@ impl<F: OpenFile + Write + Seek + Drop> WitnessDraft<F> {
         }
     }
 
-    /// Writes these bytes over its blanks, flushes it, renames it over the witness, and flushes the
-    /// folder.
+    /// Makes these the bytes of the draft in place of its blanks, flushes it, renames it over the
+    /// witness, and flushes the folder.
     ///
     /// An error where a step fails: then the witness is as it was, and the draft is removed if
     /// possible, unless the folder alone could not be flushed after that.
@@ -218,8 +225,8 @@ impl<F: OpenFile + Write + Seek + Drop> WitnessDraft<F> {
         ensures { OnOk result (AreWritten F F.contents text.now) }
     {
         let mut drafted = self;
-        let filled = drafted.fill(text);
-        let drafted = drafted.or_removed(files, filled)?;
+        let written = drafted.overwrite(text);
+        let drafted = drafted.or_removed(files, written)?;
         let renamed = fs::rename(files, drafted.draft.as_str(), drafted.path.as_str());
         let drafted = drafted.or_removed(files, renamed)?;
         drafted.folder.sync_all()

@@ -14,7 +14,7 @@ use std::snapshot::Snapshot;
 /// What can be added to a log of entries of type `E`: a value of that type, or one of a type that
 /// says by `entry` which entry it adds.
 pub trait Logged<E> {
-    // The entry.
+    // The entry that the value adds.
     ghost entry: { Self → E };
 }
 
@@ -38,7 +38,7 @@ impl<E> Model for GhostLog<E> {
 }
 
 impl<E> GhostLog<E> {
-    /// No entries.
+    /// A log with no entries.
     pub fn new() -> Self
         ensures { result ≡ [] }
     {
@@ -69,7 +69,8 @@ impl<E> Model for Entries<E> {
 }
 
 impl<E> Entries<E> {
-    /// Any list: a caller's `Invariants.antt` picks it, by what these two show.
+    /// Entries with any list: a caller's `Invariants.antt` picks it, by what the two arguments
+    /// show.
     ///
     /// No code can set a ghost field, so this is proved by a walk written by hand.
     fn of<A, B>(_first: &A, _second: &B) -> Self

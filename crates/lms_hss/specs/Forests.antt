@@ -31,7 +31,8 @@ pub record AreLeavesOf (key : HssKey) (k number start end : ℕ) (leaves : Leave
   pub from : (g : ℕ) → start ≤ g → tree_number key g k ≡ number → leaves.first ≤ leaf_at key g k
   pub to : (g : ℕ) → g ≤ end → tree_number key g k ≡ number → leaf_at key g k ≤ leaves.last
 
--- what a signature by index g has before level k's own (6.2)
+-- what a signature by index g has before the LMS signature of level k's tree: the number of signed
+-- keys, and those of the levels down to that one (6.2)
 abbrev pub signature_head : HssKey → ℕ → ℕ → List ℕ
 signature_head key g k = u32str (length key.levels - 1) ++ concat (map (signed_key key g) (below k))
 
@@ -43,7 +44,8 @@ pub record IsSignedTree (key : HssKey) (g k : ℕ) (signed_tree : SignedTree) : 
   pub to : leaf_at key g k ≤ signed_tree.tree.last
   pub head : signed_tree.head.items ≡ signature_head key g k
 
--- the tree of these sets below leaf q of another, signed by that leaf, which serves these leaves
+-- the tree of these sets below leaf q of `parent`, which serves these leaves and whose public key
+-- leaf q signed
 pub record IsChild (parent : SignedTree) (q : ℕ) (sets : LmsType × OtsType) (leaves : Leaves)
     (signed_tree : SignedTree) : Type 0 where
   pub tree : tree_of signed_tree.tree.key ≡ child (tree_of parent.tree.key) q (level_of sets)
@@ -80,7 +82,7 @@ AreTrees key k level =
     (n : ℕ) (other : SignedTree) → level.first ≤ n → n < level.first + length level.trees.items
     → IsTreeNumbered key k n (slice_index_or level.trees.items (n - level.first) other)
 
--- trees of level k and of the levels below it
+-- trees of as many levels as the list has, from level k down
 abbrev pub AreLevelsFrom : HssKey → ℕ → List LevelTrees → Type 0
 AreLevelsFrom key k levels =
     (j : ℕ) (other : LevelTrees) → j < length levels → AreTrees key (k + j) (slice_index_or levels j other)

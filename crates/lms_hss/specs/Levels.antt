@@ -23,7 +23,7 @@ levels_of levels = map level_of levels
 abbrev pub most_height : ℕ
 most_height = 60
 
--- eight places, of which the levels take the first
+-- eight places: the levels in the first ones, and H5 with W1 in the others
 abbrev pub padded : List (LmsType × OtsType) → List (LmsType × OtsType)
 padded levels = levels ++ replicate (most_levels - length levels) (H5, W1)
 
@@ -33,7 +33,8 @@ pub record IsAdmitted (levels : List (LmsType × OtsType)) : Type 0 where
   pub eight_at_most : length levels ≤ most_levels
   pub not_too_tall : height_of (levels_of levels) ≤ most_height
 
--- levels in the first places of eight
+-- eight places: `count` levels that the signer takes in the first ones, and H5 with W1 in the
+-- others
 pub record IsHeld (count : ℕ) (sets : List (LmsType × OtsType)) : Type 0 where
   pub count_is : length (take count sets) ≡ count
   pub others_unused : sets ≡ padded (take count sets)

@@ -3,8 +3,8 @@ use Rattle.std.specs.Prelude.{ℕ, ◌≡◌, List, ◌++◌, length}
 use Rattle.lms_spec.specs.Parameters.{lms_public_key_length}
 use Rattle.lms_verification.specs.Parts.{HasSignaturesOf}
 
--- the bytes begin with as many as the signer's signatures have, and then as many as a public
--- key has (6.2)
+-- `text` begins with as many bytes as the signer's signatures have, and then as many as an LMS
+-- public key has; `rest` is what follows (6.2)
 pub record IsFirstSignedKey (signer text signature key rest : List ℕ) : Type 0 where
   pub signature_length : HasSignaturesOf (length signature) signer
   pub key_length : length key ≡ lms_public_key_length

@@ -20,7 +20,7 @@ const FOR_CHILD_SEED: u16 = 0xfffe;
 
 const FOR_CHILD_ID: u16 = 0xffff;
 
-/// The key of the tree of these sets below leaf q.
+/// The key of the tree below leaf q of `parent`'s tree, with these sets.
 pub(crate) fn child_key(parent: &TreeKey, q: u32, sets: (LmsType, OtsType)) -> TreeKey
     ensures { tree_of result ≡ child_of (tree_of parent.now) q (level_of sets) }
 {

@@ -85,8 +85,9 @@ impl Forest {
 
     /// Moves on to other indices of the key, 1 to 1024 below its capacity. Of each level, the tree
     /// that the first of these indices goes through is kept where the forest has it: of that tree
-    /// only bottom subtrees are computed, and none where they are the same ones as before. All others
-    /// are computed as by `cover`. `OutOfMemory` where memory is refused; the forest is dropped then.
+    /// only bottom subtrees are computed, and none where they are the same ones as before. All
+    /// others are computed as by `cover`. `OutOfMemory` where memory is refused; the forest is
+    /// dropped then.
     pub fn moved_to(
         self,
         rt: &(impl Threads + Sync),
@@ -129,8 +130,10 @@ impl Forest {
         Forest::by_kept(rt, alloc, key, start, len, levels, &begun)
     }
 
-    /// Computes what signs these indices. `kept` has trees of the levels from the top down, or of
-    /// none.
+    /// Makes the forest of the `len` indices from `start` on. `kept` has trees of some levels, from
+    /// the top level down, or of none. Of each level, the tree that index `start` goes through is
+    /// moved on where `kept` has it; all others are computed. `OutOfMemory` where memory is
+    /// refused.
     fn by_kept(
         rt: &(impl Threads + Sync),
         alloc: Global,
@@ -217,7 +220,7 @@ impl Forest {
     {
         let bottom = self.key.levels.as_slice().len() - 1;
         let tree = self.bottom_tree(g, bottom);
-        tree.signed(self.alloc, self.key.leaf_of(g, bottom), c, msg)
+        tree.sign(self.alloc, self.key.leaf_of(g, bottom), c, msg)
     }
 
     /// How many leaves a move to the indices from `start` to `last` computes.
@@ -234,7 +237,8 @@ impl Forest {
         leaves.saturating_sub(self.bottom.leaves_spared(&self.key, bottom, start, last))
     }
 
-    /// The tree of the bottom level that index g goes through.
+    /// The tree of the bottom level that index g goes through. The forest must cover g, and
+    /// `bottom` must be the number of that level, from 0 at the top.
     fn bottom_tree(&self, g: u64, bottom: usize) -> &SignedTree
         requires covered { IsCovered self.now g }
         requires bottom { bottom ≡ length self.now.key.levels - 1 }

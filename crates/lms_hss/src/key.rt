@@ -17,10 +17,11 @@ use lms_tree::{BandTree, Begun, LMS_KEY_LEN, Progress, TreeKey, Unwatched, publi
 use std::alloc::Global;
 use std::thread::Threads;
 
-/// The bytes of an HSS public key (6.1): the number of levels and the top tree's public key.
+/// The length of an HSS public key in bytes (RFC 8554, 6.1): the number of levels, and the top
+/// tree's public key.
 pub const HSS_KEY_LEN: usize = 4 + LMS_KEY_LEN;
 
-/// The leaves of a tree from one to another.
+/// Neighbouring leaves of a tree, from number `first` to number `last`, which is one of them.
 #[derive(Clone, Copy)]
 pub(crate) struct Leaves {
     pub(crate) first: u32,
@@ -54,7 +55,7 @@ impl HssKey {
         1 << self.levels.height_from(0)
     }
 
-    /// The bytes of each signature under the key (RFC 8554, 6.2).
+    /// The length in bytes of each signature under the key (RFC 8554, 6.2).
     pub fn sig_len(&self) -> usize
         ensures { result ≡ hss_signature_length (levels_of self.now.levels) }
     {
@@ -66,9 +67,9 @@ impl HssKey {
         length
     }
 
-    /// The leaves that index g goes through, from the top level down, and zeros past the last
-    /// level. Indices count the one-time keys of the bottom level from 0. The index is below the
-    /// capacity.
+    /// The number of the leaf that index g goes through in each level, from the top level down, and
+    /// zeros past the last level: 8 numbers. Indices count the one-time keys of the bottom level
+    /// from 0. The index must be below the capacity.
     pub fn places(&self, g: u64) -> [u32; MOST_LEVELS]
         requires { g < capacity_of (hss_key_of self.now) }
         ensures { result
@@ -109,7 +110,7 @@ impl HssKey {
         Ok(self.public_key_over(&tree))
     }
 
-    /// The public key by the tree of level 0.
+    /// The public key over `top`, which must be the key's tree of level 0.
     pub(crate) fn public_key_over(&self, top: &BandTree) -> [u8; HSS_KEY_LEN]
         requires { tree_of top.now.key ≡ tree_at (hss_key_of self.now) 0 0 }
         ensures { result ≡ hss_public_key (hss_key_of self.now) }
@@ -118,7 +119,7 @@ impl HssKey {
         public_key_bytes(levels as u32, &public_bytes(top))
     }
 
-    /// The tree of level 0.
+    /// The key of the tree of level 0, the top level.
     pub(crate) fn top_tree(&self) -> TreeKey
         ensures { tree_of result ≡ tree_at (hss_key_of self.now) 0 0 }
     {
@@ -150,7 +151,7 @@ impl HssKey {
     }
 
     /// The leaves of tree `number` of level k that the indices from `start` to `last` go through,
-    /// the first and the last of them. At least one of these indices goes through that tree.
+    /// the first and the last of them. At least one of these indices must go through that tree.
     pub(crate) fn leaves(&self, start: u64, last: u64, k: usize, number: u64) -> Leaves
         requires there { k < length self.now.levels }
         requires order { start ≤ last }
@@ -183,8 +184,8 @@ impl HssKey {
             .saturating_mul(1 << lms.height())
     }
 
-    /// The number of the tree of level k above tree `number` of the next level, and the leaf of it
-    /// that signs that tree.
+    /// For tree `number` of level k + 1: the number of the tree of level k above it, and the leaf
+    /// there that signs its public key.
     pub(crate) fn parent(&self, number: u64, k: usize) -> (u64, u32)
         requires { k < length self.now.levels }
         ensures tree { result.0 ≡ number / 2 ^ (level (hss_key_of self.now) k).lms.h }
@@ -212,7 +213,8 @@ pub fn same_key(a: &HssKey, b: &HssKey) -> bool
     a == b
 }
 
-/// The public key over this LMS public key of the top tree (6.1).
+/// The HSS public key of so many levels over the LMS public key `top` of the top tree (RFC 8554,
+/// 6.1): the number of levels in four bytes, and that key.
 pub fn public_key_bytes(levels: u32, top: &[u8; LMS_KEY_LEN]) -> [u8; HSS_KEY_LEN]
     ensures { result ≡ u32str levels ++ top.now }
 {

@@ -20,8 +20,9 @@ pub(crate) struct LevelTrees {
 }
 
 impl LevelTrees {
-    /// The top tree, which serves the leaves that the indices from `start` to `last` go through. It
-    /// is computed where it is not `kept`.
+    /// The top level, whose one tree serves the leaves that the indices from `start` to `last` go
+    /// through. The tree in `kept` is moved on to these; where there is none it is computed.
+    /// `OutOfMemory` where memory is refused.
     pub(crate) fn top(
         rt: &(impl Threads + Sync),
         alloc: Global,
@@ -43,7 +44,7 @@ impl LevelTrees {
         Ok(LevelTrees { first: 0, trees })
     }
 
-    /// The tree of this number, which is there.
+    /// The tree of this number, which must be there.
     pub(crate) fn tree(&self, number: u64) -> &SignedTree
         requires from { self.now.first ≤ number }
         requires to { number < self.now.first + length self.now.trees.items }
@@ -61,7 +62,7 @@ impl LevelTrees {
         self.first <= number && number - self.first < self.trees.len() as u64
     }
 
-    /// The tree of this number, if it is there. The others are dropped.
+    /// The tree of this number, `None` where it is not there. The others are dropped.
     pub(crate) fn into_tree(self, number: u64) -> Option<SignedTree>
         ensures { IfSome result (λ tree. (self.first ≤ number)
             × (number < self.first + length self.trees.items)
@@ -93,7 +94,8 @@ impl LevelTrees {
 
     /// From the trees of level k, those of level k + 1 that the indices from `start` to `last` go
     /// through. Each is signed by the one above it, and serves the leaves that these indices go
-    /// through. The first of them may be `kept`, the others are computed.
+    /// through. The first of them may be in `kept` and is then moved on to these leaves; all others
+    /// are computed. `OutOfMemory` where memory is refused.
     pub(crate) fn below(
         &self,
         rt: &(impl Threads + Sync),
@@ -127,7 +129,9 @@ impl LevelTrees {
         Ok(LevelTrees { first, trees })
     }
 
-    /// Tree `number` of level k + 1, below one of these trees of level k.
+    /// Tree `number` of level k + 1, below one of these trees of level k, to serve the leaves that
+    /// the indices from `start` to `last` go through. The tree in `kept` is moved on to these;
+    /// where there is none it is computed. `OutOfMemory` where memory is refused.
     fn tree_below(
         &self,
         rt: &(impl Threads + Sync),
@@ -149,44 +153,23 @@ impl LevelTrees {
         requires kept { IfSome kept (IsTreeNumbered (hss_key_of key.now) (k + 1) number) }
         ensures { IfOk result (ServesRange (hss_key_of key.now) (k + 1) number start last) }
     {
-        // for the proof: there are at most eight levels
-        let _levels = key.levels.as_slice();
+        let levels = key.levels.as_slice();
         match kept {
             Some(tree) => moved(rt, alloc, key, k + 1, number, start, last, tree, begun),
-            None => self.child(rt, alloc, key, k, number, start, last, begun),
+            None => {
+                let (parent, leaf) = key.parent(number, k);
+                let leaves = key.leaves(start, last, k + 1, number);
+                let above = self.tree(parent);
+                let tree = above.child(rt, alloc, leaf, levels[k + 1], leaves, begun)?;
+                Ok(tree)
+            }
         }
-    }
-
-    /// The same, computed.
-    fn child(
-        &self,
-        rt: &(impl Threads + Sync),
-        alloc: Global,
-        key: &HssKey,
-        k: usize,
-        number: u64,
-        start: u64,
-        last: u64,
-        begun: &Begun<impl Progress>,
-    ) -> Result<SignedTree, OutOfMemory>
-        requires below { k + 1 < length key.now.levels }
-        requires order { start ≤ last }
-        requires at_most { last - start < most_covered }
-        requires level { HoldsLevel (hss_key_of key.now) k start last self.now }
-        requires from { number_of (hss_key_of key.now) start (k + 1) ≤ number }
-        requires to { number ≤ number_of (hss_key_of key.now) last (k + 1) }
-        ensures { IfOk result (ServesRange (hss_key_of key.now) (k + 1) number start last) }
-    {
-        let sets = key.levels.as_slice()[k + 1];
-        let (parent, leaf) = key.parent(number, k);
-        let leaves = key.leaves(start, last, k + 1, number);
-        let above = self.tree(parent);
-        let tree = above.child(rt, alloc, leaf, sets, leaves, begun)?;
-        Ok(tree)
     }
 }
 
-/// The top tree, which serves the leaves that the indices from `start` to `last` go through.
+/// The top tree, which serves the leaves that the indices from `start` to `last` go through. The
+/// tree in `kept` is moved on to these; where there is none it is computed. `OutOfMemory` where
+/// memory is refused.
 fn top_tree(
     rt: &(impl Threads + Sync),
     alloc: Global,
@@ -213,8 +196,8 @@ fn top_tree(
     }
 }
 
-/// Tree `number` of level k, moved on to the leaves that the indices from `start` to `last` go
-/// through.
+/// Moves `tree`, which must be tree `number` of level k, on to the leaves that the indices from
+/// `start` to `last` go through. `OutOfMemory` where memory is refused.
 fn moved(
     rt: &(impl Threads + Sync),
     alloc: Global,
@@ -239,8 +222,8 @@ fn moved(
     Ok(tree)
 }
 
-/// The tree of this number, if it is among the trees of the first of some levels. That level is
-/// taken off.
+/// Takes the first level off the list, and gives its tree of this number. `None` where the level
+/// has no such tree, or the list is empty.
 pub(crate) fn take_tree(levels: &mut Vec<LevelTrees>, number: u64) -> Option<SignedTree>
     ensures levels { (key : HssKeyOfSpec) (k : ℕ) → AreLevelsFrom key k levels.old.items
         → AreLevelsFrom key (k + 1) levels.new.items }

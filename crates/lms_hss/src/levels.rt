@@ -45,8 +45,8 @@ impl Model for Levels {
 }
 
 impl Levels {
-    /// Takes a list of levels, from the top. The first of these faults is answered: `NoLevels`,
-    /// `TooManyLevels` for more than 8, `TooTall` for heights that sum to over 60.
+    /// Takes a list of levels, from the top. An error is the first of these faults: `NoLevels` for
+    /// an empty list, `TooManyLevels` for more than 8, `TooTall` for heights that sum to over 60.
     pub fn new(sets: &[(LmsType, OtsType)]) -> Result<Self, KeyFault>
         ensures { JudgesLevels sets.now result }
     {
@@ -83,7 +83,7 @@ impl Levels {
     }
 }
 
-/// Levels in the first of eight places.
+/// Eight places: at most 8 levels in the first ones, and what `NO_SETS` has in the others.
 fn padded(sets: &[(LmsType, OtsType)]) -> [(LmsType, OtsType); MOST_LEVELS]
     requires { length sets.now ≤ most_levels }
     ensures { result ≡ padded_of sets.now }

@@ -26,7 +26,8 @@ pub(crate) struct SignedTree {
 }
 
 impl SignedTree {
-    /// The tree of level 0, which no level signs. It serves these leaves.
+    /// Computes the tree of level 0, which no level signs, to serve these leaves. `OutOfMemory`
+    /// where memory is refused.
     pub(crate) fn top(
         rt: &(impl Threads + Sync),
         alloc: Global,
@@ -53,8 +54,9 @@ impl SignedTree {
         Ok(SignedTree { tree, head })
     }
 
-    /// The tree of these sets below leaf q, which signs its public key and must be among the leaves
-    /// served. The new tree serves `leaves`. All memory is requested before it is computed.
+    /// Computes the tree of these sets below leaf q, to serve `leaves`. Leaf q signs its public
+    /// key, and must be among the leaves that this tree serves. `OutOfMemory` where memory is
+    /// refused: all is requested before the new tree is computed.
     pub(crate) fn child(
         &self,
         rt: &(impl Threads + Sync),
@@ -84,8 +86,8 @@ impl SignedTree {
         Ok(SignedTree { tree, head })
     }
 
-    /// The same tree, which serves these leaves from now on. What it has of them is not computed
-    /// again.
+    /// The same tree, which serves these leaves from now on. It computes the leaves that
+    /// `BandTree::moved_to` does. `OutOfMemory` where memory is refused; the tree is dropped then.
     pub(crate) fn moved_to(
         self,
         rt: &(impl Threads + Sync),
@@ -107,7 +109,7 @@ impl SignedTree {
         all.saturating_sub(self.tree.leaves_to(leaves.first, leaves.last))
     }
 
-    /// The public key of the HSS key whose tree of level 0 this is.
+    /// The public key of `key`, whose tree of level 0 this must be.
     pub(crate) fn public_key(&self, key: &HssKey) -> [u8; HSS_KEY_LEN]
         requires { tree_of self.now.tree.key ≡ tree_at (hss_key_of key.now) 0 0 }
         ensures { result ≡ hss_public_key (hss_key_of key.now) }
@@ -115,9 +117,9 @@ impl SignedTree {
         key.public_key_over(&self.tree)
     }
 
-    /// The head and the LMS signature of a message by leaf q, which is served, under the randomizer
-    /// `c`.
-    pub(crate) fn signed(
+    /// The head and the LMS signature of a message by leaf q, which must be served, under the
+    /// randomizer `c`. `OutOfMemory` where memory for them is refused.
+    pub(crate) fn sign(
         &self,
         alloc: Global,
         q: u32,
@@ -136,7 +138,8 @@ impl SignedTree {
         Ok(text)
     }
 
-    /// Writes the head, the LMS signature of a public key by leaf q, and that key.
+    /// Fills `out`, which must have just their length, with the head, the LMS signature of a public
+    /// key by leaf q under the randomizer `c`, and that key. Leaf q must be served.
     fn sign_key_into(&self, q: u32, c: &[u8; HASH_LEN], public: &[u8; LMS_KEY_LEN], out: &mut [u8])
         requires from { self.now.tree.first ≤ q }
         requires to { q ≤ self.now.tree.last }
@@ -151,7 +154,8 @@ impl SignedTree {
         out[signed..].copy_from_slice(public);
     }
 
-    /// Writes the head and the LMS signature of a message by leaf q.
+    /// Fills `out`, which must have just their length, with the head and the LMS signature of a
+    /// message by leaf q under the randomizer `c`. Leaf q must be served.
     fn sign_into(&self, q: u32, c: &[u8; HASH_LEN], msg: &[u8], out: &mut [u8])
         requires from { self.now.tree.first ≤ q }
         requires to { q ≤ self.now.tree.last }

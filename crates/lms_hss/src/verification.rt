@@ -21,7 +21,7 @@ pub fn verify(public: &[u8], msg: &[u8], sig: &[u8]) -> bool
     verify_with(public, msg, sig, ByEights)
 }
 
-/// The same, with the chains of all levels taken to their ends by `ends`.
+/// As `verify`, with the chains of all levels taken to their ends by `ends`.
 pub fn verify_with<C: ChainEnds>(public: &[u8], msg: &[u8], sig: &[u8], ends: C) -> bool
     ensures { IsTrue result ↔ HssAccepts public.now msg.now sig.now }
 {
@@ -41,11 +41,11 @@ pub struct Verifier<'a> {
 }
 
 impl<'a> Verifier<'a> {
-    /// Before the first byte of the message. The key and the signature may have any length. The
-    /// signatures of all levels but the bottom one are verified here, since they sign keys and not
-    /// the message. Their chains are taken to their ends by `ends`. `None` if the key or the
-    /// signature is malformed or an upper level's signature is invalid. No message is accepted
-    /// then, and there is no message head.
+    /// Begins a verification, before the first byte of the message. The key and the signature may
+    /// have any length. The signatures of all levels but the bottom one are verified here, since
+    /// they sign keys and not the message. Their chains are taken to their ends by `ends`. `None`
+    /// if the key or the signature is malformed or an upper level's signature is invalid. No
+    /// message is accepted then, and there is no message head.
     pub fn begin<C: ChainEnds>(public: &[u8], sig: &'a [u8], ends: C) -> Option<Self>
         ensures some { IfSome result (λ v. HasTaken v public.now sig.now []) }
         ensures none { IfNone result
@@ -115,7 +115,8 @@ struct Bottom<'a> {
 
 impl<'a> Bottom<'a> {
     /// Goes down so many signed keys, each accepted by the one above. `None` where there are not so
-    /// many, or where one has no known typecodes: no message is accepted then.
+    /// many, where one is not accepted, or where one has no known typecodes: no message is accepted
+    /// then.
     fn below<C: ChainEnds>(
         signed_keys: u32,
         key: PublicKey,

@@ -197,7 +197,7 @@ openings_place count = before_counter + number_size + level_size * count
 abbrev pub burnt_place : ℕ → ℕ
 burnt_place count = before_counter + 2 * number_size + level_size * count
 
--- the counter
+-- the counter that the bytes state
 abbrev pub counter_in : List ℕ → ℕ
 counter_in text = number_at (counter_place (count_in text)) number_size text
 
@@ -205,19 +205,19 @@ counter_in text = number_at (counter_place (count_in text)) number_size text
 abbrev pub later_number : ℕ → List ℕ → ℕ
 later_number k text = if version_in text == 1 then 0 else number_at k number_size text
 
--- the openings and the burnt indices
+-- the openings and the burnt indices that the bytes state, 0 in version 1
 abbrev pub openings_in : List ℕ → ℕ
 openings_in text = later_number (openings_place (count_in text)) text
 
 abbrev pub burnt_in : List ℕ → ℕ
 burnt_in text = later_number (burnt_place (count_in text)) text
 
--- how long an image is that states this version and this number of levels
+-- how many bytes an image has that states this version, 1 or 2, and this number of levels
 abbrev pub stated_length : ℕ → ℕ → ℕ
 stated_length version count =
     if version == 1 then image_length First count else image_length Second count
 
--- all but the digest at the end, and this
+-- all bytes but the digest at the end, and the digest
 abbrev pub body_in : List ℕ → List ℕ
 body_in text = take (length text - digest_size) text
 

@@ -17,7 +17,8 @@ use Rattle.lms_image.specs.declared.version.Version.TheVariants.{First, Second}
 use Rattle.lms_image.specs.Image.{Fields, magic, code_of, later_length, later_text, level_text, is_level, height_in}
 use Rattle.lms_image.specs.Image.{head_size, level_size, seed_size, id_size, digest_size}
 
--- bytes that begin as the image of this version and of this many levels does, and go on with these
+-- `text` begins as an image of this version and of `count` levels, 1 to 8, does, and goes on with
+-- `rest`
 pub record IsHeaded (text rest : List ℕ) (version : Version) (count : ℕ) : Type 0 where
   pub some_level : 1 ≤ count
   pub eight_at_most : count ≤ most_levels
@@ -27,7 +28,8 @@ pub record IsHeaded (text rest : List ℕ) (version : Version) (count : ℕ) : T
 abbrev pub longest_head : ℕ
 longest_head = head_size + level_size * most_levels
 
--- what these numbers may be: there are none in version 1, where both are 0
+-- what openings and burnt indices may be that are read: below 2^64, and 0 in version 1, which has
+-- neither
 abbrev pub AreLater : Version → ℕ → ℕ → Type 0
 AreLater First openings burnt = (openings ≡ 0) × (burnt ≡ 0)
 AreLater Second openings burnt = (openings < 2 ^ 64) × (burnt < 2 ^ 64)

@@ -44,7 +44,7 @@ impl ImageBytes {
         }
     }
 
-    /// Appends a part.
+    /// Appends these bytes. There must be room for them within 180.
     pub(crate) fn append(&mut self, part: &[u8])
         requires { length self.old + length part.now ≤ longest_image }
         ensures { self.new ≡ self.old ++ part.now }
@@ -55,7 +55,7 @@ impl ImageBytes {
         }
     }
 
-    /// Appends a number, in four bytes.
+    /// Appends a number in four bytes, big-endian. There must be room for them.
     pub(crate) fn append_u32(&mut self, number: u32)
         requires { length self.old + code_size ≤ longest_image }
         ensures { self.new ≡ self.old ++ u32str number }
@@ -63,7 +63,7 @@ impl ImageBytes {
         self.append(&number.to_be_bytes());
     }
 
-    /// Appends a number, in eight bytes.
+    /// Appends a number in eight bytes, big-endian. There must be room for them.
     pub(crate) fn append_u64(&mut self, number: u64)
         requires { length self.old + number_size ≤ longest_image }
         ensures { self.new ≡ self.old ++ u64str number }

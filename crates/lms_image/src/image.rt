@@ -89,7 +89,8 @@ pub fn encode_image(image: &Image) -> ImageBytes
     text
 }
 
-/// The bytes before the seed.
+/// The bytes of an image before its seed: `HSSK`, version 2, the number of levels and each level's
+/// typecodes.
 fn encode_head(levels: &Levels) -> ImageBytes
     ensures text { result ≡ head_text Second (map level_text levels.now) }
     ensures short { length result ≤ longest_head }
@@ -143,8 +144,8 @@ pub fn decode_image(text: &[u8]) -> Result<Image, ImageFault>
     })
 }
 
-/// The version of an image, its number of levels, 1 to 8, and the bytes after it; or the fault of
-/// the first 12 bytes.
+/// The version of an image, its number of levels, 1 to 8, and the bytes after that number. An error
+/// is the first fault that the first 12 bytes show, `Truncated` to `BadLevels`.
 fn read_head(text: &[u8]) -> Result<(Version, usize, &[u8]), ImageFault>
     ensures ok { IfOk result (λ head. IsHeaded text.now head.2.now head.0 head.1) }
     ensures err { IfErr result (λ fault. fault_of text.now ≡ Some fault) }
@@ -174,7 +175,7 @@ struct Head<'a> {
 }
 
 impl<'a> Head<'a> {
-    /// Cuts these bytes. `None` exactly where there are fewer than 12.
+    /// Cuts the first 12 bytes off. `None` exactly where there are fewer.
     fn cut(text: &'a [u8]) -> Option<Self>
         ensures parts { IfSome result (λ h.
             text.now ≡ h.magic.now ++ (u32str h.version ++ (u32str h.levels ++ h.rest.now))) }
@@ -209,8 +210,9 @@ struct Parts<'a> {
 }
 
 impl<'a> Parts<'a> {
-    /// Cuts what follows a number of levels, 1 to 8. `None` exactly where its length isn't that of
-    /// so many levels in this version.
+    /// Cuts `rest`, the bytes after an image's number of levels, into its parts. That number is
+    /// `count`, at most 8. `None` exactly where its length isn't that of so many levels in this
+    /// version.
     fn cut(version: Version, count: usize, rest: &'a [u8]) -> Option<Self>
         requires { count ≤ most_levels }
         ensures parts { IfSome result (λ p. IsCut count rest.now (record {
@@ -243,7 +245,8 @@ impl<'a> Parts<'a> {
     }
 }
 
-/// The levels that these bytes name; or `BadType` or `TooTall`, the first that holds.
+/// The levels that these bytes name. `BadType` where a typecode is unknown, else `TooTall` where
+/// the heights sum to over 60.
 fn read_levels(texts: &[[u8; LEVEL_LEN]]) -> Result<Levels, ImageFault>
     requires some { 1 ≤ length texts.now }
     requires at_most { length texts.now ≤ most_levels }
@@ -258,7 +261,8 @@ fn read_levels(texts: &[[u8; LEVEL_LEN]]) -> Result<Levels, ImageFault>
     }
 }
 
-/// What is wrong with an image whose levels the signer refuses.
+/// The fault of an image whose levels the signer refuses: `TooTall` where they are too tall, and
+/// else `BadType`, which never comes in `read_levels`.
 fn refused(fault: KeyFault) -> ImageFault
     ensures { result ≡ refused_as fault }
 {

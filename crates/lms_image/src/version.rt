@@ -15,7 +15,7 @@ pub(crate) enum Version {
 }
 
 impl Version {
-    /// The version of a number. `None` where there is none.
+    /// The version of this number. `None` where it is neither 1 nor 2.
     pub(crate) fn from_code(code: u32) -> Option<Version>
         ensures some { IfSome result (λ version. code ≡ code_of version) }
         ensures not_first { IfNone result (code ≢ 1) }
@@ -30,7 +30,8 @@ impl Version {
 }
 
 /// How many openings stored something, how many indices are burnt, and the bytes after these
-/// numbers; 0 and 0 in version 1, which has none. `None` exactly where there are too few bytes.
+/// numbers; in version 1, which has neither number, 0, 0 and all the bytes. `None` exactly where
+/// there are too few bytes.
 pub(crate) fn split_later(version: Version, bytes: &[u8]) -> Option<(u64, u64, &[u8])>
     ensures some { IfSome result (λ s. ReadsLater version bytes.now s.0 s.1 s.2.now) }
     ensures none { IfNone result (length bytes.now < later_length version) }

@@ -14,8 +14,9 @@ IsCut (suc count) signer signatures =
     × IsFirstSignedKey signer signatures first next rest
     × IsCut count next rest
 
--- two public keys, an endorsement and a signature: each count is that of its key, and the
--- endorsement has the right length
+-- two public keys of together at most eight levels, an endorsement and a signature: each of the
+-- last two begins with the count of signed keys that signatures under its public key have, the
+-- signer's LMS public key has its length, and the endorsement is cut where its typecodes say
 pub record AreCut (top_public endorsement signer_public signature : List ℕ) : Type 0 where
   pub top_levels : ℕ
   pub signer_levels : ℕ

@@ -40,7 +40,8 @@ pub record HasCountUnder (public_key signature : List ℕ) : Type 0 where
   pub long_enough : 4 ≤ length signature
   pub count : count_of signature ≡ count_of public_key - 1
 
--- it is too short for one, or its count is another
+-- the signature is too short for a count of signed keys, or its count is another than every
+-- signature under the public key has
 abbrev pub LacksCountUnder : List ℕ → List ℕ → Type 0
 LacksCountUnder public_key signature =
     (length signature < 4) ⊎ (count_of signature ≢ count_of public_key - 1)

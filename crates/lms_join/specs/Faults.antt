@@ -6,7 +6,8 @@ use Rattle.lms_join.specs.Keys.{AreJoinable}
 use Rattle.lms_join.specs.declared.fault.EndorsementFault.{EndorsementFault}
 use Rattle.lms_join.specs.declared.fault.EndorsementFault.TheVariants.{NotJoinable, NotAccepted}
 
--- the keys can't be joined, or they can be, and the top key's signature is not accepted
+-- the fault is `NotJoinable`, and the keys can't be joined; or it is `NotAccepted`, they can be,
+-- and the top key's signature is not accepted
 abbrev pub IsRefused : List ℕ → List ℕ → List ℕ → EndorsementFault → Type 0
 IsRefused top_public endorsement signer_public fault =
     ((fault ≡ NotJoinable) × ¬ AreJoinable top_public signer_public)

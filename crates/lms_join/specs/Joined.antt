@@ -8,21 +8,22 @@ use Rattle.lms_spec.specs.Bytes.{number_of, u32str}
 abbrev pub count_of : List ℕ → ℕ
 count_of bytes = number_of (take 4 bytes)
 
--- what is after it: of a public key the LMS public key of its top tree
+-- what is after the number at the front: of a public key the LMS public key of its top tree
 abbrev pub after_count : List ℕ → List ℕ
 after_count bytes = drop 4 bytes
 
--- the levels of both keys
+-- how many levels both keys have together
 abbrev pub joined_levels : List ℕ → List ℕ → ℕ
 joined_levels top_public signer_public = count_of top_public + count_of signer_public
 
--- the public key: the top one, with the levels of both
+-- the joined public key: the top one, with the levels of both
 abbrev pub joined_public : List ℕ → List ℕ → List ℕ
 joined_public top_public signer_public =
     u32str (joined_levels top_public signer_public) ++ after_count top_public
 
--- the signature: how many public keys are signed, those of the endorsement, the signer's by its
--- last part, then those of the signer's signature and its last part
+-- the joined signature: how many public keys are signed; all of the endorsement after its count,
+-- whose last part signs the signer's LMS public key; that key; and all of the signer's signature
+-- after its count
 abbrev pub joined_signature : List ℕ → List ℕ → List ℕ → List ℕ → List ℕ
 joined_signature top_public endorsement signer_public signature =
     u32str (joined_levels top_public signer_public - 1) ++ after_count endorsement

@@ -13,7 +13,7 @@ pub record IsHssPublicKey (levels : ℕ) (lms_key public_key : List ℕ) : Type 
   pub signature_length : ℕ
   pub known : HasSignaturesOf signature_length lms_key
 
--- two public keys whose levels are together at most eight
+-- two HSS public keys of known typecodes whose levels are together at most eight
 pub record AreJoinable (top_public signer_public : List ℕ) : Type 0 where
   pub top_levels : ℕ
   pub signer_levels : ℕ

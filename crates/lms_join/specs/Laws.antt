@@ -5,7 +5,8 @@ use Rattle.lms_join.specs.Joined.{after_count, joined_levels, joined_public, joi
 use Rattle.lms_join.specs.Cuts.{AreCut}
 
 -- where the endorsement is accepted for the signer's LMS public key, and the signer's signature for
--- a message, the joined one is accepted for the message under the joined public key
+-- a message, and both keys together have at most eight levels, the joined signature is accepted for
+-- the message under the joined public key
 abbrev pub JoinedAccepted : Type 0
 JoinedAccepted =
     (top_public endorsement signer_public signature message : List ℕ)

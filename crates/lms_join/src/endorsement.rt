@@ -110,7 +110,7 @@ impl<'a> Endorsement<'a> {
     }
 
     /// What is after the count of signed keys in a signature by the signer's key. `None` exactly
-    /// where there are fewer than four bytes, or the count is another.
+    /// where there are fewer than four bytes, or the count is not that of signatures by that key.
     fn signatures_in<'s>(&self, signature: &'s [u8]) -> Option<&'s [u8]>
         ensures some { IfSome result (λ rest. signature.now
             ≡ u32str (count_of self.now.signer_public - 1) ++ rest.now) }
@@ -126,7 +126,8 @@ impl<'a> Endorsement<'a> {
     }
 }
 
-/// A number and three byte strings after it.
+/// The bytes of a joined signature: `signed_keys` in four bytes, and then the three byte strings in
+/// their order. `OutOfMemory` where memory for them is refused.
 fn joined_text(
     alloc: Global,
     signed_keys: u32,

@@ -30,7 +30,7 @@ pub(crate) struct Keys<'a> {
 }
 
 impl<'a> Keys<'a> {
-    /// Cuts two public keys. `None` exactly where they can't be joined.
+    /// Cuts two public keys. `None` exactly where they can't be joined (`join_public`).
     pub(crate) fn parse(top: &'a [u8], signer: &'a [u8]) -> Option<Self>
         ensures top { IfSome result (λ keys.
             IsHssPublicKey keys.top.levels keys.top.lms_key.now top.now) }
@@ -47,7 +47,7 @@ impl<'a> Keys<'a> {
         Some(Keys { top, signer })
     }
 
-    /// The top key, with the levels of both.
+    /// The public key of joined signatures: the top one, with the levels of both.
     pub(crate) fn joined(&self) -> [u8; HSS_KEY_LEN]
         requires { self.now.top.levels + self.now.signer.levels ≤ most_levels }
         ensures { result
@@ -65,8 +65,8 @@ pub(crate) struct Key<'a> {
 }
 
 impl<'a> Key<'a> {
-    /// Cuts a public key. `None` exactly where it has no known typecodes, another length, or not
-    /// one to eight levels.
+    /// Cuts a public key. `None` exactly where it has no known typecodes, not 60 bytes, or not one
+    /// to eight levels.
     fn parse(public: &'a [u8]) -> Option<Self>
         ensures some { IfSome result (λ key.
             IsHssPublicKey key.levels key.lms_key.now public.now) }
@@ -83,8 +83,8 @@ impl<'a> Key<'a> {
     }
 }
 
-/// The bytes of each signature under an LMS public key. `None` exactly where it is no key of known
-/// typecodes.
+/// The length in bytes of each signature under an LMS public key. `None` exactly where it is no LMS
+/// public key of known typecodes.
 fn signature_len_under(lms_key: &[u8]) -> Option<usize>
     ensures some { IfSome result (λ n. HasSignaturesOf n lms_key.now) }
     ensures none { IfNone result ((n : ℕ) → ¬ HasSignaturesOf n lms_key.now) }

@@ -1,9 +1,9 @@
 //! Laws over what is joined, as contracts. No call of the product needs these functions.
 ghost use Rattle.lms_join.specs.Laws.{JoinedAccepted, JoinedExactly};
 
-/// Where an endorsement is accepted, and the signer's signature for a message, and both keys together
-/// have at most eight levels, the joined signature is accepted for the message under the joined public
-/// key.
+/// Where an endorsement is accepted, and the signer's signature for a message, and both keys
+/// together have at most eight levels, the joined signature is accepted for the message under the
+/// joined public key.
 pub fn joined_is_accepted()
     ensures { JoinedAccepted }
 {}

@@ -34,7 +34,7 @@ JoinsInMemory = (names : JoinNames) (old new : Held) (earlier now : WorldCalls)
     → Follows (Some old) earlier (Some new) now
     → JoinsIn names old new
 
--- why nothing is joined
+-- why nothing is joined, or the joined signature is not written
 abbrev pub FailsToJoin : JoinNames → Fault → Held → Type 0
 FailsToJoin names fault held =
     (fault ≡ OutOfMemory)
@@ -72,7 +72,7 @@ JoinsKeysInMemory = (public signer out : Bytes) (old new : Held) (earlier now : 
     → Follows (Some old) earlier (Some new) now
     → JoinsKeysIn public signer out old new
 
--- why no keys are joined
+-- why no keys are joined, or the joined one is not written
 abbrev pub FailsToJoinKeys : Bytes → Bytes → Bytes → Fault → Held → Type 0
 FailsToJoinKeys public signer out fault held =
     (fault ≡ OutOfMemory)

@@ -58,7 +58,7 @@ struct Parts {
     signature: Vec<u8>,
 }
 
-/// Reads all parts.
+/// Reads all parts, in the order of their fields. Faults as `read_two`.
 fn read_parts<W: World>(alloc: Global, world: &mut W, request: &JoinRequest) -> Result<Parts, Fault>
     ensures logged { IfOk result (λ parts. ReadsParts (names_of request.now) (parts_of parts)
         (W.events world.old) (W.events world.new)) }
@@ -77,8 +77,9 @@ fn read_parts<W: World>(alloc: Global, world: &mut W, request: &JoinRequest) -> 
     })
 }
 
-/// The joined signature. `BadPublicKey`, `BadEndorsement`, `BadSignature`, in this order, or
-/// `OutOfMemory` where memory for it is refused.
+/// The joined signature. Faults, in this order: those of `endorsement_in`; `BadSignature` where the
+/// signature counts another number of signed keys than the signer's key has, or is too short for a
+/// count; `OutOfMemory` where memory for the joined signature is refused.
 fn join_parts(alloc: Global, parts: &Parts) -> Result<Vec<u8>, Fault>
     ensures joins { IfOk result (λ joined. JoinsParts (parts_of parts.now) joined.items) }
     ensures unjoined { IfErr result (λ fault. AreUnjoined (parts_of parts.now) fault) }

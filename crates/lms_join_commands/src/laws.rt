@@ -2,13 +2,15 @@
 //! where they fail, each as the contract of a function. No call of a product needs these functions.
 ghost use Rattle.lms_join_commands.specs.JoinInMemory.{FailsToJoinInMemory, FailsToJoinKeysInMemory, JoinsInMemory, JoinsKeysInMemory};
 
-/// What `join_signature` leaves.
+/// In a world in memory, by the calls of `join_signature`: where it is done, the joined signature
+/// is in its file, and nothing else is changed; where it fails, why, and nothing is changed.
 pub fn joins_in_memory()
     ensures done { JoinsInMemory }
     ensures fails { FailsToJoinInMemory }
 {}
 
-/// What `join_public_keys` leaves.
+/// In a world in memory, by the calls of `join_public_keys`: where it is done, the joined public
+/// key is in its file, and nothing else is changed; where it fails, why, and nothing is changed.
 pub fn joins_keys_in_memory()
     ensures done { JoinsKeysInMemory }
     ensures fails { FailsToJoinKeysInMemory }

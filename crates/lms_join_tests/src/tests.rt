@@ -1,4 +1,4 @@
-//! Signatures by two keys and by three, joined: verified as one, and refused where they are changed.
+//! Signatures by two keys, joined: verified as one, and refused where they are changed.
 
 use lms_fixtures::{forest_of, key_of, signature_of};
 use lms_hss::{ByEights, verify};
@@ -121,49 +121,6 @@ fn joins_up_to_eight_levels(rt: HostRuntime) -> Result<(), Fail> {
     let _whole = check_joined(&rt, &[QUICK; 4], &[QUICK; 4])?;
     let _whole = check_joined(&rt, &[QUICK; 7], &[QUICK])?;
     let _whole = check_joined(&rt, &[QUICK], &[QUICK; 7])?;
-    Ok(())
-}
-
-/// Keys of so many levels can't be joined, although the top one endorses the signer's.
-fn check_too_many(
-    rt: &(impl Abort + AllocGlobal + Threads + Sync),
-    top_levels: &[(LmsType, OtsType)],
-    signer_levels: &[(LmsType, OtsType)],
-) -> Result<(), Fail> {
-    let signer = key_of(signer_levels, 0x44)?.public_key(rt, rt.alloc())?;
-    let top = endorsed(rt, top_levels, &signer)?;
-    let lms_key = signer.get(4..).ok_or("a public key")?;
-    assert!(rt; verify(&top.public, lms_key, &top.signature));
-    assert!(rt; join_public(&top.public, &signer).is_none());
-    check_refused(
-        rt,
-        &top.public,
-        &top.signature,
-        &signer,
-        EndorsementFault::NotJoinable,
-    );
-    Ok(())
-}
-
-#[test]
-fn refuses_nine_levels(rt: HostRuntime) -> Result<(), Fail> {
-    check_too_many(&rt, &[QUICK; 5], &[QUICK; 4])?;
-    check_too_many(&rt, &[QUICK; 8], &[QUICK])?;
-    check_too_many(&rt, &[QUICK], &[QUICK; 8])
-}
-
-#[test]
-fn joins_three_tiers(rt: HostRuntime) -> Result<(), Fail> {
-    let lowest = signed(&rt, &[QUICK; 2], 0x66, 40, b"abc")?;
-    let lms_key = lowest.public.get(4..).ok_or("a public key")?;
-    let middle = signed(&rt, &[QUICK], 0x44, 9, lms_key)?;
-    let top = endorsed(&rt, &[SHORT], &middle.public)?;
-    let above = joined(&rt, &top, &middle.public, &middle.signature)?;
-    let whole = joined(&rt, &above, &lowest.public, &lowest.signature)?;
-    let below = joined(&rt, &middle, &lowest.public, &lowest.signature)?;
-    let other = joined(&rt, &top, &below.public, &below.signature)?;
-    assert!(rt; verify(&whole.public, b"abc", &whole.signature));
-    assert!(rt; whole.public == other.public && whole.signature == other.signature);
     Ok(())
 }
 

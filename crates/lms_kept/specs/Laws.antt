@@ -9,8 +9,8 @@ use Rattle.lms_kept.specs.Ways.{AreGenuine, IsWay, most_text_length, nodes_text,
 abbrev pub given_of : KeptLevel → KeptNodes × List ℕ
 given_of level = (level.tree, level.signed.items)
 
--- trees of one key with the same bytes are on the way of one index, as many and with the same given
--- for each, and so are genuine together
+-- trees of one key that have the same bytes are for the same index, and as many, with the same
+-- given for each; so where the first are genuine, the second are
 abbrev pub ATextTellsItsTrees : Type 0
 ATextTellsItsTrees = (a b : Way) → IsWay a → IsWay b → a.key ≡ b.key → nodes_text a ≡ nodes_text b
     → (a.at ≡ b.at) × (map given_of a.levels ≡ map given_of b.levels)

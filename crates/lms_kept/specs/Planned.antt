@@ -19,7 +19,7 @@ pub record PlansTrees (key : HssKey) (at : ℕ) (planned : PlannedTrees) : Type 
   pub top : IsPlanned (hss_key_of key) at 0 planned.top
   pub below : ArePlanned (hss_key_of key) at 1 planned.below.items
 
--- so are they, with memory for a signature
+-- the trees that an index goes through are planned, with memory for a signature by it
 pub record PlansSignature (key : HssKey) (index : ℕ) (planned : PlannedSignature) : Type 0 where
   pub trees : PlansTrees key index planned.trees
   pub empty : planned.memory.items ≡ []

@@ -12,13 +12,14 @@ abbrev pub AreRight : Option Way → Type 0
 AreRight None = Unit {0}
 AreRight (Some way) = AreGenuine way
 
--- trees that were made from nodes, or computed: what is signed of an upper level's tree was given
--- with it, or is its own public key
+-- trees that were computed, and are genuine, or were made from nodes: what is signed of each tree
+-- was then given with it, or is its own public key
 abbrev pub AreMadeFrom : Option Way → Way → Type 0
 AreMadeFrom None trees = AreGenuine trees
 AreMadeFrom (Some way) trees = (way ≡ trees) ⊎ SignsNoOther way trees
 
--- trees for an index of this key, made from nodes, and right where these are
+-- trees for an index of this key, computed or made from nodes, and genuine where no nodes were used
+-- or these are right
 pub record AreTreesFor (nodes : Option Way) (key : KeyOfCode) (index : ℕ)
     (trees : Way) : Type 0 where
   pub way : IsWay trees
@@ -26,6 +27,16 @@ pub record AreTreesFor (nodes : Option Way) (key : KeyOfCode) (index : ℕ)
   pub serves : Serves trees index
   pub from : AreMadeFrom nodes trees
   pub right : AreRight nodes → AreGenuine trees
+
+-- a signature of a message by an index along trees: its one-time signature is the standard's, below
+-- what is signed of the trees; where these are genuine, it is the standard's and accepted under the
+-- key's public key
+pub record IsSignedAlong (trees : Way) (index : ℕ) (randomizer message signature : List ℕ) : Type 0 where
+  pub along : EndsAlong trees index randomizer message signature
+  pub signature_is : AreGenuine trees
+      → signature ≡ hss_signature (hss_key_of trees.key) index randomizer message
+  pub accepted : AreGenuine trees
+      → HssAccepts (hss_public_key (hss_key_of trees.key)) message signature
 
 -- a signature of a message by an index of a key: its one-time signature is the standard's, below
 -- what is signed of the trees, and it is accepted under their root; where the nodes that are used
@@ -59,17 +70,17 @@ IsNotRight text key =
 -- a signature by the nodes in the bytes, or by none where these are not right. The trees that signed
 -- are to be kept just where the nodes do not serve the index as they are
 pub record IsSignedByText (text : Option (List ℕ)) (key : KeyOfCode) (index : ℕ)
-    (randomizer message signature : List ℕ) (kept : Option Way) : Type 0 where
+    (randomizer message signature : List ℕ) (to_keep : Option Way) : Type 0 where
   pub nodes : Option Way
   pub of_text : AreNodesOf text key nodes
   pub anew : IfNone nodes (IsNotRight text key)
   pub signed : IsSignedBy nodes key index randomizer message signature
-  pub kept_are : IfSome kept (λ trees. trees ≡ signed.trees)
-  pub changed : IfSome kept (λ _. ¬ AlreadyServe nodes index)
-  pub unchanged : IfNone kept (AlreadyServe nodes index)
+  pub kept_are : IfSome to_keep (λ trees. trees ≡ signed.trees)
+  pub changed : IfSome to_keep (λ _. ¬ AlreadyServe nodes index)
+  pub unchanged : IfNone to_keep (AlreadyServe nodes index)
 
--- trees for an index of a key, made from the nodes in the bytes, or, where these are held to serve
--- it, they themselves
+-- trees for an index of a key, made from the nodes in the bytes; `held` says whether these nodes
+-- serve the index as they are
 pub record AreTreesOf (text : List ℕ) (key : KeyOfCode) (index : ℕ) (trees : Way)
     (held : Bool) : Type 0 where
   pub nodes : Way

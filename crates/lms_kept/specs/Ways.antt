@@ -1,5 +1,5 @@
 -- The trees on the way of an index, from the top down, with nodes that were given, and the bytes
--- that keeps them.
+-- that keep them.
 use Rattle.std.specs.Prelude.{ℕ, zero, suc, ◌≡◌, ◌⊎◌, ◌+◌, ◌-◌, ◌*◌, ◌/◌, ◌^◌, ◌<◌, ◌≤◌, List, [], ◌++◌, length}
 use Rattle.std.specs.Prelude.{slice_index_or}
 use Rattle.std.specs.List.{flat_map}
@@ -29,12 +29,12 @@ pub record Way : Type 0 where
   pub at : ℕ
   pub levels : List KeptLevel
 
--- the leaves of a tree of a level
+-- how many leaves a tree of a level has
 abbrev pub leaves_of : Level → ℕ
 leaves_of l = 2 ^ l.lms.h
 
--- the bytes of what is signed of level k: the signature of its public key by the level above, and
--- that key (6.2); the top level is not signed
+-- how many bytes the signature of level k's public key by the level above and that key have (6.2);
+-- 0 for the top level, which is not signed
 abbrev pub signed_length : HssKey → ℕ → ℕ
 signed_length key zero = 0
 signed_length key (suc k) =
@@ -59,12 +59,13 @@ pub record IsWay (way : Way) : Type 0 where
       → IsOnWay (hss_key_of way.key) way.at k (slice_index_or way.levels k other)
   pub admitted : IsAdmitted way.key.levels
 
--- what a signature by index g has of level k's key, signed by the level above (6.2)
+-- what a signature by index g has of level k's key, signed by the level above (6.2); nothing for
+-- the top level
 abbrev pub signed_text : HssKey → ℕ → ℕ → List ℕ
 signed_text key g zero = []
 signed_text key g (suc k) = signed_key key g k
 
--- its nodes are the tree's, and what is signed of it is what a signature by index g has there
+-- a level's nodes are its tree's, and what is signed of it is what a signature by index g has there
 pub record IsGenuine (key : HssKey) (g k : ℕ) (level : KeptLevel) : Type 0 where
   pub nodes : AreNodes level.tree
   pub signed : level.signed.items ≡ signed_text key g k
@@ -83,11 +84,12 @@ public_of way other =
 abbrev pub bottom_of : KeyOfCode → ℕ
 bottom_of key = length key.levels - 1
 
--- of how many indices in a row the bottom level's nodes serve all: 2 to the power of this
+-- the bottom level's nodes serve 2 to the power of this many indices in a row
 abbrev pub served_height : KeyOfCode → ℕ
 served_height key = bottom_height (level (hss_key_of key) (bottom_of key)).lms.h
 
--- all levels are there, and the index goes through the same bottom subtree of the bottom level
+-- all levels are there, and in the bottom level the index goes through the same bottom subtree as
+-- the one that the trees are for
 pub record Serves (way : Way) (g : ℕ) : Type 0 where
   pub all_levels : length way.levels ≡ length way.key.levels
   pub subtree : g / 2 ^ served_height way.key ≡ way.at / 2 ^ served_height way.key
@@ -96,8 +98,8 @@ pub record Serves (way : Way) (g : ℕ) : Type 0 where
 abbrev pub signed_keys : List KeptLevel → List ℕ
 signed_keys levels = flat_map (λ (level : KeptLevel). level.signed.items) levels
 
--- the signed keys as they were given, and the signature of a message by the one-time key of an
--- index, but that any bytes may be in the place of its path (6.2)
+-- the signature has the signed keys as they were given, and then the LMS signature of a message by
+-- the one-time key of an index, but that any bytes may be in the place of its path (6.2)
 pub record EndsAlong (way : Way) (g : ℕ) (randomizer message signature : List ℕ) : Type 0 where
   pub last : List ℕ
   pub parts : signature ≡ u32str (bottom_of way.key) ++ signed_keys way.levels ++ last
@@ -142,14 +144,15 @@ pub record IsPlanned (key : HssKey) (g k : ℕ) (planned : PlannedLevel) : Type 
   pub last : planned.tree.last ≡ leaf_at key g k
   pub signed : length planned.signed.items ≡ signed_length key k
 
--- all levels from one on are planned, the lowest first
+-- all levels from level `from` on are planned, the lowest level first in the list
 pub record ArePlanned (key : HssKey) (g from : ℕ) (plans : List PlannedLevel) : Type 0 where
   pub count : from + length plans ≡ length key.levels
   pub each : (k : ℕ) (other : PlannedLevel) → from ≤ k → k < length key.levels
       → IsPlanned key g k (slice_index_or plans (length key.levels - 1 - k) other)
 
--- a tree that was computed and serves a leaf, whose public key leaf q of the one above it signed.
--- The path of that signature is the tree's where the nodes above are
+-- a tree that was computed and serves a leaf, whose public key leaf q of the tree above signed.
+-- That signature is the standard's but for its path, which is right where the nodes of the tree
+-- above are
 pub record IsKeptChild (parent : KeptLevel) (q : ℕ) (own : TreeKey) (leaf : ℕ)
     (level : KeptLevel) : Type 0 where
   pub key : level.tree.key ≡ own
@@ -165,7 +168,8 @@ pub record IsKeptChild (parent : KeptLevel) (q : ℕ) (own : TreeKey) (leaf : �
       ≡ lms_signature (tree_of parent.tree.key) q
       (derived (tree_of parent.tree.key) q for_randomizer) (public_key_of (tree_of own))
 
--- the same tree, and what is signed of it, and another leaf is served
+-- the same tree, with the same signed of it, moved to serve this leaf; its nodes are right where
+-- they were before
 pub record IsMoved (level : KeptLevel) (leaf : ℕ) (moved : KeptLevel) : Type 0 where
   pub key : moved.tree.key ≡ level.tree.key
   pub served : ServesLeaf moved.tree leaf
@@ -179,7 +183,7 @@ level_text level =
     level.signed.items ++ flat_map (λ node. node) level.tree.upper
     ++ flat_map (λ node. node) level.tree.lower
 
--- its bytes
+-- how many bytes are kept of level k
 abbrev pub level_length : HssKey → ℕ → ℕ
 level_length key k =
     signed_length key k + hash_length *
@@ -206,7 +210,7 @@ abbrev pub check_of : HssKey → List ℕ → List ℕ
 check_of key body =
     sha256 (derived (tree_at key 0 0) 0 for_nodes ++ sha256 (sets_text key.levels ++ body))
 
--- what it is the check value of
+-- the bytes that the check value is of: the header and all levels
 abbrev pub body_text : Way → List ℕ
 body_text way = nodes_header way.at ++ flat_map level_text way.levels
 

@@ -12,7 +12,7 @@ ghost use Rattle.lms_kept.specs.Ways.{IsKeptChild, IsMoved, level_text};
 use crate::planned_level::PlannedLevel;
 use lms_hss::{LMS_KEY_LEN, randomizer};
 use lms_params::{HASH_LEN, OutOfMemory, lms_sig_len};
-use lms_tree::{Begun, KeptTree, PlannedTree, Progress, TreeKey, bottom_height};
+use lms_tree::{Begun, KeptTree, NodeSource, PlannedTree, Progress, TreeKey, bottom_height};
 use std::alloc::Global;
 use std::thread::Threads;
 
@@ -44,7 +44,8 @@ impl KeptLevel {
         KeptLevel { tree, signed }
     }
 
-    /// Computes the planned tree below leaf q, which must be served and signs its public key.
+    /// Computes the planned tree below leaf q, which must be served and signs its public key. The
+    /// path in that signature is right where the nodes of this level are.
     pub(crate) fn child(
         &self,
         rt: &(impl Threads + Sync),
@@ -65,8 +66,9 @@ impl KeptLevel {
         KeptLevel { tree, signed }
     }
 
-    /// Moves to leaf q of its tree. `None` where the root of the bottom subtree there is computed
-    /// and is not the node that was given for it.
+    /// Moves on to serve leaf q of its tree. `None` where the root of the bottom subtree there is
+    /// computed and is not the node that was given for it. `OutOfMemory` where memory for that
+    /// subtree is refused.
     pub(crate) fn moved_to(
         self,
         rt: &(impl Threads + Sync),
@@ -105,7 +107,8 @@ impl KeptLevel {
         }
     }
 
-    /// Appends what is signed of it, and its nodes.
+    /// Appends what is signed of its tree, and its nodes. `OutOfMemory` where memory for them is
+    /// refused.
     pub(crate) fn write(&self, text: &mut Vec<u8>) -> Result<(), OutOfMemory>
         ensures { OnOk result (text.new.items ≡ text.old.items ++ level_text self.now) }
     {
@@ -115,9 +118,9 @@ impl KeptLevel {
         Ok(())
     }
 
-    /// Reads a level that serves leaf q of a tree, of which `signed` bytes are signed, from the
-    /// front of `text`. The second part of the result is the rest. `None` where `text` is too
-    /// short.
+    /// Reads a level that serves leaf q of a tree, whose signed public key (6.2) has `signed`
+    /// bytes, from the front of `text`. The second part of the result is the rest. `None` where
+    /// `text` is too short. `OutOfMemory` where memory for the level is refused.
     pub(crate) fn split<'a>(
         alloc: Global,
         key: TreeKey,
@@ -156,8 +159,8 @@ impl KeptLevel {
         }
     }
 
-    /// Appends the LMS signature of a message by leaf q, which is served, under the randomizer `c`,
-    /// to a text that has room for it.
+    /// Appends the LMS signature of a message by leaf q, which must be served, under the randomizer
+    /// `c`, to a text that must have room for it. The path in it is right where the nodes are.
     pub(crate) fn append_signature(
         &self,
         q: u32,
@@ -181,7 +184,9 @@ impl KeptLevel {
         self.tree.sign_into(q, c, msg, &mut text[start..]);
     }
 
-    /// Writes the LMS signature of a public key by leaf q, and that key.
+    /// Fills `out`, which must have just their length, with the LMS signature of a public key by
+    /// leaf q under the randomizer `c`, and that key. Leaf q must be served. The path in the
+    /// signature is right where the nodes are.
     fn sign_key_into(&self, q: u32, c: &[u8; HASH_LEN], public: &[u8; LMS_KEY_LEN], out: &mut [u8])
         requires served { ServesLeaf self.now.tree q }
         requires long { length out.old

@@ -36,6 +36,7 @@ struct Numbers {
 }
 
 /// The header for an index, `HEADER_LEN` bytes, with memory for `capacity` bytes in all.
+/// `OutOfMemory` where memory is refused.
 pub(crate) fn header(alloc: Global, at: u64, capacity: usize) -> Result<Vec<u8>, OutOfMemory>
     ensures { IfOk result (λ text. text.items ≡ nodes_header at) }
 {
@@ -46,7 +47,8 @@ pub(crate) fn header(alloc: Global, at: u64, capacity: usize) -> Result<Vec<u8>,
     Ok(text)
 }
 
-/// The check value of the bytes before it. The typecodes of the key's levels are hashed with them.
+/// The check value of `body`, all bytes before it. The typecodes of the key's levels are hashed
+/// with them.
 pub(crate) fn check_value(key: &HssKey, body: &[u8]) -> [u8; HASH_LEN]
     ensures { result ≡ check_of (hss_key_of key.now) body.now }
 {
@@ -72,8 +74,8 @@ fn hasher_of_sets(levels: &[(LmsType, OtsType)]) -> Sha256
     hasher
 }
 
-/// The index in the header and what is between the header and the check value. `None` where either
-/// is wrong.
+/// The index in the header and what is between the header and the check value. `None` exactly where
+/// the header or the check value is wrong.
 pub(crate) fn checked_rest<'a>(key: &HssKey, text: &'a [u8]) -> Option<(u64, &'a [u8])>
     ensures some { IfSome result (λ r.
         text.now ≡ (nodes_header r.0 ++ r.1.now)

@@ -3,10 +3,11 @@ ghost use Rattle.std.specs.Prelude.{ℕ, ◌≡◌, ◌+◌, ◌-◌, ◌<◌, �
 ghost use Rattle.std.specs.List.{flat_map};
 ghost use Rattle.lms_spec.specs.Bytes.{u32str};
 ghost use Rattle.lms_spec.specs.Hss.{capacity_of, HssAccepts, hss_signature_length};
-ghost use Rattle.lms_spec.specs.Profile.{hss_signature, hss_public_key};
+ghost use Rattle.lms_spec.specs.Profile.{hss_public_key};
 ghost use Rattle.lms_hss.specs.Keys.{hss_key_of};
 ghost use Rattle.lms_hss.specs.Levels.{levels_of};
-ghost use Rattle.lms_kept.specs.Ways.{AreGenuine, ArePlanned, bottom_of, EndsAlong, IsOnWay, IsWay, level_length, level_text, most_text_length, nodes_text, public_of, Serves, signed_keys as signed_keys_of, SignOwnKeys, SignsNoOther, Way};
+ghost use Rattle.lms_kept.specs.Signed.{IsSignedAlong};
+ghost use Rattle.lms_kept.specs.Ways.{AreGenuine, ArePlanned, bottom_of, IsOnWay, IsWay, level_length, level_text, most_text_length, nodes_text, public_of, Serves, signed_keys as signed_keys_of, SignOwnKeys, SignsNoOther, Way};
 ghost use Rattle.lms_kept.specs.declared.kept_level.KeptLevel.{KeptLevel as LevelKept};
 
 use crate::kept_level::KeptLevel;
@@ -68,8 +69,8 @@ impl KeptTrees {
     }
 
     /// Computes the trees that an index goes through, level by level from the top. The leaves of
-    /// all these trees are reported to `progress`. `OutOfMemory` where memory is refused, before any
-    /// leaf is computed.
+    /// all these trees are reported to `progress`. `OutOfMemory` where memory is refused, before
+    /// any leaf is computed.
     pub fn compute(
         rt: &(impl Threads + Sync),
         alloc: Global,
@@ -88,7 +89,7 @@ impl KeptTrees {
         Ok(planned.compute(rt, progress))
     }
 
-    /// Whether all levels are there and their nodes sign index g.
+    /// Whether all levels are there and their nodes serve index g.
     pub fn serves(&self, g: u64) -> bool
         ensures { IsTrue result ↔ Serves self.now g }
     {
@@ -143,54 +144,20 @@ impl KeptTrees {
     }
 
     /// The signature of a message by index g, which must be served, under the randomizer `c` (RFC
-    /// 8554, 6.2), if it is accepted under the public key that `public` gives. `None` if it is not,
-    /// which comes only where something given is wrong. In any case the one-time signature of the
-    /// message is RFC 8554's. Each index must sign one message only, which is not checked here.
-    /// `OutOfMemory` where memory for the signature is refused; `sign_by_text` asks for that before it
-    /// computes trees.
-    pub fn sign(
-        &self,
-        alloc: Global,
-        g: u64,
-        c: &[u8; HASH_LEN],
-        msg: &[u8],
-    ) -> Result<Option<Vec<u8>>, OutOfMemory>
-        requires { Serves self.now g }
-        ensures along { IfOk result (λ signed.
-            IfSome signed (λ text. EndsAlong self.now g c.now msg.now text.items)) }
-        ensures signature { IfOk result (λ signed. IfSome signed (λ text. AreGenuine self.now
-            → text.items ≡ hss_signature (hss_key_of self.now.key) g c.now msg.now)) }
-        ensures accepted { IfOk result (λ signed. IfSome signed (λ text. AreGenuine self.now
-            → HssAccepts (hss_public_key (hss_key_of self.now.key)) msg.now text.items)) }
-        ensures checked { IfOk result (λ signed. IfSome signed (λ text. (other : LevelKept)
-            → HssAccepts (public_of self.now other) msg.now text.items)) }
-        ensures refused { IfOk result (λ signed. IfNone signed (¬ AreGenuine self.now)) }
-    {
-        let memory = Vec::with_capacity(alloc, self.key.sig_len())?;
-        Ok(self.sign_in(memory, g, c, msg))
-    }
-
-    /// As `sign`, with the signature in `memory`, which is empty and has room for it.
-    pub(crate) fn sign_in(
-        &self,
-        memory: Vec<u8>,
-        g: u64,
-        c: &[u8; HASH_LEN],
-        msg: &[u8],
-    ) -> Option<Vec<u8>>
+    /// 8554, 6.2), if it is accepted under the public key that `public` gives. It is put into
+    /// `memory`, which is empty and has room for it. `None` if it is not accepted, which comes only
+    /// where something given is wrong. In any case the one-time signature of the message is RFC
+    /// 8554's. Each index must sign one message only, which is not checked here.
+    pub fn sign(&self, memory: Vec<u8>, g: u64, c: &[u8; HASH_LEN], msg: &[u8]) -> Option<Vec<u8>>
         requires served { Serves self.now g }
         requires empty { memory.items ≡ [] }
         requires room { hss_signature_length (levels_of self.now.key.levels) ≤ vec_capacity memory }
-        ensures along { IfSome result (λ text. EndsAlong self.now g c.now msg.now text.items) }
-        ensures signature { IfSome result (λ text. AreGenuine self.now
-            → text.items ≡ hss_signature (hss_key_of self.now.key) g c.now msg.now) }
-        ensures accepted { IfSome result (λ text. AreGenuine self.now
-            → HssAccepts (hss_public_key (hss_key_of self.now.key)) msg.now text.items) }
+        ensures signature { IfSome result (λ text. IsSignedAlong self.now g c.now msg.now text.items) }
         ensures checked { IfSome result (λ text. (other : LevelKept)
             → HssAccepts (public_of self.now other) msg.now text.items) }
         ensures refused { IfNone result (¬ AreGenuine self.now) }
     {
-        let text = self.signed(memory, g, c, msg);
+        let text = self.unverified(memory, g, c, msg);
         if verify(&self.public(), msg, &text) {
             Some(text)
         } else {
@@ -249,8 +216,8 @@ impl KeptTrees {
         Ok(Some(KeptTrees { key, at, levels }))
     }
 
-    /// Computes the planned levels that are missing, each below the one above it. The list of
-    /// levels has room for all.
+    /// Computes the planned levels, which must be those missing, each below the one above it. The
+    /// list of levels must have room for all of the key's.
     pub(crate) fn completed(
         rt: &(impl Threads + Sync),
         key: HssKey,
@@ -282,16 +249,12 @@ impl KeptTrees {
         KeptTrees { key, at, levels }
     }
 
-    /// The signature of a message by index g, in `memory`, which is empty and has room for it.
-    fn signed(&self, memory: Vec<u8>, g: u64, c: &[u8; HASH_LEN], msg: &[u8]) -> Vec<u8>
+    /// What `sign` gives if it is accepted, in `memory`.
+    fn unverified(&self, memory: Vec<u8>, g: u64, c: &[u8; HASH_LEN], msg: &[u8]) -> Vec<u8>
         requires served { Serves self.now g }
         requires empty { memory.items ≡ [] }
         requires room { hss_signature_length (levels_of self.now.key.levels) ≤ vec_capacity memory }
-        ensures along { EndsAlong self.now g c.now msg.now result.items }
-        ensures signature { AreGenuine self.now
-            → result.items ≡ hss_signature (hss_key_of self.now.key) g c.now msg.now }
-        ensures accepted { AreGenuine self.now
-            → HssAccepts (hss_public_key (hss_key_of self.now.key)) msg.now result.items }
+        ensures { IsSignedAlong self.now g c.now msg.now result.items }
     {
         let bottom = self.key.levels.as_slice().len() - 1;
         let mut text = self.signed_keys(memory);
@@ -301,7 +264,7 @@ impl KeptTrees {
     }
 
     /// What is before the signature of a message, in `memory`, which is empty and has room for it:
-    /// how many public keys are signed, and what is signed of each level.
+    /// how many public keys are signed, and what is signed of each level. Its room stays.
     fn signed_keys(&self, memory: Vec<u8>) -> Vec<u8>
         requires empty { memory.items ≡ [] }
         requires room { 4 + length (signed_keys_of self.now.levels) ≤ vec_capacity memory }
@@ -318,7 +281,7 @@ impl KeptTrees {
         text
     }
 
-    /// The length of what `text` gives.
+    /// The length in bytes of what `text` gives.
     fn text_len(&self) -> usize
         ensures { result ≡ length (nodes_text self.now) }
     {
@@ -329,7 +292,7 @@ impl KeptTrees {
         length
     }
 
-    /// Level k.
+    /// What was given for level k, which must be there.
     fn level(&self, k: usize) -> &KeptLevel
         requires { k < length self.now.levels }
         ensures level { result.now ≡ slice_index_or self.now.levels k result.now }
@@ -339,7 +302,7 @@ impl KeptTrees {
     }
 }
 
-/// Appends bytes to a text that has room for them.
+/// Appends bytes to a text, which must have room for them.
 fn append(bytes: &[u8], text: &mut Vec<u8>)
     requires { length text.old.items + length bytes.now ≤ vec_capacity text.old }
     ensures text { text.new.items ≡ text.old.items ++ bytes.now }

@@ -28,7 +28,7 @@ pub(crate) fn shared_levels(key: &HssKey, g: u64, h: u64) -> usize
     key.levels.as_slice().len()
 }
 
-/// How many leaves a tree has of each level from level k on, added up.
+/// How many leaves a tree of each level from level k on has, added up.
 pub(crate) fn leaves_from(key: &HssKey, k: usize) -> u64
     requires { k ≤ length key.now.levels }
     ensures leaves { result ≡ sum_by leaves_of (drop k (hss_key_of key.now).levels) }

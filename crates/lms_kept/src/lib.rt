@@ -17,5 +17,5 @@ mod signing;
 
 pub use crate::kept_text::MOST_TEXT_LEN;
 pub use crate::kept_trees::KeptTrees;
-pub use crate::signing::{KeptSignature, sign_by_text};
+pub use crate::signing::{KeptSignature, sign_lease};
 pub use lms_params::OutOfMemory;

@@ -17,7 +17,8 @@ pub(crate) struct PlannedLevel {
 }
 
 impl PlannedLevel {
-    /// Plans the tree of level k that an index goes through.
+    /// Plans the tree of level k that index `at` goes through, to serve the leaf there, with memory
+    /// for what is signed of it. `OutOfMemory` where memory is refused.
     pub(crate) fn new(alloc: Global, key: &HssKey, at: u64, k: usize) -> Result<Self, OutOfMemory>
         requires { k < length key.now.levels }
         ensures { IfOk result (IsPlanned (hss_key_of key.now) at k) }
@@ -29,8 +30,8 @@ impl PlannedLevel {
     }
 }
 
-/// Plans the trees of all levels from level `from` on that an index goes through. The last one
-/// planned is that of level `from`.
+/// Plans the trees of all levels from level `from` on that index `at` goes through. The lowest
+/// level is first in the list, and level `from` last. `OutOfMemory` where memory is refused.
 pub(crate) fn planned_levels(
     alloc: Global,
     key: &HssKey,

@@ -29,7 +29,8 @@ pub(crate) struct PlannedTrees {
 }
 
 impl PlannedTrees {
-    /// Plans the trees that an index goes through.
+    /// Plans the trees that index `at` goes through, with all memory for them. `OutOfMemory` where
+    /// that is refused.
     pub(crate) fn new(alloc: Global, key: HssKey, at: u64) -> Result<Self, OutOfMemory>
         requires { at < capacity_of (hss_key_of key) }
         ensures { IfOk result (PlansTrees key at) }
@@ -46,8 +47,8 @@ impl PlannedTrees {
         })
     }
 
-    /// Computes them, level by level from the top. The leaves of all these trees are reported to
-    /// `progress`.
+    /// Computes the planned trees, level by level from the top. The leaves of all these trees are
+    /// reported to `progress`.
     pub(crate) fn compute(self, rt: &(impl Threads + Sync), progress: &impl Progress) -> KeptTrees
         requires { PlansTrees self.key self.at self }
         ensures key { result.key ≡ self.key }
@@ -77,7 +78,8 @@ pub(crate) struct PlannedSignature {
 }
 
 impl PlannedSignature {
-    /// Plans the signature by an index.
+    /// Plans the signature by an index: all memory for it and for the trees that the index goes
+    /// through. `OutOfMemory` where that is refused.
     pub(crate) fn new(alloc: Global, key: HssKey, index: u64) -> Result<Self, OutOfMemory>
         requires { index < capacity_of (hss_key_of key) }
         ensures { IfOk result (PlansSignature key index) }
@@ -87,7 +89,9 @@ impl PlannedSignature {
         Ok(PlannedSignature { memory, trees })
     }
 
-    /// Computes the trees, and signs a message by them.
+    /// Computes the trees, and signs a message by them under the randomizer `c`. The trees are
+    /// answered with the signature, to be kept. The leaves that are computed are reported to
+    /// `progress`.
     pub(crate) fn sign(
         self,
         rt: &(impl Threads + Sync),
@@ -104,7 +108,7 @@ impl PlannedSignature {
         let PlannedSignature { memory, trees } = self;
         let index = trees.at;
         let trees = trees.compute(rt, progress);
-        let Some(signature) = trees.sign_in(memory, index, c, msg) else {
+        let Some(signature) = trees.sign(memory, index, c, msg) else {
             // Signatures by computed trees are accepted.
             unreachable!()
         };

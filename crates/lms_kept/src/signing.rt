@@ -22,16 +22,16 @@ pub struct KeptSignature {
 }
 
 /// Signs a message by the index of a lease of one, under the randomizer `c` (RFC 8554, 6.2), and
-/// spends the lease. It signs by the nodes in `text`, if these are bytes of the key and the signature
-/// is accepted under the root in them. Else, or without `text`, it signs by trees that are computed.
-/// The leaves that are computed are reported to `progress`, and reported anew where the nodes in
-/// `text` turn out to be wrong.
+/// spends the lease. It signs by the nodes in `text`, if these are bytes of the key and the
+/// signature is accepted under the root in them. Else, or without `text`, it signs by trees that
+/// are computed. The leaves that are computed are reported to `progress`, and reported anew where
+/// the nodes in `text` turn out to be wrong.
 ///
 /// Whatever `text` has, the one-time signature of the message is RFC 8554's, and no one-time key of
 /// an upper level signs what came from there. `OutOfMemory` where memory is refused, also for the
 /// nodes of `text`: the index stays used. All memory is asked for before any leaf is computed.
 /// Where the nodes in `text` turn out to be wrong it is asked for again, perhaps after leaves.
-pub fn sign_by_text(
+pub fn sign_lease(
     rt: &(impl Threads + Sync),
     alloc: Global,
     lease: Lease,
@@ -46,16 +46,15 @@ pub fn sign_by_text(
         IsSignedByText (option_map (λ text. text.now) text.entry) lease.key s.index
         c.now msg.now s.signature.items s.trees) }
 {
-    // for the proof: the length's clause bounds the index.
-    let _len = lease.len();
     let (key, index) = (lease.key(), lease.start());
-    let signed = sign_at(rt, alloc, key, index, c, msg, text, progress);
+    let signed = sign_index(rt, alloc, key, index, c, msg, text, progress);
     lease.end();
     signed
 }
 
-/// Signs a message by an index of a key.
-fn sign_at(
+/// Signs a message by an index of a key: by the nodes in `text`, or, where there are none or
+/// `sign_kept` gives `None`, by trees that are computed. `OutOfMemory` where memory is refused.
+fn sign_index(
     rt: &(impl Threads + Sync),
     alloc: Global,
     key: HssKey,
@@ -73,16 +72,17 @@ fn sign_at(
         s.trees) }
 {
     let Some(text) = text else {
-        return sign_anew(rt, alloc, key, index, c, msg, progress);
+        return sign_computed(rt, alloc, key, index, c, msg, progress);
     };
-    match sign_by_nodes(rt, alloc, &key, index, c, msg, text, progress)? {
+    match sign_kept(rt, alloc, &key, index, c, msg, text, progress)? {
         Some(signed) => Ok(signed),
-        None => sign_anew(rt, alloc, key, index, c, msg, progress),
+        None => sign_computed(rt, alloc, key, index, c, msg, progress),
     }
 }
 
-/// Signs a message by trees that are computed.
-fn sign_anew(
+/// Signs a message by an index of a key, by trees that are computed. `OutOfMemory` where memory is
+/// refused, before any leaf is computed.
+fn sign_computed(
     rt: &(impl Threads + Sync),
     alloc: Global,
     key: HssKey,
@@ -101,9 +101,10 @@ fn sign_anew(
     Ok(planned.sign(rt, c, msg, progress))
 }
 
-/// Signs a message by the nodes in `text`. `None` where it is of another key, or its nodes are not
-/// those of the key's trees.
-fn sign_by_nodes(
+/// Signs a message by an index of a key, by the nodes in `text`. `None` where `text` is not of this
+/// key, or its nodes turn out not to be those of the key's trees; not all wrong nodes show.
+/// `OutOfMemory` where memory is refused.
+fn sign_kept(
     rt: &(impl Threads + Sync),
     alloc: Global,
     key: &HssKey,
@@ -124,7 +125,7 @@ fn sign_by_nodes(
     let Some((trees, held)) = trees_of(rt, alloc, *key, index, text, progress)? else {
         return Ok(None);
     };
-    let Some(signature) = trees.sign_in(memory, index, c, msg) else {
+    let Some(signature) = trees.sign(memory, index, c, msg) else {
         return Ok(None);
     };
     Ok(Some(KeptSignature {
@@ -134,7 +135,9 @@ fn sign_by_nodes(
     }))
 }
 
-/// The trees of `text`, moved to an index, and whether they served it before.
+/// The trees of `text`, moved to an index, and whether they served it before. `None` where `text`
+/// is not of this key, or a node in it turns out to be wrong when the trees are moved.
+/// `OutOfMemory` where memory is refused.
 fn trees_of(
     rt: &(impl Threads + Sync),
     alloc: Global,

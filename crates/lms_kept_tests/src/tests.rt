@@ -6,7 +6,7 @@ mod wrong;
 
 use lms_fixtures::{Sums, key_of, lease_of};
 use lms_hss::{Forest, HssKey, verify};
-use lms_kept::{KeptSignature, KeptTrees, sign_by_text};
+use lms_kept::{KeptSignature, KeptTrees, sign_lease};
 use lms_params::{LmsType, OtsType, OutOfMemory};
 use std::process::Abort;
 use std::test::Fail;
@@ -64,11 +64,15 @@ fn moved(
 /// The signature of `abc` by an index that is served, or none where it is not accepted.
 fn signed(
     rt: &(impl Abort + AllocGlobal),
+    key: HssKey,
     trees: &KeptTrees,
     g: u64,
-) -> Result<Option<Vec<u8>>, Fail> {
+) -> Result<Option<Vec<u8>>, Fail>
+    requires { trees.now.key ≡ key }
+{
     assert!(rt; trees.serves(g), "{g}");
-    Ok(trees.sign(rt.alloc(), g, &RANDOMIZER, b"abc")?)
+    let memory = Vec::with_capacity(rt.alloc(), key.sig_len())?;
+    Ok(trees.sign(memory, g, &RANDOMIZER, b"abc"))
 }
 
 /// The signature of `abc` by an index, from trees that are computed for it alone.
@@ -88,8 +92,10 @@ fn check_index(
     key: HssKey,
     trees: &KeptTrees,
     g: u64,
-) -> Result<(), Fail> {
-    let signature = signed(rt, trees, g)?.ok_or("an accepted signature")?;
+) -> Result<(), Fail>
+    requires { trees.now.key ≡ key }
+{
+    let signature = signed(rt, key, trees, g)?.ok_or("an accepted signature")?;
     assert!(rt; signature == expected(rt, key, g)?, "{g}");
     Ok(())
 }
@@ -188,7 +194,7 @@ fn check_by_text(
     text: Option<&[u8]>,
     keeps: bool,
 ) -> Result<KeptSignature, Fail> {
-    let signed = sign_by_text(
+    let signed = sign_lease(
         rt,
         rt.alloc(),
         lease_of(rt.alloc(), key, g, 1)?,
@@ -253,7 +259,7 @@ fn check_leaves(
 ) -> Result<Option<KeptTrees>, Fail> {
     let sums = Sums::new();
     let lease = lease_of(rt.alloc(), key, g, 1)?;
-    let signed = sign_by_text(rt, rt.alloc(), lease, &RANDOMIZER, b"abc", text, &sums);
+    let signed = sign_lease(rt, rt.alloc(), lease, &RANDOMIZER, b"abc", text, &sums);
     let (computed, trees) = match signed {
         Ok(signed) => (leaves, signed.trees),
         Err(OutOfMemory) => (0, None),
@@ -304,17 +310,18 @@ fn signs_after_refused_memory(rt: HostRuntime) -> Result<(), Fail> {
     };
     let next = next.ok_or("right nodes")?;
     assert!(rt; next.serves(32));
-    let signature = match next.sign(rt.alloc(), 32, &RANDOMIZER, b"abc") {
-        Ok(signature) => signature,
-        Err(OutOfMemory) => next.sign(rt.alloc(), 32, &RANDOMIZER, b"abc")?,
+    let memory = match Vec::with_capacity(rt.alloc(), key.sig_len()) {
+        Ok(memory) => memory,
+        Err(_) => Vec::with_capacity(rt.alloc(), key.sig_len())?,
     };
+    let signature = next.sign(memory, 32, &RANDOMIZER, b"abc");
     let top = match KeptTrees::top(&rt, rt.alloc(), key, &Sums::new()) {
         Ok(top) => top,
         Err(OutOfMemory) => KeptTrees::top(&rt, rt.alloc(), key, &Sums::new())?,
     };
     let signature = signature.ok_or("an accepted signature")?;
     assert!(rt; verify(&top.public(), b"abc", &signature));
-    let by_text = match sign_by_text(
+    let by_text = match sign_lease(
         &rt,
         rt.alloc(),
         lease_of(rt.alloc(), key, 32, 1)?,
@@ -324,7 +331,7 @@ fn signs_after_refused_memory(rt: HostRuntime) -> Result<(), Fail> {
         &Sums::new(),
     ) {
         Ok(signed) => signed,
-        Err(OutOfMemory) => sign_by_text(
+        Err(OutOfMemory) => sign_lease(
             &rt,
             rt.alloc(),
             lease_of(rt.alloc(), key, 32, 1)?,

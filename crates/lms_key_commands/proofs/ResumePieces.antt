@@ -14,14 +14,14 @@ use Rattle.lms_key_commands.specs.ResumeLogs.{CountsInPart, CountsTo}
 pub record IsCounted (end : ℕ) (start now : BookState) : Type 0 where
   pub key : now.key ≡ start.key
   pub openings : now.openings ≡ start.openings
-  pub lost : burnt_now now ≡ start.burnt
+  pub burnt_stays : burnt_now now ≡ start.burnt
   pub used : counter now ≤ end
   pub stored : CountsTo (counter now) (state_of start) start.store now.store
 
 -- the image of its next indices
 next_is : (end len : ℕ) (start now : BookState) → IsCounted end start now
     → next_image len now ≡ image_below (counter now + len) (state_of start)
-next_is end len start now is = λ i. image_of (is.key i) (counter now + len) (is.openings i + 1) (is.lost i)
+next_is end len start now is = λ i. image_of (is.key i) (counter now + len) (is.openings i + 1) (is.burnt_stays i)
 
 -- it counts a piece more
 pub counted_piece : (end : ℕ) (start now new : BookState) → IsCounted end start now → BurnsPiece end now new
@@ -42,7 +42,7 @@ counted_piece end start now new is piece =
     record {
       key = piece.key ∙ is.key;
       openings = piece.openings ∙ is.openings;
-      lost = piece.lost ∙ is.lost;
+      burnt_stays = piece.burnt_stays ∙ is.burnt_stays;
       used = omega (arith, piece.used, piece.within);
       stored = stored;
     }

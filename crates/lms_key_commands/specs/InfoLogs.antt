@@ -13,7 +13,7 @@ use Rattle.lms_commands.specs.declared.fault.Fault.TheVariants.{WriteOutput}
 abbrev pub info_of : KeyState → List ℕ
 info_of read = info_text read.key read.index read.openings read.burnt
 
--- a state is read, and begins to be described, where this was printed before
+-- a state is read, and then an output begins to be printed to, where this was printed before
 pub record ReadsToPrint (read : KeyState) (before : List ℕ) (old new : WorldCalls) : Type 0 where
   pub until_read : WorldCalls
   pub reads : LeavesState read old until_read
@@ -35,7 +35,7 @@ LogsUndescribed before printed fault old new = (LogsUnopened fault old new × (p
     × ((read : KeyState) × ReadsToPrint read before old new
     × AppendsFront (Some before) (Some printed) (info_of read)))
 
--- the same, where it fails
+-- all calls of `info` where it fails
 abbrev pub LogsInfoFailed : Bytes → List ℕ → List ℕ → Fault → WorldCalls → WorldCalls → Type 0
 LogsInfoFailed state before printed fault old new =
     (IsLockRefused fault × (new ≡ after (Locked state (lock_answer fault) ∷ []) old) × (printed ≡ before))

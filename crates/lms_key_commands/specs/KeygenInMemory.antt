@@ -40,7 +40,7 @@ MakesKeyInMemory = (key : KeyOfCode) (state public : Bytes) (before printed : Li
     → Follows (Some old) earlier (Some new) now
     → MakesKey key old new × PublishesIn key public old new
 
--- there was neither, and now there may be the key's state, or may not: its store failed
+-- there was neither a state nor a witness, and now there may be the key's state, or may not: its store failed
 pub record MayMakeKey (key : KeyOfCode) (old new : Held) : Type 0 where
   pub free : old.in_use ≡ false
   pub none_was : is_there old.state ≡ false
@@ -50,7 +50,7 @@ pub record MayMakeKey (key : KeyOfCode) (old new : Held) : Type 0 where
   pub nodes : new.nodes ≡ old.nodes
   pub left : (new.state ≡ old.state) ⊎ IsLeftBy (image_of key 0 0 0) old.state new.state
 
--- why no key is made, or none published, in the order in which that is found
+-- why no key is made, or none published, or its capacity is not printed, in the order in which that is found
 abbrev pub FailsToMakeKey : KeyOfCode → Bytes → Fault → Held → Held → Type 0
 FailsToMakeKey key public fault old new =
     FailsToLock fault old new

@@ -23,8 +23,8 @@ abbrev pub StoresKey : KeyOfCode → WorldCalls → WorldCalls → Type 0
 StoresKey key old new =
     (taken : Taking) × PutsBack taken (after_write (image_of key 0 0 0) taken.view) old new
 
--- why it is not stored in a store that is taken out, and what is left of that: memory is refused for
--- the tree of the public key, and it is as it was; or it fails
+-- why it is not stored in a store that is taken out, and what is left of that: memory is refused for the top tree, and
+-- the store is as it was; or the store fails
 abbrev pub LeavesUnstored : KeyOfCode → Fault → StoreView → StoreView → Type 0
 LeavesUnstored key fault taken left =
     ((fault ≡ OutOfMemory) × (left ≡ taken))
@@ -42,12 +42,12 @@ abbrev pub AreGenuineTrees : KeyOfCode → Option Way → Type 0
 AreGenuineTrees key trees =
     IfSome trees (λ way. IsWay way × (way.key ≡ key) × AreGenuine way)
 
--- there is neither a state nor a witness
+-- the calls up to where it is found that there is neither a state nor a witness
 abbrev pub finding_none : WorldCalls → WorldCalls
 finding_none old = after (Asked false ∷ WitnessRead (Ok None) ∷ []) old
 
--- it is stored where there was none, trees of the key may be kept, and then the public key is
--- written to its file, once
+-- a new key's state is stored where there was neither a state nor a witness, trees of the key may be kept, and then the
+-- public key is written to its file, once, which comes to this answer
 pub record WritesKey (key : KeyOfCode) (public : Bytes) (answer : Writing)
     (old new : WorldCalls) : Type 0 where
   pub trees : Option Way
@@ -59,7 +59,7 @@ pub record WritesKey (key : KeyOfCode) (public : Bytes) (answer : Writing)
   pub writes : new
       ≡ after (Written public (hss_public_key (hss_key_of key)) answer ∷ []) until_kept
 
--- then the capacity begins to be printed, where this was printed before
+-- so the public key is written, and then an output begins to be printed to, where this was printed before
 pub record PublishesKey (key : KeyOfCode) (public : Bytes) (before : List ℕ)
     (old new : WorldCalls) : Type 0 where
   pub until_written : WorldCalls

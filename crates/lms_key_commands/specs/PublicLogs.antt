@@ -17,7 +17,7 @@ pub record ReadsKey (state : Bytes) (read : KeyState) (old new : WorldCalls) : T
   pub reads : LeavesState read (after (Locked state Acquired ∷ []) old) until_read
   pub unlocks : new ≡ after (Unlocked ∷ []) until_read
 
--- why it is not read
+-- why it is not read: it is not locked; or it is, and not opened, and its lock is handed back
 abbrev pub LogsUnread : Bytes → Fault → WorldCalls → WorldCalls → Type 0
 LogsUnread state fault old new =
     (IsLockRefused fault × (new ≡ after (Locked state (lock_answer fault) ∷ []) old))

@@ -61,7 +61,7 @@ StateCountsTo end state old new =
     ((end ≡ state.index) × (new ≡ old))
     ⊎ ((state.index < end) × (new ≡ only (image_below end state)))
 
--- it counts only some of the indices, since memory ran out or its store failed
+-- it counts only some of the indices for certain, since memory ran out or its store failed, which may have stored more
 abbrev pub ResumesInPart : ℕ → Fault → Held → Held → Type 0
 ResumesInPart end fault old new =
     (found : FindsOlder end old new) × (at : ℕ) × (mid : Texts) × (at < end)
@@ -79,7 +79,7 @@ FailsOnceLocked end before printed fault old new =
     ⊎ ((fault ≡ WriteOutput) × ((resumes : ResumesState end old new)
     × AppendsFront (Some before) (Some printed) (burnt_line resumes.0.state.index end)))))
 
--- the same, from the text of the counter on
+-- why `resume` fails, from the text of the counter on, in the order in which that is found
 abbrev pub FailsToResume : Bytes → List ℕ → List ℕ → Fault → Held → Held → Type 0
 FailsToResume counter before printed fault old new =
     ((fault ≡ BadCounter) × ((number : ℕ) → ¬ IsDecimal counter number) × (new ≡ old))

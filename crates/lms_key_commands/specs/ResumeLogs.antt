@@ -23,7 +23,7 @@ burnt_text start end =
     codes "indices " ++ (decimal start ++ (codes " to " ++ (decimal (end - 1)
     ++ codes " burnt; right only if the witness is the newest")))
 
--- and what it prints
+-- the line that it prints: that and LF
 abbrev pub burnt_line : ℕ → ℕ → List ℕ
 burnt_line start end = burnt_text start end ++ codes "\n"
 
@@ -45,12 +45,14 @@ IsNotResumed end text state fault =
     ⊎ ((fault ≡ Exhausted (capacity_of (hss_key_of state.key) - state.index)) × (state.index < counter)
     × (counter ≡ end) × (capacity_of (hss_key_of state.key) < counter)))))
 
--- the last of them, if there is one, counts up to this end, and else the state does
+-- images are stored one after another, each for certain; the last of them, if there is one, counts up to this
+-- end, and else the state does
 abbrev pub CountsTo : ℕ → KeyState → StoreView → StoreView → Type 0
 CountsTo end state read left =
     (ends : List ℕ) × (used_after state ends ≡ end) × StoresUpTo state ends read left
 
--- it counts up to an index below it, and then memory runs out, or the next image is not stored for certain
+-- images are stored so up to an index below this end, and then memory runs out, or the next image is not stored for
+-- certain
 abbrev pub CountsInPart : ℕ → KeyState → Fault → StoreView → StoreView → Type 0
 CountsInPart end state fault read left =
     (at : ℕ) × (mid : StoreView) × (at < end) × CountsTo at state read mid
@@ -73,7 +75,7 @@ pub record ReadsOlder (end : ℕ) (read : KeyState) (old new : WorldCalls) : Typ
 abbrev pub BurnsBelow : ℕ → KeyState → WorldCalls → WorldCalls → Type 0
 BurnsBelow end read old new = (is : ReadsOlder end read old new) × CountsTo end read is.given is.left
 
--- it is not: a fault came before
+-- it does not, for certain: a fault came before
 abbrev pub BurnsInPart : ℕ → Fault → WorldCalls → WorldCalls → Type 0
 BurnsInPart end fault old new =
     (read : KeyState) × (is : ReadsOlder end read old new) × CountsInPart end read fault is.given is.left
@@ -92,7 +94,7 @@ LeavesUnburnt end fault old new =
 abbrev pub LogsUnburnt : ℕ → Fault → WorldCalls → WorldCalls → Type 0
 LogsUnburnt end fault old new = LeavesUnburnt end fault old new ⊎ BurnsInPart end fault old new
 
--- all are, and that begins to be printed, where this was printed before
+-- all are, and then an output begins to be printed to, where this was printed before
 pub record BurnsToPrint (end : ℕ) (read : KeyState) (before : List ℕ) (old new : WorldCalls) : Type 0 where
   pub until_burnt : WorldCalls
   pub burns : BurnsBelow end read old until_burnt

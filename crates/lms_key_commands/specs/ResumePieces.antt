@@ -6,8 +6,8 @@ use Rattle.lms_book.specs.Stops.{FailsToWrite, after_write}
 use Rattle.lms_commands.specs.declared.fault.Fault.{Fault}
 use Rattle.lms_commands.specs.declared.fault.Fault.TheVariants.{OutOfMemory, WriteStateBurnt}
 
--- some of the indices below this one are used, and none counts as burnt: the image that says so is stored
--- for certain
+-- the next indices of a book are used, one at least and all below this one, and the number of burnt ones stays: the
+-- image that says so is stored for certain
 pub record BurnsPiece (end : ℕ) (old new : BookState) : Type 0 where
   pub key : new.key ≡ old.key
   pub openings : new.openings ≡ old.openings
@@ -15,10 +15,10 @@ pub record BurnsPiece (end : ℕ) (old new : BookState) : Type 0 where
   pub some : 1 ≤ len
   pub within : counter old + len ≤ end
   pub used : counter new ≡ counter old + len
-  pub lost : burnt_now new ≡ burnt_now old
+  pub burnt_stays : burnt_now new ≡ burnt_now old
   pub stored : new.store ≡ after_write (next_image len old) old.store
 
--- none are, or not for certain
+-- no indices are used, since memory ran out; or their image was written, but not stored for certain
 abbrev pub BurnsNoPiece : ℕ → BookState → Fault → BookState → Type 0
 BurnsNoPiece end old fault new =
     ((fault ≡ OutOfMemory) × (new.store ≡ old.store))

@@ -11,8 +11,8 @@ use Rattle.lms_commands.specs.declared.fault.Fault.{Fault}
 use Rattle.lms_commands.specs.declared.fault.Fault.TheVariants.{BadCounter, OtherCounter, OutOfMemory, ReadWitness}
 use Rattle.lms_commands.specs.declared.fault.Fault.TheVariants.{WitnessExists, WriteOutput}
 
--- the state was that of a key whose counter the text is, and had no witness; now that says so, and
--- nothing else is changed
+-- the state counted as many indices as the text says, and had no witness; now it has one that says so, and nothing else
+-- is changed
 pub record MakesWitnessIn (counter : Bytes) (old new : Held) : Type 0 where
   pub state : KeyState
   pub was : WasState state old.state

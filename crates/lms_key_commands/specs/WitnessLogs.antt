@@ -12,7 +12,7 @@ use Rattle.lms_commands.specs.declared.fault.Fault.{Fault}
 use Rattle.lms_commands.specs.declared.fault.Fault.TheVariants.{BadCounter, OtherCounter, OutOfMemory, WitnessExists}
 use Rattle.lms_commands.specs.declared.fault.Fault.TheVariants.{WriteOutput, WriteWitness}
 
--- the text is that of this number
+-- the text is this number in decimal, which is below 2^64
 abbrev pub IsDecimal : Bytes → ℕ → Type 0
 IsDecimal text number = (text ≡ decimal number) × (number < 2 ^ 64)
 
@@ -35,7 +35,7 @@ made_text read made = witness_line read ++ (made ++ codes "\n")
 abbrev pub LeavesUnwatched : KeyState → WorldCalls → WorldCalls → Type 0
 LeavesUnwatched read old new = LeavesState read (after (WitnessRead (Ok None) ∷ []) old) new
 
--- then a witness of it is made, and begins to be printed, where this was printed before
+-- then a witness of it is made, and an output begins to be printed to, where this was printed before
 pub record MakesToPrint (read : KeyState) (place made : Bytes) (before : List ℕ)
     (old new : WorldCalls) : Type 0 where
   pub until_read : WorldCalls

@@ -36,7 +36,7 @@ pub fn describe<W: World, O: Write>(
     described
 }
 
-/// The same, once the lock is acquired.
+/// As `describe`, once the lock is acquired.
 fn describe_locked<W: World, O: Write>(
     alloc: Global,
     world: &mut W,
@@ -55,7 +55,8 @@ fn describe_locked<W: World, O: Write>(
     Ok(print_info(output, &image)?)
 }
 
-/// The key of the state of a lock, and what is counted of it.
+/// Reads the state of a lock: its key, and what is counted of it. The state stays as it was, and
+/// its store is put back. Faults as `lms_commands::open_state`.
 pub(crate) fn read_state<W: World>(
     alloc: Global,
     world: &mut W,

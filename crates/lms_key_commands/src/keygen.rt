@@ -24,9 +24,11 @@ use std::thread::Threads;
 /// The key of these levels, of this seed of 64 hexadecimal digits and of this identifier of 32.
 /// Where the seed is `-`, its digits are all that the input has, but for LF after them.
 ///
-/// The first of these faults: `BadLevels`, `TooManyLevels`, `TooTall`, `BadSeed` or, where the
-/// input can't be read, `ReadInput`, `BadId`; or `OutOfMemory` where memory for the levels was
-/// refused. No more than 66 bytes of the input are read.
+/// Faults, in this order: `BadLevels` where the text is no list of levels, or `OutOfMemory` where
+/// memory for them was refused; `TooManyLevels` over 8, `TooTall` where their heights sum to over
+/// 60; `BadSeed` where the option or the input is no such digits, or `ReadInput` where the input
+/// can't be read; `BadId` where the identifier is no such digits. No more than 66 bytes of the
+/// input are read.
 pub fn key_from<I: Read>(
     alloc: Global,
     levels: &str,
@@ -94,7 +96,7 @@ pub fn make_key<W: World, O: Write>(
     made
 }
 
-/// The same, once the lock is acquired.
+/// As `make_key`, once the lock is acquired.
 fn make_locked<W: World, O: Write>(
     resources: &Resources<impl Threads + Sync, impl Progress>,
     world: &mut W,
@@ -143,9 +145,10 @@ pub(crate) fn publish<W: World, O: Write>(
     Ok(print_capacity(output, key.capacity())?)
 }
 
-/// Computes a key's top tree and stores the key's state, that of the lock, with no index used.
-/// `OutOfMemory`, before a leaf is computed, where memory for the state's store or for the tree is
-/// refused, and nothing is written then; or `WriteState` where it was not stored for certain.
+/// Computes a key's top tree, which it answers, and stores the key's state, that of the lock, with
+/// no index used. `OutOfMemory`, before a leaf is computed, where memory for the state's store or
+/// for the tree is refused, and nothing is written then; or `WriteState` where it was not stored
+/// for certain.
 fn store_key<W: World>(
     resources: &Resources<impl Threads + Sync, impl Progress>,
     world: &mut W,
@@ -165,9 +168,9 @@ fn store_key<W: World>(
     made
 }
 
-/// Computes a key's top tree, and then stores the key's image with no index used. `OutOfMemory`,
-/// before a leaf is computed, where memory for the tree is refused, and the store is as it was; or
-/// `WriteState` where the image was not stored for certain.
+/// Computes a key's top tree, which it answers, and then stores the key's image with no index used.
+/// `OutOfMemory`, before a leaf is computed, where memory for the tree is refused, and the store is
+/// as it was; or `WriteState` where the image was not stored for certain.
 fn store_with_trees<S: StateStore>(
     resources: &Resources<impl Threads + Sync, impl Progress>,
     store: &mut S,
@@ -186,8 +189,8 @@ fn store_with_trees<S: StateStore>(
     }
 }
 
-/// Stores a key's image with no index used. A crash at any moment leaves what it could leave
-/// before, or that image.
+/// Stores a key's image with no index used. `StoreFault` where that was not stored for certain. A
+/// crash at any moment leaves what it could leave before, or that image.
 fn store_unused<S: StateStore>(store: &mut S, key: &HssKey) -> Result<(), StoreFault>
     ensures { WritesStore (image_of key.now 0 0 0) (S.seen store.old) result (S.seen store.new) }
 {

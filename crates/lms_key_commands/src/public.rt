@@ -43,7 +43,8 @@ pub fn publish_key<W: World, O: Write>(
     publish(resources.alloc, world, public, &text, &key, output)
 }
 
-/// The key of a state, read under its lock.
+/// The key of a state, read under its lock, which is handed back. Faults as
+/// `lms_commands::lock_state` and `open_state`.
 fn read_key<W: World>(alloc: Global, world: &mut W, state: &str) -> Result<HssKey, Fault>
     ensures logged { IfOk result (λ key. (read : KeyState) × (read.key ≡ key)
         × ReadsKey state.now read (W.events world.old) (W.events world.new)) }

@@ -23,19 +23,21 @@ use std::io::Write;
 const PIECE: u64 = 1024;
 
 /// Burns the indices of a state that is older than its witness, as one that was restored from a
-/// backup: all from the state's counter on and below the witness's number, which has to be the given
-/// counter. They sign nothing, and whoever signs then goes on after them. Nothing can see whether
-/// the witness is the newest, which the printed line recalls. The witness stays as it is.
+/// backup: all from the state's counter on and below the witness's number, which has to be the one
+/// in the text `counter`. They sign nothing, and whoever signs then goes on after them. They are
+/// leases that are given back, so the image's number of burnt indices stays. Nothing can see
+/// whether the witness is the newest, which the printed line recalls. The witness stays as it is.
 ///
-/// In this order: `BadCounter` where the text is no number in decimal, `StateInUse` where the state's
-/// lock is not available, `ReadWitness` where there is no witness or it can't be read, `ReadState`
-/// where the state can't be read, `BadState` where it is no image, `BadWitness` where the witness is
-/// none of the state's key, `StateNotOlder` where it doesn't say more than the state, `OtherCounter`
-/// where it says another number than the given one, `Exhausted` where the key has fewer indices; the
-/// state stays as it was in all these cases. `WriteStateBurnt` where an image was not stored for
-/// certain, after others perhaps that were: the state may count some of the indices as used, and the
-/// command can be given again. `WriteOutput` where the line can't be printed: all are burnt then.
-/// `OutOfMemory` may come anywhere before that, also after some of the images.
+/// In this order: `BadCounter` where that text is none of a number below 2^64, `StateInUse` where
+/// the state's lock is not available, `ReadWitness` where there is no witness or it can't be read,
+/// `ReadState` where the state can't be read, `BadState` where it is no image, `BadWitness` where
+/// the witness is none of the state's key, `StateNotOlder` where it doesn't say more than the
+/// state, `OtherCounter` where it says another number than the given one, `Exhausted` where the key
+/// has fewer indices; the state stays as it was in all these cases. `WriteStateBurnt` where an
+/// image was not stored for certain, after others perhaps that were: the state may count some of
+/// the indices as used, or all, and the command can be given again. `WriteOutput` where the line
+/// can't be printed: all are burnt then. `OutOfMemory` may come anywhere before the line is
+/// printed, also after some of the images.
 pub fn resume_state<W: World, O: Write>(
     alloc: Global,
     world: &mut W,
@@ -59,7 +61,7 @@ pub fn resume_state<W: World, O: Write>(
     resumed
 }
 
-/// The same, once the lock is acquired.
+/// As `resume_state`, once the lock is acquired, where `end` is the number of the text `counter`.
 fn resume_locked<W: World, O: Write>(
     alloc: Global,
     world: &mut W,
@@ -80,7 +82,8 @@ fn resume_locked<W: World, O: Write>(
     Ok(print_burnt(output, start, end)?)
 }
 
-/// Prints a line on the indices from `start` on and below `end`.
+/// Prints the line that says that the indices from `start` on and below `end` are burnt, which is
+/// right only if the witness is the newest.
 ///
 /// On a fault, a beginning of it was written.
 fn print_burnt<O: Write>(output: &mut O, start: u64, end: u64) -> Result<(), WriteFault>
@@ -97,8 +100,8 @@ fn print_burnt<O: Write>(output: &mut O, start: u64, end: u64) -> Result<(), Wri
     )
 }
 
-/// Burns the indices of a lock's state below its witness's number, `end`, and answers from which
-/// index on. Faults as `resume_state`.
+/// Burns the indices of a lock's state below `end`, which its witness has to say, and answers from
+/// which index on. Faults as `resume_state` from `ReadWitness` on, but for `WriteOutput`.
 fn burn_locked<W: World>(
     alloc: Global,
     world: &mut W,
@@ -125,8 +128,9 @@ fn burn_locked<W: World>(
     }
 }
 
-/// Burns the indices of a book that was just opened below the number that this witness says, `end`.
-/// Where the witness refuses that, the book stays as it was.
+/// Burns the indices below `end` of a book that was just opened and has read `read`, if its
+/// witness, the bytes `text`, says that number. Faults as `compare`, where the book stays as it
+/// was, or as `burn_below`.
 fn burn_by<S: StateStore>(
     book: &mut Book<S>,
     read: &Image,
@@ -147,8 +151,10 @@ fn burn_by<S: StateStore>(
     burn_below(book, end)
 }
 
-/// Compares a state with its witness: `BadWitness`, `StateNotOlder`, `OtherCounter` or `Exhausted`
-/// where it can't be resumed at `end`.
+/// Compares a state with the bytes of its witness, before it is resumed at `end`. Faults, in this
+/// order: `BadWitness` where they are none of its key, `StateNotOlder` where they don't say more
+/// than the state, `OtherCounter` where they say another number than `end`, `Exhausted` where the
+/// key has fewer indices.
 fn compare(text: &[u8], read: &Image, end: u64) -> Result<(), Fault>
     requires within { read.now.counter ≤ capacity_of (hss_key_of read.now.key) }
     ensures older { OnOk result (IsOlder end (state_in read.now) text.now) }
@@ -172,7 +178,8 @@ fn compare(text: &[u8], read: &Image, end: u64) -> Result<(), Fault>
     Ok(())
 }
 
-/// Burns the indices of a book that was just opened below this one, piece by piece.
+/// Burns the indices below `end` of a book that was just opened, piece by piece. Faults as
+/// `burn_piece`, after pieces perhaps that were stored for certain.
 fn burn_below<S: StateStore>(book: &mut Book<S>, end: u64) -> Result<(), Fault>
     requires fresh { book.old.history ≡ [] }
     requires more { book.old.base ≤ end }
@@ -187,8 +194,10 @@ fn burn_below<S: StateStore>(book: &mut Book<S>, end: u64) -> Result<(), Fault>
     Ok(())
 }
 
-/// Burns the next indices of a book, below this one. `OutOfMemory` where memory for their entry is
-/// refused, `WriteStateBurnt` where their image was not stored for certain.
+/// Burns the next indices of a book below `end`, one at least and at most 1024, by one write: they are
+/// a lease that is given back unsigned, so the book's number of burnt indices, of those whose write
+/// failed, stays. `OutOfMemory` where memory for their entry is refused, and nothing is written then;
+/// `WriteStateBurnt` where their image was not stored for certain.
 fn burn_piece<S: StateStore>(book: &mut Book<S>, end: u64) -> Result<(), Fault>
     requires some { counter book.old < end }
     requires within { end ≤ capacity book.old }

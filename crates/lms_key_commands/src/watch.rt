@@ -54,7 +54,7 @@ pub fn watch_state<W: World, O: Write>(
     watched
 }
 
-/// The same, once the lock is acquired.
+/// As `watch_state`, once the lock is acquired, where `counter` is the number of its text.
 fn watch_locked<W: World, O: Write>(
     alloc: Global,
     world: &mut W,
@@ -83,7 +83,8 @@ fn watch_locked<W: World, O: Write>(
     Ok(print_made(output, &line, &made)?)
 }
 
-/// `WitnessExists` where the state of a lock has a witness; else faults as `see_witness`.
+/// Sees that the state of a lock has no witness: `WitnessExists` where it has one, else faults as
+/// `see_witness`.
 pub(crate) fn see_none<W: World>(alloc: Global, world: &mut W, lock: &W::Lock) -> Result<(), Fault>
     ensures none { OnOk result (W.events world.new ≡ WitnessRead (Done None) ∷ W.events world.old) }
     ensures there { IfErr result (λ fault.
@@ -124,8 +125,8 @@ fn make<W: World>(
     }
 }
 
-/// The line of a witness that all indices below `counter` of the key of this identifier are used.
-/// `OutOfMemory` where memory for it was refused.
+/// The line of a witness that says that all indices below `counter` of the key of this identifier
+/// are used. `OutOfMemory` where memory for it was refused.
 fn line_of(alloc: Global, id: &[u8; 16], counter: u64) -> Result<Vec<u8>, Fault>
     ensures line { IfOk result (λ line. line.items ≡ witness_text id.now counter) }
     ensures refused { IfErr result (λ fault. fault ≡ FaultOfMemory) }
@@ -139,7 +140,7 @@ fn line_of(alloc: Global, id: &[u8; 16], counter: u64) -> Result<Vec<u8>, Fault>
     }
 }
 
-/// Prints the line of a witness, and one of where it is.
+/// Prints the line of a witness, and a line that says where it is.
 ///
 /// On a fault, a beginning of them was written.
 fn print_made<O: Write>(output: &mut O, line: &[u8], made: &str) -> Result<(), WriteFault>

@@ -74,20 +74,13 @@ long_number n fits =
     let d : n / 4294967296 % 256 ≡ 0 = omega (arith, fits) in
     λ i. a i ∷ b i ∷ c i ∷ d i ∷ to_be_bytes w32 n
 
--- the padding of a last block with 22 bytes, or with 54
-padding-22 : (n bits : ℕ) → n % 64 ≡ 22 → bits ≡ n * 8 → bits < 2 ^ 32 → padding n ≡ padding_after_22 bits
-padding-22 n bits is count fits =
-    let zeros : (119 - n % 64) % 64 ≡ 33 = omega (arith, is) in
+-- the padding, by its count of zeros
+padding-is : (n bits zeros : ℕ) → (119 - n % 64) % 64 ≡ zeros → bits ≡ n * 8 → bits < 2 ^ 32
+    → padding n ≡ 0x80 ∷ (replicate zeros 0 ++ 0 ∷ 0 ∷ 0 ∷ 0 ∷ to_be_bytes w32 bits)
+padding-is n bits zeros is count fits =
     let whole : n * 8 % 2 ^ 64 ≡ bits = omega (arith, count, fits) in
-    (λ i. 0x80 ∷ (replicate (zeros i) 0 ++ to_be_bytes w64 (whole i)))
-    ∙ ap (λ (u : List ℕ). 0x80 ∷ (replicate 33 0 ++ u)) (long_number bits fits)
-
-padding-54 : (n bits : ℕ) → n % 64 ≡ 54 → bits ≡ n * 8 → bits < 2 ^ 32 → padding n ≡ padding_after_54 bits
-padding-54 n bits is count fits =
-    let zeros : (119 - n % 64) % 64 ≡ 1 = omega (arith, is) in
-    let whole : n * 8 % 2 ^ 64 ≡ bits = omega (arith, count, fits) in
-    (λ i. 0x80 ∷ (replicate (zeros i) 0 ++ to_be_bytes w64 (whole i)))
-    ∙ ap (λ (u : List ℕ). 0x80 ∷ (replicate 1 0 ++ u)) (long_number bits fits)
+    (λ i. 0x80 ∷ (replicate (is i) 0 ++ to_be_bytes w64 (whole i)))
+    ∙ ap (λ (u : List ℕ). 0x80 ∷ (replicate zeros 0 ++ u)) (long_number bits fits)
 
 -- the digest, if the padding fits into the last block
 digest-end : (hash text pad last : List ℕ) (blocks : ℕ) → blocks * 64 ≤ length text
@@ -123,7 +116,7 @@ IsAbsorbed-end hash rest text last blocks bits so_far count fits made =
     let pad : length (padding_after_22 bits) ≡ 42 = refl in
     digest-end hash text (padding_after_22 bits) last blocks (omega (arith, so_far.long)) so_far.taken
     (omega (arith, length-append (drop (blocks * 64) text) (padding_after_22 bits), so_far.left.long, pad))
-    (padding-22 (length text) bits (omega (arith, so_far.long)) count fits) made
+    (padding-is (length text) bits 33 (omega (arith, so_far.long)) count fits) made
 
 -- or 22 and a value
 pub IsAbsorbed-end_with : (hash rest text a last : List ℕ) (blocks bits : ℕ)
@@ -142,14 +135,14 @@ IsAbsorbed-end_with hash rest text a last blocks bits so_far la count fits made 
     digest-end hash (text ++ a) (padding_after_54 bits) last blocks (omega (arith, all))
     (so_far.taken ∙ sym (hash_after-append initial_hash_256 text a blocks within))
     (rw cut full)
-    (padding-54 (length (text ++ a)) bits (omega (arith, all)) count fits)
+    (padding-is (length (text ++ a)) bits 1 (omega (arith, all)) count fits)
     (made ∙ ap (λ (x : List ℕ). compress hash (x ++ padding_after_54 bits)) (sym cut))
 
 -- one end more
-pub ends_text-more : (front : List ℕ) (mark first steps : ℕ) (start : List ℕ) (n : ℕ)
-    → ends_text front mark n first steps start ++ end_of front first steps start n
-    ≡ ends_text front mark (n + 1) first steps start
-ends_text-more front mark first steps start n =
+pub ends_text-more : (front : List ℕ) (mark first steps : ℕ) (start : List ℕ) (n : ℕ) (value end : List ℕ)
+    → value ≡ start → end ≡ end_of front first steps value n
+    → ends_text front mark n first steps start ++ end ≡ ends_text front mark (n + 1) first steps start
+ends_text-more front mark first steps start n value end from is =
     let f = end_of front first steps start in
     let before = front ++ to_be_bytes w16 mark in
     let so_far = concat (map f (range_with_len 0 n)) in
@@ -157,4 +150,5 @@ ends_text-more front mark first steps start n =
     = ap concat (map-range_with_len_more f 0 n n (zero-add n))
     ∙ (concat-append (map f (range_with_len 0 n)) (f n ∷ [])
     ∙ ap (λ (rest : List ℕ). so_far ++ rest) (append-nil (f n))) in
-    append_assoc before so_far (f n) ∙ ap (λ (t : List ℕ). before ++ t) (sym next)
+    let same : end ≡ f n = is ∙ ap (λ (v : List ℕ). end_of front first steps v n) from in
+    append_assoc before so_far end ∙ ap (λ (t : List ℕ). before ++ t) (ap (λ (t : List ℕ). so_far ++ t) same ∙ sym next)

@@ -1,28 +1,24 @@
 -- The words that a step of a chain hashes.
-use Rattle.std.proofs.Common.{◌≡◌, ℕ, ◌*◌, ◌/◌, ◌<◌, ◌^◌, List, [], ◌∷◌, ◌++◌, length, slice_index, sym, ap, ◌∙◌, arith}
+use Rattle.std.proofs.Common.{◌≡◌, ℕ, List, [], ◌∷◌, ◌++◌, length, slice_index, sym, ap, ◌∙◌}
 use Rattle.std.proofs.lemmas.Simd.{pick_l_whole}
 use Rattle.std.specs.Int.{from_be_bytes, to_be_bytes, w32}
-use Rattle.sha2.specs.Sha256.{add32, digest_bytes, first_words, word_at}
+use Rattle.sha2.specs.Sha256.{digest_bytes, first_words, word_at}
 use Rattle.lms_lanes.specs.Lanes.{four_at}
 use Rattle.lms_lanes.specs.Chains.{ended_word, joined_word, short_padding}
 
-pub words_of_step : (text : List ℕ) (byte x0 x1 x2 x3 x4 x5 x6 x7 : ℕ) → length text ≡ 22
-    → first_words ((text ++ byte ∷ digest_bytes (x0 ∷ x1 ∷ x2 ∷ x3 ∷ x4 ∷ x5 ∷ x6 ∷ x7 ∷ []) 8) ++ short_padding) 16
+pub words_of_step : (text value : List ℕ) (byte : ℕ) → length text ≡ 22
+    → first_words ((text ++ byte ∷ digest_bytes value 8) ++ short_padding) 16
     ≡ word_at text 0 ∷ word_at text 4 ∷ word_at text 8 ∷ word_at text 12 ∷ word_at text 16
-    ∷ from_be_bytes w32 (slice_index text 20 ∷ slice_index text 21 ∷ byte ∷ slice_index (to_be_bytes w32 x0) 0 ∷ [])
-    ∷ joined_word x0 x1 ∷ joined_word x1 x2 ∷ joined_word x2 x3 ∷ joined_word x3 x4 ∷ joined_word x4 x5
-    ∷ joined_word x5 x6 ∷ joined_word x6 x7 ∷ ended_word x7 ∷ 0 ∷ 440 ∷ []
+    ∷ from_be_bytes w32
+    (slice_index text 20 ∷ slice_index text 21 ∷ byte ∷ slice_index (to_be_bytes w32 (slice_index value 0)) 0 ∷ [])
+    ∷ joined_word (slice_index value 0) (slice_index value 1) ∷ joined_word (slice_index value 1) (slice_index value 2)
+    ∷ joined_word (slice_index value 2) (slice_index value 3) ∷ joined_word (slice_index value 3) (slice_index value 4)
+    ∷ joined_word (slice_index value 4) (slice_index value 5) ∷ joined_word (slice_index value 5) (slice_index value 6)
+    ∷ joined_word (slice_index value 6) (slice_index value 7) ∷ ended_word (slice_index value 7) ∷ 0 ∷ 440 ∷ []
 unfolding first_words digest_bytes
-words_of_step text byte x0 x1 x2 x3 x4 x5 x6 x7 long =
-    ap (λ (u : List ℕ).
-    first_words ((u ++ byte ∷ digest_bytes (x0 ∷ x1 ∷ x2 ∷ x3 ∷ x4 ∷ x5 ∷ x6 ∷ x7 ∷ []) 8) ++ short_padding) 16)
+words_of_step text value byte long =
+    ap (λ (u : List ℕ). first_words ((u ++ byte ∷ digest_bytes value 8) ++ short_padding) 16)
     (sym (pick_l_whole 0 text 22 long))
-
--- two bytes, a byte and the first of a word, put together by sums
-pub opened_word : (a b byte x : ℕ) → from_be_bytes w32 (a ∷ b ∷ 0 ∷ 0 ∷ []) < 2 ^ 32 → byte < 256 → x < 2 ^ 32
-    → add32 (add32 (from_be_bytes w32 (a ∷ b ∷ 0 ∷ 0 ∷ [])) (byte * 256)) (x / 2 ^ 24)
-    ≡ from_be_bytes w32 (a ∷ b ∷ byte ∷ slice_index (to_be_bytes w32 x) 0 ∷ [])
-opened_word a b byte x head small fits = omega (arith, head, small, fits)
 
 -- a value, from its words
 pub digest_of_words : (value words : List ℕ)

@@ -54,15 +54,37 @@ pub word_of_lane : (count : ℕ) (vs : List (List ℕ)) (k i : ℕ) → length v
     → slice_index (lane_of vs k) i ≡ slice_index (get_or vs i []) k
 word_of_lane count vs k i long lt = get_or-map (λ v. slice_index v k) vs i [] 0 (omega arith)
 
+-- a word of a lane, by its place
+abbrev pub word_in : List (List ℕ) → ℕ → ℕ → ℕ
+word_in vs k i = slice_index (get_or vs i []) k
+
+-- eight words, by their places
+abbrev pub eight : (ℕ → ℕ) → List ℕ
+eight word = word 0 ∷ word 1 ∷ word 2 ∷ word 3 ∷ word 4 ∷ word 5 ∷ word 6 ∷ word 7 ∷ []
+
 -- a lane of eight vectors
-pub lane_of_eight : (vs : List (List ℕ)) (k : ℕ) → length vs ≡ 8 → lane_of vs k ≡
-    slice_index (get_or vs 0 []) k ∷ slice_index (get_or vs 1 []) k ∷ slice_index (get_or vs 2 []) k
-    ∷ slice_index (get_or vs 3 []) k
-    ∷ slice_index (get_or vs 4 []) k ∷ slice_index (get_or vs 5 []) k ∷ slice_index (get_or vs 6 []) k
-    ∷ slice_index (get_or vs 7 []) k ∷ []
+pub lane_of_eight : (vs : List (List ℕ)) (k : ℕ) → length vs ≡ 8 → lane_of vs k ≡ eight (word_in vs k)
 lane_of_eight vs k long = ap (λ (u : List (List ℕ)). lane_of u k) (sym (pick_l_whole [] vs 8 long))
 
 -- a lane of some vectors with another at a place
 pub lane_of_set : (vs : List (List ℕ)) (k i : ℕ) (v : List ℕ)
     → lane_of (set vs i v) k ≡ set (lane_of vs k) i (slice_index v k)
 lane_of_set vs k i v = map-set (λ u. slice_index u k) vs i v
+
+-- lane k of these vectors is words k
+pub record AreLanes (vs : List (List ℕ)) (words : ℕ → List ℕ) : Type 0 where
+  pub wide : Each1 (λ v. length v ≡ 8) vs
+  pub lane : (k : ℕ) → k < 8 → lane_of vs k ≡ words k
+
+-- the end of a row of vectors
+pub no_more : AreLanes [] (λ _. [])
+no_more = record { wide = tt; lane = λ k lt. refl }
+
+-- a vector before others
+infixr 60 ◌beside◌
+pub ◌beside◌ : {v : List ℕ} {f : ℕ → ℕ} {vs : List (List ℕ)} {words : ℕ → List ℕ}
+    → EachLane v f → AreLanes vs words → AreLanes (v ∷ vs) (λ k. f k ∷ words k)
+◌beside◌ x rest = record {
+  wide = (x.wide, rest.wide);
+  lane = λ k lt i. x.lane k lt i ∷ rest.lane k lt i;
+}

@@ -4,22 +4,23 @@ use Rattle.std.specs.Prelude.{ℕ, zero, suc, ◌≡◌, ◌+◌, ◌%◌, List,
 use Rattle.std.specs.Int.{from_be_bytes, to_be_bytes, w32}
 use Rattle.sha2.specs.Sha256.{sha256, word_at}
 
--- a chain's value after these steps: each hashes the head, a byte and the value before, and each
--- byte is one more than the one before it, with 0 after 255
+-- a chain's value after these steps: each hashes the head, a byte and the value before; the first
+-- byte is the last eight bits of `first`, and each further one is one more, with 0 after 255
 abbrev pub walked : List ℕ → ℕ → ℕ → List ℕ → List ℕ
 walked head first zero value = value
 walked head first (suc steps) value =
     sha256 (head ++ (first + steps) % 256 ∷ walked head first steps value)
 
--- the padding of 55 bytes (FIPS 180-4, 5.1.1): a bit 1, no zeros, and the count of the bits
+-- the padding after 55 bytes (FIPS 180-4, 5.1.1): a bit 1, seven bits 0, and the number of bits,
+-- 440, as eight bytes
 abbrev pub short_padding : List ℕ
 short_padding = 0x80 ∷ 0 ∷ 0 ∷ 0 ∷ 0 ∷ 0 ∷ 0 ∷ 1 ∷ 0xB8 ∷ []
 
--- the last word of a head, with two free bytes
+-- the word of the last two bytes of a head and two bytes 0
 abbrev pub half_word : List ℕ → ℕ
 half_word text = from_be_bytes w32 (slice_index text 20 ∷ slice_index text 21 ∷ 0 ∷ 0 ∷ [])
 
--- these six words are this head, with two free bytes in the last
+-- these six words are this head of 22 bytes, with two bytes 0 at the end of the last
 pub record HasHead (words text : List ℕ) : Type 0 where
   pub long : length text ≡ 22
   pub same : words

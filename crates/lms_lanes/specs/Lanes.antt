@@ -7,7 +7,7 @@ pub record EachLane (v : List ℕ) (f : ℕ → ℕ) : Type 0 where
   pub wide : length v ≡ 8
   pub lane : (k : ℕ) → k < 8 → slice_index v k ≡ f k
 
--- so many vectors
+-- so many vectors, each of eight lanes
 pub record AreVectors (count : ℕ) (vs : List (List ℕ)) : Type 0 where
   pub long : length vs ≡ count
   pub wide : Each1 (λ v. length v ≡ 8) vs

@@ -7,13 +7,14 @@ ghost use Rattle.lms_lanes.specs.Chains.{HasHead, ended_word, joined_word, short
 
 use std::simd::prelude::*;
 
-/// The bits that are hashed, 55 bytes: the last word of the padding (FIPS 180-4, 5.1.1).
+/// How many bits are hashed, those of 55 bytes: the last word of the padding (FIPS 180-4, 5.1.1).
 const TEXT_BITS: u32 = 440;
 
 /// The first byte of the padding: a bit 1 (5.1.1).
 const PADDING_START: u32 = 0x80;
 
-/// The words of the blocks of step `i`, whose byte is i more than `first`.
+/// The 16 words of the block that step `i` hashes, in each lane: the head, a byte, the value and
+/// the padding. The byte is the last eight bits of `first` plus i.
 #[inline(always)]
 pub(crate) fn block_at(head: &[u32x8; 6], first: u32x8, i: u16, value: &[u32x8; 8]) -> [u32x8; 16]
     requires head { AreVectors 6 head.now }
@@ -55,7 +56,8 @@ fn byte_at(first: u32x8, i: u16) -> u32x8
     (first + u32x8::splat(u32::from(i))) << 24 >> 16
 }
 
-/// Two bytes, a byte and the first of a word.
+/// The word of the last two bytes of a head, a step's byte and the first byte of `x`, in each lane:
+/// the sum of the three, each of which is at its place among zeros.
 #[inline(always)]
 fn opened(head: u32x8, byte: u32x8, x: u32x8) -> u32x8
     ensures words { EachLane result (λ k.

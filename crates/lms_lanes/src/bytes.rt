@@ -9,7 +9,7 @@ ghost use Rattle.lms_lanes.specs.Ends.{HasFront};
 use crate::lengths::{DIGEST_LEN, FRONT_LEN, HEAD_LEN, LANES};
 use std::simd::prelude::*;
 
-/// The words of the heads. The last two bytes of the last word are free.
+/// The six words of each head, in its lane. The last two bytes of the last word are 0.
 #[inline(always)]
 pub(crate) fn head_words(heads: &[[u8; HEAD_LEN]; LANES]) -> [u32x8; 6]
     ensures vectors { AreVectors 6 result }
@@ -25,7 +25,7 @@ pub(crate) fn head_words(heads: &[[u8; HEAD_LEN]; LANES]) -> [u32x8; 6]
     ]
 }
 
-/// The words of the fronts.
+/// The five words of each front, in its lane.
 #[inline(always)]
 pub(crate) fn front_words(fronts: &[[u8; FRONT_LEN]; LANES]) -> [u32x8; 5]
     ensures vectors { AreVectors 5 result }
@@ -40,7 +40,7 @@ pub(crate) fn front_words(fronts: &[[u8; FRONT_LEN]; LANES]) -> [u32x8; 5]
     ]
 }
 
-/// The words of the values.
+/// The eight words of each value, in its lane.
 #[inline(always)]
 pub(crate) fn value_words(values: &[[u8; DIGEST_LEN]; LANES]) -> [u32x8; 8]
     ensures vectors { AreVectors 8 result }
@@ -59,7 +59,7 @@ pub(crate) fn value_words(values: &[[u8; DIGEST_LEN]; LANES]) -> [u32x8; 8]
     ]
 }
 
-/// The words at a place of each byte string.
+/// The word of the four bytes from place `at` on of each byte string, in its lane.
 #[inline(always)]
 fn words_at<const M: usize>(texts: &[[u8; M]; LANES], at: usize) -> u32x8
     requires { at + 4 ≤ M }
@@ -76,7 +76,7 @@ fn words_at<const M: usize>(texts: &[[u8; M]; LANES], at: usize) -> u32x8
     u32x8::from_array(words)
 }
 
-/// The word at a place of a byte string.
+/// The word of the four bytes from place `at` on of a byte string, the most significant first.
 #[inline(always)]
 fn word_of<const M: usize>(text: &[u8; M], at: usize) -> u32
     requires { at + 4 ≤ M }
@@ -96,7 +96,7 @@ fn word_from(a: u8, b: u8, c: u8, d: u8) -> u32
     u32::from_be_bytes([a, b, c, d])
 }
 
-/// The words of the last two bytes of the heads.
+/// The word of the last two bytes of each head and two bytes 0, in its lane.
 #[inline(always)]
 fn half_words(heads: &[[u8; HEAD_LEN]; LANES]) -> u32x8
     ensures { EachLane result (λ k. half_word (slice_index_or heads.now k [])) }
@@ -108,7 +108,7 @@ fn half_words(heads: &[[u8; HEAD_LEN]; LANES]) -> u32x8
     u32x8::from_array(words)
 }
 
-/// The word of the last two bytes of a head, and two free bytes.
+/// The word of the last two bytes of a head and two bytes 0.
 #[inline(always)]
 fn half_word_of(head: &[u8; HEAD_LEN]) -> u32
     ensures { result ≡ half_word head.now }

@@ -36,7 +36,8 @@ pub fn hash_chains(
     digests_of(&end)
 }
 
-/// Takes each lane from its value by its own number of steps, none above `most`.
+/// Takes each lane from its value in `start` by its own number of steps, none above `most`, as
+/// `hash_chains` does.
 pub(crate) fn walk(
     head: &[u32x8; 6],
     first: u32x8,
@@ -76,7 +77,8 @@ fn most(numbers: &[u16; LANES]) -> u16
     most
 }
 
-/// Step `i` in each lane.
+/// The value after step `i`, in each lane: the hash of the head, a byte and the value before. The
+/// byte is the last eight bits of `first` plus i.
 #[inline(always)]
 fn step(head: &[u32x8; 6], first: u32x8, i: u16, value: &[u32x8; 8]) -> [u32x8; 8]
     requires head { AreVectors 6 head.now }

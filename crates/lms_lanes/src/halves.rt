@@ -48,7 +48,8 @@ pub(crate) fn pair_block(rest: &[u32x8; 6], value: &[u32x8; 8], next: &[u32x8; 8
     block_with(rest, value, next[0], before_last, last)
 }
 
-/// The words of a value after its first ten bytes.
+/// The last 22 bytes of a value, after its first ten, as six words. The last two bytes of the last
+/// word are 0.
 #[inline(always)]
 pub(crate) fn rest_of(value: &[u32x8; 8]) -> [u32x8; 6]
     requires { AreVectors 8 value.now }
@@ -66,7 +67,7 @@ pub(crate) fn rest_of(value: &[u32x8; 8]) -> [u32x8; 6]
     ]
 }
 
-/// The last block, after `bits` bits in all: 22 bytes, a value and the padding.
+/// The last block of a text of `bits` bits in all: 22 bytes, a value and the padding.
 #[inline(always)]
 pub(crate) fn last_block_with(rest: &[u32x8; 6], value: &[u32x8; 8], bits: u32) -> [u32x8; 16]
     requires rest { AreVectors 6 rest.now }
@@ -85,7 +86,7 @@ pub(crate) fn last_block_with(rest: &[u32x8; 6], value: &[u32x8; 8], bits: u32) 
     )
 }
 
-/// The last block, after `bits` bits in all: 22 bytes and the padding.
+/// The last block of a text of `bits` bits in all: 22 bytes and the padding.
 #[inline(always)]
 pub(crate) fn last_block(rest: &[u32x8; 6], bits: u32) -> [u32x8; 16]
     requires rest { AreVectors 6 rest.now }
@@ -150,7 +151,8 @@ fn block_with(
     ]
 }
 
-/// Two bytes, and the first two of a word.
+/// The word of the last two bytes of a head and the first two of `x`, in each lane: the sum of
+/// both, each of which is at its place among zeros.
 #[inline(always)]
 fn half_opened(head: u32x8, x: u32x8) -> u32x8
     ensures words { EachLane result (λ k. add32 (slice_index head k) (slice_index x k / 2 ^ 16)) }

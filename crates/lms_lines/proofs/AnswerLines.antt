@@ -1,7 +1,7 @@
 -- Digits and lines of signatures, one after another.
 use Rattle.std.specs.Prelude.{slice_index}
 use Rattle.std.proofs.Common.{◌≡◌, ℕ, ◌/◌, ◌%◌, List, [], ◌∷◌, ◌++◌, Option, None, Some, refl, ap}
-use Rattle.std.proofs.Common.{drop, ◌+◌, ◌<◌, length, map, get_or, arith, add-one, drop-cons}
+use Rattle.std.proofs.Common.{drop, ◌+◌, ◌<◌, length, get_or, arith, add-one, drop-cons}
 use Rattle.std.specs.Io.KnownBytes.{Appends}
 use Rattle.hex.specs.Hex.{encode_with}
 use Rattle.hex.specs.Hex.{encode_lower}
@@ -18,20 +18,19 @@ pub Appends-no_hex : (a : Option (List ℕ)) → Appends a a (encode_lower [])
 unfolding encode_with
 Appends-no_hex a = Appends-none a
 
--- the lines from a place on: that of the place, and the lines from the next place on
-pub answers-some : {A : Type 0} (f : A → Option (List ℕ)) (start k : ℕ) (items : List A) (x : A) (s : List ℕ)
-    → k < length items → x ≡ get_or items k x → f x ≡ Some s
-    → answers (start + k) (map f (drop k items))
-    ≡ answer_line (start + k) s ++ answers (start + (k + 1)) (map f (drop (k + 1) items))
-answers-some f start k items x s below at is =
-    let split : drop k items ≡ x ∷ drop (k + 1) items = rw (add-one, drop-cons items k x, ← at) refl in
+-- the lines from a slot on: that of the slot, where it is filled, and the lines from the next slot on
+pub answers-some : (start k : ℕ) (slots : List (Option (List ℕ))) (signature : List ℕ) → k < length slots
+    → get_or slots k None ≡ Some signature
+    → answers (start + k) (drop k slots)
+    ≡ answer_line (start + k) signature ++ answers (start + (k + 1)) (drop (k + 1) slots)
+answers-some start k slots signature below is =
+    let split : drop k slots ≡ Some signature ∷ drop (k + 1) slots = rw (add-one, drop-cons slots k None, is) refl in
     let next : (start + k) + 1 ≡ start + (k + 1) = omega arith in
-    rw (split, is) (ap (λ (n : ℕ). answer_line (start + k) s ++ answers n (map f (drop (k + 1) items))) next)
+    rw split (ap (λ (n : ℕ). answer_line (start + k) signature ++ answers n (drop (k + 1) slots)) next)
 
-pub answers-none : {A : Type 0} (f : A → Option (List ℕ)) (start k : ℕ) (items : List A) (x : A) → k < length items
-    → x ≡ get_or items k x → f x ≡ None
-    → answers (start + k) (map f (drop k items)) ≡ answers (start + (k + 1)) (map f (drop (k + 1) items))
-answers-none f start k items x below at is =
-    let split : drop k items ≡ x ∷ drop (k + 1) items = rw (add-one, drop-cons items k x, ← at) refl in
+pub answers-none : (start k : ℕ) (slots : List (Option (List ℕ))) → k < length slots → get_or slots k None ≡ None
+    → answers (start + k) (drop k slots) ≡ answers (start + (k + 1)) (drop (k + 1) slots)
+answers-none start k slots below is =
+    let split : drop k slots ≡ None ∷ drop (k + 1) slots = rw (add-one, drop-cons slots k None, is) refl in
     let next : (start + k) + 1 ≡ start + (k + 1) = omega arith in
-    rw (split, is) (ap (λ (n : ℕ). answers n (map f (drop (k + 1) items))) next)
+    rw split (ap (λ (n : ℕ). answers n (drop (k + 1) slots)) next)

@@ -1,10 +1,10 @@
 use Rattle.std.proofs.Common.{◌≡◌, ◌<◌, ◌≤◌, ◌+◌, inl, inr, ℕ, suc, add-one, List, [], ◌∷◌, ◌++◌, length, take, drop}
 use Rattle.std.proofs.Common.{get_or, Bool, true, false, length-append, Result, Ok, Err, IfErr, IsErrAnd, Option, None}
-use Rattle.std.proofs.Common.{Some, IfSome, refl, sym, ap, ◌∙◌, subst, append_assoc, append-nil, drop-cons, arith}
+use Rattle.std.proofs.Common.{Some, IfSome, refl, sym, ap, ◌∙◌, subst, append_assoc, drop-cons, arith}
 use Rattle.std.proofs.lemmas.Bool.{true≢false, cases_lt}
 use Rattle.std.proofs.lemmas.List.{take-append-drop}
 use Rattle.std.proofs.Math.Seq.{take-suc, take-append_seam}
-use Rattle.std.specs.Io.KnownBytes.{Consumes, IsAtEnd, Keeps}
+use Rattle.std.specs.Io.KnownBytes.{Consumes}
 use Rattle.lms_batch.specs.Jobs.{most_jobs, JobText}
 use Rattle.lms_lines.specs.JobLines.{longest_line, IsJobLine}
 use Rattle.lms_lines.specs.JobsTexts.{IsFaultOf}
@@ -97,9 +97,6 @@ pub advances-both : (a b c : Gathered) (xs ys : List ℕ) → Advances a b xs �
 advances-both a b c xs ys p q =
     λ done was. subst (λ (l : List ℕ). IsGatheredFrom l c) (append_assoc done xs ys) (q (done ++ xs) (p done was))
 
-pub advances-none : (a : Gathered) → Advances a a []
-advances-none a = λ done was. subst (λ (l : List ℕ). IsGatheredFrom l a) (sym (append-nil done)) was
-
 pub fails-after : (a b : Gathered) (xs ys : List ℕ) (fault : JobsFault) → Advances a b xs → Fails b ys fault
     → Fails a (xs ++ ys) fault
 fails-after a b xs ys fault p q = λ done rest was.
@@ -119,35 +116,9 @@ known-fault None new done fault read bad = tt
 known-fault (Some xs) None done fault read bad = absurd read
 known-fault (Some xs) (Some ys) done fault read bad = subst (λ (l : List ℕ). IsFaultOf l fault) (sym read) (bad ys)
 
--- where the text is known and all of it was read
-pub known-end : (old new : Option (List ℕ)) (done : List ℕ) (fault : JobsFault) → Consumes old new done → IsAtEnd new
-    → IsFaultOf done fault → IfSome old (λ text. IsFaultOf text fault)
-known-end None new done fault read end bad = tt
-known-end (Some xs) None done fault read end bad = absurd read
-known-end (Some xs) (Some ys) done fault read end bad =
-    subst (λ (l : List ℕ). IsFaultOf l fault) (sym (read ∙ ap (λ l. done ++ l) end ∙ append-nil done)) bad
-
--- what of a fault is never said
-pub known-any : (old : Option (List ℕ)) (fault : JobsFault) → ((text : List ℕ) → IsFaultOf text fault)
-    → IfSome old (λ text. IsFaultOf text fault)
-known-any None fault any = tt
-known-any (Some xs) fault any = any xs
-
 pub consumes-none : (a : Option (List ℕ)) → Consumes a a []
 consumes-none None = tt
 consumes-none (Some xs) = refl
-
-pub consumes-kept : (a b c : Option (List ℕ)) (xs : List ℕ) → Keeps a b → Consumes b c xs → Consumes a c xs
-consumes-kept None b c xs p q = tt
-consumes-kept (Some x) None c xs p q = absurd p
-consumes-kept (Some x) (Some y) None xs p q = absurd q
-consumes-kept (Some x) (Some y) (Some z) xs p q = sym p ∙ q
-
-pub keeps-both : (a b c : Option (List ℕ)) → Keeps a b → Keeps b c → Keeps a c
-keeps-both None b c p q = tt
-keeps-both (Some x) None c p q = absurd p
-keeps-both (Some x) (Some y) None p q = absurd q
-keeps-both (Some x) (Some y) (Some z) p q = q ∙ p
 
 -- what a whole buffer holds after it was lent
 pub whole-buffer : (len : ℕ) (new old : List ℕ) → length new ≡ len → take len (new ++ drop (length new) old) ≡ new

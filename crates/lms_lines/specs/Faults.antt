@@ -7,7 +7,7 @@ use Rattle.lms_batch.specs.declared.fault.BatchFault.TheVariants as batch
 use Rattle.lms_lines.specs.declared.fault.JobsFault.{JobsFault}
 use Rattle.lms_lines.specs.declared.fault.JobsFault.TheVariants.{Read, BadJob, TooManyJobs, OutOfMemory}
 
--- the text of an input that gave no jobs
+-- what is printed of an input that gave no jobs
 abbrev pub jobs_fault_text : JobsFault → List ℕ
 jobs_fault_text Read = codes "cannot read input"
 jobs_fault_text (BadJob line) = codes "line " ++ (decimal line ++ codes ": bad job")

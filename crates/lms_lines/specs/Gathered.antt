@@ -44,7 +44,7 @@ pub record IsGatheredFrom (done : List ℕ) (g : Gathered) : Type 0 where
   pub full : length g.jobs ≡ most_jobs → g.line ≡ []
   pub size : length done ≤ length g.jobs * (longest_line + 1) + length g.line
 
--- after these bytes more
+-- where the bytes so far came to `old`, they come to `new` with these bytes after them
 abbrev pub Advances : Gathered → Gathered → List ℕ → Type 0
 Advances old new bytes =
     (done : List ℕ) → IsGatheredFrom done old → IsGatheredFrom (done ++ bytes) new

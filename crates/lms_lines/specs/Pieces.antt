@@ -18,7 +18,7 @@ abbrev pub EndsPiece : Bool → List ℕ → List ℕ → Option (List ℕ) → 
 EndsPiece true text left input = HasNoEnd text × (left ≡ []) × IsAtEnd input
 EndsPiece false text left input = EndsLine text
 
--- of what was held and what is read a piece is cut, of so many lines; the rest is held
+-- of what was held and what is read a piece is cut, of at most so many lines; the rest is held
 pub record CutsPiece (held : List ℕ) (old new : Option (List ℕ)) (most : ℕ) (piece : Piece)
     (left : List ℕ) : Type 0 where
   pub read : List ℕ

@@ -24,8 +24,8 @@ abbrev pub signatures_in : Batch → ℕ
 signatures_in (Complete start signatures) = length signatures.items
 signatures_in (Partial start slots) = count_by is_some slots.items
 
--- the batch has the signatures by the key of a shared book of the jobs that the reader had, and the
--- desk counts it
+-- the batch has signatures of the jobs that the reader had, by the key of a shared book; the desk
+-- counts it, and its indices were reserved
 pub record IsBatchRead (shared : SharedState) (old_input new_input : Option (List ℕ))
     (before after : Sums) (batch : Batch) : Type 0 where
   pub jobs : List JobText
@@ -52,8 +52,8 @@ IsSigned shared old_input new_input before after signed =
     (is : IsBatchRead shared old_input new_input before after signed.batch)
     × (signed.asked ≡ length is.jobs)
 
--- why they were not: the input has a fault, and nothing is reserved; or there is no batch, which is
--- not for too many jobs
+-- why the jobs were not signed: the input has a fault, and nothing is reserved; or there is no
+-- batch, which is not for too many jobs
 abbrev pub IsUnsigned : SharedState → Option (List ℕ) → Option (List ℕ) → Sums → Sums → LinesFault
     → Type 0
 IsUnsigned shared old_input new_input before after (lines.Jobs fault) =
@@ -62,7 +62,7 @@ IsUnsigned shared old_input new_input before after (lines.Batch fault) =
     IsBatchRefused shared old_input new_input before after fault
 IsUnsigned shared old_input new_input before after lines.Write = ⊥
 
--- such a batch was written: so many lines, for so many jobs
+-- the jobs were signed, and the lines of their batch written: so many lines, for so many jobs
 abbrev pub IsDone : SharedState → Option (List ℕ) → Option (List ℕ) → Option (List ℕ)
     → Option (List ℕ) → Sums → Sums → Done → Type 0
 IsDone shared old_input new_input old_output new_output before after done =
@@ -70,7 +70,8 @@ IsDone shared old_input new_input old_output new_output before after done =
     × Appends old_output new_output (answer_text jobs.batch)
     × (done.signed ≡ signatures_in jobs.batch) × (done.asked ≡ jobs.asked)
 
--- why it was not: the jobs were not signed; or the lines of the batch were not all written
+-- why not all lines were written: the jobs were not signed; or they were, and a beginning of the
+-- lines of their batch was written
 abbrev pub IsLinesFault : SharedState → Option (List ℕ) → Option (List ℕ) → Option (List ℕ)
     → Option (List ℕ) → Sums → Sums → LinesFault → Type 0
 IsLinesFault shared old_input new_input old_output new_output before after (lines.Jobs fault) =

@@ -30,7 +30,8 @@ impl Gathering {
         }
     }
 
-    /// Takes the next bytes of the input.
+    /// Takes the next bytes of the input. `BadJob` or `TooManyJobs` is the fault of the input
+    /// whatever follows these bytes; `OutOfMemory` where memory is refused.
     pub(crate) fn take_block(&mut self, alloc: Global, block: &[u8]) -> Result<(), JobsFault>
         ensures ok { OnOk result (Advances (gathered self.old) (gathered self.new) block.now) }
         ensures fault { IfErr result (Fails (gathered self.old) block.now) }
@@ -43,7 +44,8 @@ impl Gathering {
         Ok(())
     }
 
-    /// Takes what the bytes have of one line, and answers how many bytes that were.
+    /// Takes the bytes up to the first LF, or all where there is none, and answers how many these
+    /// are, with LF. Its faults are those of `take_block`.
     fn take_line(&mut self, alloc: Global, bytes: &[u8]) -> Result<usize, JobsFault>
         requires { 0 < length bytes.now }
         ensures some { IfOk result (λ n. (0 < n) × (n ≤ length bytes.now)) }
@@ -73,7 +75,8 @@ impl Gathering {
         self.jobs.len() >= MOST_JOBS
     }
 
-    /// Adds bytes to the line.
+    /// Adds bytes to the line. `BadJob` where it would be longer than any job line, `OutOfMemory`
+    /// where memory is refused.
     fn add(&mut self, part: &[u8]) -> Result<(), JobsFault>
         ensures ok { OnOk result (gathered self.new ≡ after_part (gathered self.old) part.now) }
         ensures jobs { OnOk result (self.new.jobs ≡ self.old.jobs) }
@@ -89,7 +92,8 @@ impl Gathering {
         Ok(())
     }
 
-    /// Ends the line with these bytes.
+    /// Ends the line with these bytes, and adds its job. `BadJob` where it is no job line,
+    /// `OutOfMemory` where memory is refused.
     fn end_line(&mut self, alloc: Global, end: &[u8]) -> Result<(), JobsFault>
         ensures ok { OnOk result
             ((job : JobText) × IsJobLine (self.old.line.items ++ end.now) job
@@ -104,8 +108,8 @@ impl Gathering {
         Ok(())
     }
 
-    /// The job of the line that ends with these bytes. Where they are the whole line, they are
-    /// judged in place, without a copy.
+    /// The job of the line that ends with these bytes, with the faults of `end_line`. Where they
+    /// are the whole line, they are judged in place, without a copy.
     fn ended(&mut self, alloc: Global, end: &[u8]) -> Result<Job, JobsFault>
         ensures ok { IfOk result (λ job. IsJobLine (self.old.line.items ++ end.now) (text_of job)) }
         ensures jobs { OnOk result (self.new.jobs ≡ self.old.jobs) }
@@ -120,7 +124,8 @@ impl Gathering {
         self.judged(alloc, self.line.as_slice())
     }
 
-    /// The job of this line, which comes next.
+    /// The job of this line, which is the one after those of the jobs so far, with the faults of
+    /// `end_line`.
     fn judged(&self, alloc: Global, line: &[u8]) -> Result<Job, JobsFault>
         ensures ok { IfOk result (λ job. IsJobLine line.now (text_of job)) }
         ensures fault { IfErr result (λ e.
@@ -133,7 +138,7 @@ impl Gathering {
         }
     }
 
-    /// The fault that the line is no job line.
+    /// The fault that the line after those of the jobs so far is no job line.
     fn bad_line(&self) -> JobsFault
         ensures { result ≡ BadJob (length (gathered self.now).jobs + 1) }
     {
@@ -142,7 +147,8 @@ impl Gathering {
         }
     }
 
-    /// The jobs, where the input has ended.
+    /// The jobs of the input, which has ended. `BadJob` where its last line lacks LF and is no job
+    /// line, `OutOfMemory` where memory is refused.
     pub(crate) fn finish(mut self, alloc: Global) -> Result<Vec<Job>, JobsFault>
         ensures ok { IfOk result (λ jobs.
             (done : List ℕ) → IsGatheredFrom done (gathered self)
@@ -160,7 +166,7 @@ impl Gathering {
     }
 }
 
-/// Where the first LF is.
+/// Where the first LF is, counted from 0. `None` where there is none.
 pub(crate) fn line_end(bytes: &[u8]) -> Option<usize>
     ensures { MatchOption result (HasNoEnd bytes.now) (λ at.
         (at < length bytes.now) × HasNoEnd (take at bytes.now) × (slice_index bytes.now at ≡ 10)) }

@@ -24,7 +24,8 @@ pub(crate) enum LineFault {
     OutOfMemory,
 }
 
-/// The job of a line without its LF.
+/// The job of a line without its LF. `BadJob` only where it is no job line, `OutOfMemory` where
+/// memory for the message is refused.
 pub(crate) fn parse_job(alloc: Global, line: &[u8]) -> Result<Job, LineFault>
     ensures ok { IfOk result (λ job. IsJobLine line.now (text_of job)) }
     ensures bad { result ≡ Err LineFault.BadJob → (job : JobText) → ¬ IsJobLine line.now job }

@@ -41,7 +41,7 @@ pub fn read_jobs<R: Read>(alloc: Global, reader: &mut R) -> Result<Vec<Job>, Job
     unreachable!()
 }
 
-/// The memory for a block.
+/// A block of `BLOCK` bytes. `OutOfMemory` where memory for it is refused.
 fn new_block(alloc: Global) -> Result<Vec<u8>, JobsFault>
     ensures some { IfOk result (λ block. 0 < vec_len block) }
     ensures fault { IfErr result (λ e. e ≡ OutOfMemory) }

@@ -14,8 +14,5 @@ pub use crate::answers::write_batch;
 pub use crate::fault::{JobsFault, LinesFault};
 pub use crate::jobs::read_jobs;
 pub use crate::pieces::{Piece, Pieces, end_of_lines};
-pub use crate::signing::{
-    Done, SignedJobs, count_signatures, read_and_sign, read_and_sign_by, sign_lines,
-    sign_lines_watched,
-};
+pub use crate::signing::{Done, SignedJobs, count_signatures, read_and_sign, sign_lines};
 pub use lms_blocks::WriteFault;

@@ -21,7 +21,7 @@ const BLOCK: usize = 65_536;
 /// Lines of an input.
 #[derive(Drop)]
 pub struct Piece {
-    /// Their bytes. Each ends with LF, which that of an input's last line may lack.
+    /// Their bytes. Each line ends with LF, which an input's last line may lack.
     pub text: Vec<u8>,
     /// How many lines these are.
     pub lines: usize,
@@ -48,7 +48,7 @@ impl Model for Pieces {
 }
 
 impl Pieces {
-    /// Nothing was read yet.
+    /// Pieces of an input, of which it holds nothing yet. `OutOfMemory` where memory is refused.
     pub fn new(alloc: Global) -> Result<Self, JobsFault>
         ensures none { IfOk result (λ pieces. pieces ≡ []) }
         ensures fault { IfErr result (λ fault. fault ≡ OutOfMemory) }
@@ -60,13 +60,13 @@ impl Pieces {
         })
     }
 
-    /// The lines of which the end was read, but at most so many, 1 at least. Only where there is
-    /// none is more read, by one read after another until there is one or the input has ended. At
-    /// its end this is what is left, one line without LF or none.
+    /// The lines whose ends were read already, 1 to `most` of them. Only where there is no such
+    /// line is more read, by one read after another, until there is one or the input has ended. At
+    /// its end this is what is left, one line without LF or nothing.
     ///
-    /// `BadJob` with line 1 where the next line is longer than any job line; it is not read to its
-    /// end. `Read` where the reader failed. `OutOfMemory` where memory is refused: what was read last
-    /// may be lost then.
+    /// `BadJob` with line 1 where more was read of the next line than any job line has, and not its
+    /// end. `Read` where the reader failed. `OutOfMemory` where memory is refused: what was read
+    /// last may be lost then.
     pub fn next<R: Read>(
         &mut self,
         alloc: Global,
@@ -95,7 +95,9 @@ impl Pieces {
         unreachable!()
     }
 
-    /// Reads once, and answers how many bytes that were.
+    /// Reads once, adds the bytes to those that it holds, and answers how many these were, 0 only
+    /// at the end of the input. `Read` where the reader failed, `OutOfMemory` where memory is
+    /// refused.
     fn read_more<R: Read>(&mut self, reader: &mut R) -> Result<usize, JobsFault>
         ensures read { IfOk result (λ count. (bytes : List ℕ)
             × Consumes (R.remaining reader.old) (R.remaining reader.new) bytes
@@ -110,7 +112,8 @@ impl Pieces {
         Ok(count)
     }
 
-    /// Hands out the first bytes, which are so many lines.
+    /// Hands out the first `end` bytes, which are so many lines, and holds the others.
+    /// `OutOfMemory` where memory is refused.
     fn cut(&mut self, alloc: Global, end: usize, lines: usize) -> Result<Piece, JobsFault>
         requires { end ≤ length self.old }
         ensures text { IfOk result (λ piece. piece.text.items ≡ take end self.old) }
@@ -154,8 +157,8 @@ impl Pieces {
     }
 }
 
-/// How many bytes the first lines have that end with LF, at most so many, and how many lines these
-/// are.
+/// Of the first lines that end with LF, at most `most`: how many bytes they have, and how many
+/// lines these are.
 pub fn end_of_lines(bytes: &[u8], most: usize) -> (usize, usize)
     ensures within { result.0 ≤ length bytes.now }
     ensures lines { result.1 ≡ length (lines_of (take result.0 bytes.now)) }

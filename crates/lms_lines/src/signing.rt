@@ -14,6 +14,7 @@ use std::alloc::Global;
 use std::io::{Read, Write};
 use std::marker::Sync;
 use std::sync::Wait;
+use std::sync::ledger::Ledger;
 use std::thread::Threads;
 
 /// What was done for job lines.
@@ -53,8 +54,8 @@ pub fn sign_lines<S, E, G, B, R, I, O>(
 where
     S: StateStore,
     E: BookLedger,
-    G: BookLedger,
-    B: BookLedger,
+    G: Ledger,
+    B: Ledger,
     R: Threads + Wait + Sync,
     I: Read,
     O: Write,
@@ -63,38 +64,8 @@ where
     ensures { SignsLines O.contents service.now (I.remaining reader.old) (I.remaining reader.new)
         writer.old writer.new desk.old desk.new result }
 {
-    sign_lines_watched(
-        rt, alloc, service, reader, writer, desk, workers, &Unwatched,
-    )
-}
-
-/// As `sign_lines`, and reports to `progress` how many leaves of the trees that the batch needs are
-/// computed.
-pub fn sign_lines_watched<S, E, G, B, R, I, O, P>(
-    rt: &R,
-    alloc: Global,
-    service: &SigningService<S, E, G, B>,
-    reader: &mut I,
-    writer: &mut O,
-    desk: &mut Desk<E, G, B>,
-    workers: usize,
-    progress: &P,
-) -> Result<Done, LinesFault>
-where
-    S: StateStore,
-    E: BookLedger,
-    G: BookLedger,
-    B: BookLedger,
-    R: Threads + Wait + Sync,
-    I: Read,
-    O: Write,
-    P: Progress,
-    requires some { 1 ≤ workers }
-    requires at_most { workers ≤ most_workers }
-    ensures { SignsLines O.contents service.now (I.remaining reader.old) (I.remaining reader.new)
-        writer.old writer.new desk.old desk.new result }
-{
-    let jobs = read_and_sign(rt, alloc, service, reader, desk, workers, progress)?;
+    let trees = &mut Trees::per_batch();
+    let jobs = read_and_sign(rt, alloc, service, reader, desk, workers, &Unwatched, trees)?;
     match write_batch(writer, &jobs.batch) {
         Ok(()) => Ok(Done {
             signed: count_signatures(&jobs.batch),
@@ -107,7 +78,8 @@ where
 /// Reads job lines to their end and signs them as one batch by 1 to `MOST_WORKERS` workers, and
 /// writes nothing: `write_batch` writes the lines of the answer's batch. Waits for the book's lock
 /// and for the workers. The batch has fewer signatures than `asked` where a worker was refused
-/// memory. `progress` gets how many leaves of the trees that it needs are computed.
+/// memory. It signs by these trees, which may be kept from one batch to the next, and on which the
+/// answer does not depend; `progress` gets how many of their leaves are computed.
 ///
 /// `Jobs` where the lines are not read, as `read_jobs` says, and then nothing was reserved; `Batch`
 /// as `SigningService::sign_batch` says, but for too many jobs, which `Jobs` reports. Never
@@ -120,44 +92,13 @@ pub fn read_and_sign<S, E, G, B, R, I, P>(
     desk: &mut Desk<E, G, B>,
     workers: usize,
     progress: &P,
-) -> Result<SignedJobs, LinesFault>
-where
-    S: StateStore,
-    E: BookLedger,
-    G: BookLedger,
-    B: BookLedger,
-    R: Threads + Wait + Sync,
-    I: Read,
-    P: Progress,
-    requires some { 1 ≤ workers }
-    requires at_most { workers ≤ most_workers }
-    ensures signed { IfOk result
-        (IsSigned service.now (I.remaining reader.old) (I.remaining reader.new) desk.old desk.new) }
-    ensures unsigned { IfErr result
-        (IsUnsigned service.now (I.remaining reader.old)
-        (I.remaining reader.new) desk.old desk.new) }
-{
-    let trees = &mut Trees::per_batch();
-    read_and_sign_by(rt, alloc, service, reader, desk, workers, progress, trees)
-}
-
-/// As `read_and_sign`, by trees that are kept from one batch to the next, on which the answer does
-/// not depend.
-pub fn read_and_sign_by<S, E, G, B, R, I, P>(
-    rt: &R,
-    alloc: Global,
-    service: &SigningService<S, E, G, B>,
-    reader: &mut I,
-    desk: &mut Desk<E, G, B>,
-    workers: usize,
-    progress: &P,
     trees: &mut Trees,
 ) -> Result<SignedJobs, LinesFault>
 where
     S: StateStore,
     E: BookLedger,
-    G: BookLedger,
-    B: BookLedger,
+    G: Ledger,
+    B: Ledger,
     R: Threads + Wait + Sync,
     I: Read,
     P: Progress,

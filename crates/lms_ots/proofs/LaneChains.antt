@@ -1,6 +1,7 @@
 -- Chains as they are walked in lanes.
 use Rattle.std.proofs.Common.{ℕ, zero, suc, ◌≡◌, ◌+◌, ◌-◌, ◌%◌, ◌<◌, ◌≤◌, ◌∙◌, List, [], ◌∷◌, ◌++◌, slice_index, refl}
 use Rattle.std.proofs.Common.{ap₂, arith, lit≤}
+use native.Mathlib.Numerals.{unary_clauses}
 use Rattle.sha2.specs.Sha256.{sha256}
 use Rattle.lms_lanes.specs.Chains.{walked}
 use Rattle.lms_spec.specs.Bytes.{u16str}
@@ -29,6 +30,18 @@ walked-secret id seed q i (suc n) most =
     let byte : (255 + suc n) % 256 ≡ 0 + n = omega (arith, most) in
     ap₂ (λ byte x. sha256 ((hash_prefix id q ++ u16str i) ++ byte ∷ x)) byte
     (walked-secret id seed q i n (omega (arith, most)))
+
+-- from where a chain is on, the byte being counted in 16 bits
+pub walked-on : (head value : List ℕ) (first before more : ℕ)
+    → walked head ((first + before) % 65536) more (walked head first before value)
+    ≡ walked head first (before + more) value
+walked-on head value first before zero = simp unary_clauses refl
+walked-on head value first before (suc more) =
+    let byte : ((first + before) % 65536 + more) % 256 ≡ (first + (before + more)) % 256 = omega arith in
+    let here : walked head ((first + before) % 65536) (suc more) (walked head first before value)
+    ≡ walked head first (suc (before + more)) value
+    = ap₂ (λ byte x. sha256 (head ++ byte ∷ x)) byte (walked-on head value first before more) in
+    simp unary_clauses here
 
 -- eight numbers in a row
 pub eight_in_row : (first k : ℕ) → k < 8
@@ -65,3 +78,9 @@ last_digit-byte W1 = lit≤ tt
 last_digit-byte W2 = lit≤ tt
 last_digit-byte W4 = lit≤ tt
 last_digit-byte W8 = lit≤ tt
+
+pub eight_chains : (t : OtsType) → 8 ≤ (ots_set_of t).p
+eight_chains W1 = lit≤ tt
+eight_chains W2 = lit≤ tt
+eight_chains W4 = lit≤ tt
+eight_chains W8 = lit≤ tt

@@ -1,11 +1,12 @@
--- Orders of chains, and values that are put into their places.
-use Rattle.std.proofs.Common.{ℕ, ◌≡◌, ◌+◌, ◌*◌, ◌-◌, ◌%◌, ◌<◌, ◌≤◌, Bool, true, false, eqb, ltb, min, List, [], ◌++◌}
-use Rattle.std.proofs.Common.{length, All, get_or, set, slice_index, refl, sym, ◌∙◌, ap, arith, subst}
+-- Orders of chains, and chains that are under way.
+use Rattle.std.proofs.Common.{ℕ, ◌≡◌, ◌+◌, ◌%◌, ◌<◌, ◌≤◌, Bool, true, false, eqb, ltb, List, [], ◌++◌}
+use Rattle.std.proofs.Common.{length, All, get_or, set, slice_index, refl, sym, ◌∙◌, ap, ap₂, arith, subst, inl, inr}
 use Rattle.std.specs.List.Sorted.{IsPermutation}
 use Rattle.std.proofs.lemmas.Bool.{eqb-true, eqb-false, ltb-true, ltb-false}
 use Rattle.std.proofs.lemmas.List.{get_or_append_left, get_or_default, get_or-set_same, get_or-set_other}
 use Rattle.std.proofs.lemmas.List.Sorted.{All-permutation, Contains-permutation, length_permutation}
 use Rattle.lms_ots.specs.Orders.{chain_in, IsOrder}
+use Rattle.lms_ots.specs.Walks.{IsTaken}
 
 -- what is sorted is an order where each number ends in its place's
 pub sorted-order : (keys sorted rest : List ℕ) (count : ℕ) → length keys ≡ count → count ≤ 65536
@@ -32,46 +33,72 @@ sorted-order keys sorted rest count long few ends moved =
           (m, at, ap (λ x. x % 65536) (front m at ∙ (get_or_default sorted m 0 key found.1 ∙ found.2)) ∙ ends i lt);
     }
 
--- values that are right stay right where a right one is put
-pub right-set : (xs : List (List ℕ)) (f : ℕ → List ℕ) (c : ℕ) (v : List ℕ) → c < length xs → v ≡ f c
-    → (i : ℕ) → get_or xs i [] ≡ f i → get_or (set xs c v) i [] ≡ f i
-right-set xs f c v lt right i held = by (eqb i c) refl
+-- numbers stay below where one below is put
+pub below-set : (xs : List ℕ) (most : ℕ → ℕ) (c x : ℕ) → c < length xs → x ≤ most c
+    → (i : ℕ) → slice_index xs i ≤ most i → slice_index (set xs c x) i ≤ most i
+below-set xs most c x lt right i held = by (eqb i c) refl
   where
-    by : (b : Bool) → eqb i c ≡ b → get_or (set xs c v) i [] ≡ f i
+    by : (b : Bool) → eqb i c ≡ b → slice_index (set xs c x) i ≤ most i
     by true e =
         let same : i ≡ c = eqb-true i c e in
-        ap (λ k. get_or (set xs c v) k []) same ∙ (get_or-set_same xs c v [] lt ∙ (right ∙ ap f (sym same)))
-    by false e = get_or-set_other xs c i v [] (eqb-false i c e) ∙ held
-
--- and so those of the first places of a list, with the next one
-pub right-next : (xs : List (List ℕ)) (f : ℕ → List ℕ) (chains : List ℕ) (n c : ℕ) (v : List ℕ)
-    → c < length xs → c ≡ slice_index chains n → v ≡ f c
-    → ((j : ℕ) → j < n → get_or xs (slice_index chains j) [] ≡ f (slice_index chains j))
-    → (j : ℕ) → j < n + 1 → get_or (set xs c v) (slice_index chains j) [] ≡ f (slice_index chains j)
-right-next xs f chains n c v lt at right so_far j below = by (ltb j n) refl
-  where
-    by : (b : Bool) → ltb j n ≡ b → get_or (set xs c v) (slice_index chains j) [] ≡ f (slice_index chains j)
-    by true e = right-set xs f c v lt right (slice_index chains j) (so_far j (ltb-true j n e))
+        let here : slice_index (set xs c x) i ≡ x =
+        ap (λ k. slice_index (set xs c x) k) same ∙ get_or-set_same xs c x 0 lt in
+        let there : most i ≡ most c = ap most same in
+        omega (arith, here, there, right)
     by false e =
-        let last : j ≡ n = omega (arith, below, ltb-false j n e) in
-        let same : slice_index chains j ≡ c = ap (slice_index chains) last ∙ sym at in
-        ap (λ i. get_or (set xs c v) i []) same ∙ (get_or-set_same xs c v [] lt ∙ (right ∙ ap f (sym same)))
+        let here : slice_index (set xs c x) i ≡ slice_index xs i = get_or-set_other xs c i x 0 (eqb-false i c e) in
+        omega (arith, here, held)
 
--- the next eight places of an order
-pub right-group : (before after : List (List ℕ)) (f : ℕ → List ℕ) (order chains : List ℕ) (n count : ℕ)
-    → ((m : ℕ) → m < 8 * n → m < count → get_or before (chain_in order m) [] ≡ f (chain_in order m))
-    → ((i : ℕ) → get_or before i [] ≡ f i → get_or after i [] ≡ f i)
-    → ((k : ℕ) → k < 8 → get_or after (slice_index chains k) [] ≡ f (slice_index chains k))
-    → ((k : ℕ) → k < 8 → slice_index chains k ≡ chain_in order (min (8 * n + k) (count - 1)))
-    → (m : ℕ) → m < 8 * (n + 1) → m < count → get_or after (chain_in order m) [] ≡ f (chain_in order m)
-right-group before after f order chains n count so_far stay come at m below lt = by (ltb m (8 * n)) refl
+-- those of the first chains of a list come to what they are to be, with the next one
+pub come-next : (xs : List ℕ) (f : ℕ → ℕ) (chains : List ℕ) (n c x : ℕ)
+    → c < length xs → c ≡ slice_index chains n → x ≡ f c
+    → ((j : ℕ) → j < n → slice_index xs (slice_index chains j) ≡ f (slice_index chains j))
+    → (j : ℕ) → j < n + 1 → slice_index (set xs c x) (slice_index chains j) ≡ f (slice_index chains j)
+come-next xs f chains n c x lt at right so_far j below = by (eqb (slice_index chains j) c) refl
   where
-    by : (b : Bool) → ltb m (8 * n) ≡ b → get_or after (chain_in order m) [] ≡ f (chain_in order m)
-    by true e = stay (chain_in order m) (so_far m (ltb-true m (8 * n) e) lt)
+    by : (b : Bool) → eqb (slice_index chains j) c ≡ b
+        → slice_index (set xs c x) (slice_index chains j) ≡ f (slice_index chains j)
+    by true e =
+        let same : slice_index chains j ≡ c = eqb-true (slice_index chains j) c e in
+        ap (λ i. slice_index (set xs c x) i) same ∙ (get_or-set_same xs c x 0 lt ∙ (right ∙ ap f (sym same)))
     by false e =
-        let from : 8 * n ≤ m = ltb-false m (8 * n) e in
-        let k = m - 8 * n in
-        let few : k < 8 = omega (arith, below, from) in
-        let place : min (8 * n + k) (count - 1) ≡ m = omega (arith, from, lt) in
-        let same : slice_index chains k ≡ chain_in order m = at k few ∙ ap (chain_in order) place in
-        subst (λ i. get_or after i [] ≡ f i) same (come k few)
+        let other = eqb-false (slice_index chains j) c e in
+        get_or-set_other xs c (slice_index chains j) x 0 other ∙ so_far j (before (ltb j n) refl)
+      where
+        before : (b : Bool) → ltb j n ≡ b → j < n
+        before true is = ltb-true j n is
+        before false is =
+            let last : j ≡ n = omega (arith, below, ltb-false j n is) in
+            absurd (eqb-false (slice_index chains j) c e (ap (slice_index chains) last ∙ sym at))
+
+-- values that are right for their numbers stay right where one is put that is right for its own
+pub right-set : (values : List (List ℕ)) (numbers : List ℕ) (f : ℕ → ℕ → List ℕ) (c n : ℕ) (v : List ℕ)
+    → c < length values → c < length numbers → v ≡ f c n
+    → (i : ℕ) → get_or values i [] ≡ f i (slice_index numbers i)
+    → get_or (set values c v) i [] ≡ f i (slice_index (set numbers c n) i)
+right-set values numbers f c n v lt below right i held = by (eqb i c) refl
+  where
+    by : (b : Bool) → eqb i c ≡ b → get_or (set values c v) i [] ≡ f i (slice_index (set numbers c n) i)
+    by true e =
+        let same : i ≡ c = eqb-true i c e in
+        let number : slice_index (set numbers c n) i ≡ n =
+        ap (λ k. slice_index (set numbers c n) k) same ∙ get_or-set_same numbers c n 0 below in
+        ap (λ k. get_or (set values c v) k []) same
+        ∙ (get_or-set_same values c v [] lt ∙ (right ∙ ap₂ f (sym same) (sym number)))
+    by false e =
+        let number : slice_index (set numbers c n) i ≡ slice_index numbers i =
+        get_or-set_other numbers c i n 0 (eqb-false i c e) in
+        get_or-set_other values c i v [] (eqb-false i c e) ∙ (held ∙ ap (f i) (sym number))
+
+-- what is taken stays so where fewer steps are left
+pub taken-fewer : (order chains left fewer : List ℕ) (m : ℕ) → ((i : ℕ) → slice_index fewer i ≤ slice_index left i)
+    → IsTaken order chains left m → IsTaken order chains fewer m
+taken-fewer order chains left fewer m less (inl ended) = inl (omega (arith, less (chain_in order m), ended))
+taken-fewer order chains left fewer m less (inr lane) = inr lane
+
+-- no steps are left at a place that is taken, once none are left in the lanes
+pub none-left : (order chains left : List ℕ) (m : ℕ)
+    → ((k : ℕ) → k < 8 → slice_index left (slice_index chains k) ≡ 0)
+    → IsTaken order chains left m → slice_index left (chain_in order m) ≡ 0
+none-left order chains left m done (inl ended) = ended
+none-left order chains left m done (inr (k, at, same)) = ap (slice_index left) (sym same) ∙ done k at

@@ -1,4 +1,4 @@
--- The bytes before a message in its hash.
+-- The bytes of the hash input before a message.
 use Rattle.std.specs.Prelude.{ℕ, List, ◌++◌, take, drop}
 use Rattle.lms_spec.specs.HashLength.{hash_length}
 use Rattle.lms_spec.specs.Bytes.{u16str}

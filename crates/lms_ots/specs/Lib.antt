@@ -1,3 +1,4 @@
 pub mod Heads
 pub mod Orders
 pub mod Verifying
+pub mod Walks

@@ -14,7 +14,7 @@ use sha2::{Digest, Sha256};
 /// time, code and stack differ.
 pub trait ChainEnds: Copy {
     /// The hash of the ends of the chains, from values at these digits (RFC 8554, 4.6). There must
-    /// be `t.p()` values, and none of their digits may be above the last.
+    /// be `t.p()` values, and none of their digits may be above 2^w - 1, the last digit.
     fn ends_hash(
         self,
         t: OtsType,
@@ -77,7 +77,7 @@ impl ChainEnds for ByEights {
     }
 }
 
-/// How many steps lead from each digit to the last.
+/// How many steps lead from each of the first `t.p()` digits to the last digit, 2^w - 1.
 fn steps_from(t: OtsType, digits: &[u8; MOST_CHAINS]) -> [u16; MOST_CHAINS]
     requires { (i : ℕ) → i < (ots_set_of t).p
         → slice_index digits.now i ≤ last_digit_of (ots_set_of t) }

@@ -43,8 +43,8 @@ pub(crate) fn lane_values(
     )
 }
 
-/// Takes each of eight chains from its start by its own number of hashes, the first with its byte
-/// of `firsts`.
+/// Takes each of eight chains from its start by its own number of hashes. The byte of a chain's
+/// first hash is the last eight bits of its number in `firsts`, as in `hash_chains`.
 pub(crate) fn walk_lanes(
     id: OtsId,
     chains: &[u16; LANES],

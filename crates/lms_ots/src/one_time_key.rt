@@ -47,7 +47,7 @@ pub fn secret(seed: &[u8; HASH_LEN], id: OtsId, i: u16) -> [u8; HASH_LEN]
     hash_after(&chain_head(id, i), 0xff, seed)
 }
 
-/// Takes the value of chain i from digit `from` to digit `to`, by the steps from .. to - 1 (RFC
+/// Takes the value of chain i from digit `from` to digit `to`, by the steps `from` to `to - 1` (RFC
 /// 8554, 4.3). `from` is at most `to`, and `to` at most 255.
 pub fn chain(id: OtsId, i: u16, from: u16, to: u16, x: &[u8; HASH_LEN]) -> [u8; HASH_LEN]
     requires order { from ≤ to }

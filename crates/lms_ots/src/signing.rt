@@ -87,7 +87,8 @@ pub(crate) struct Signature<'a> {
 }
 
 impl<'a> Signature<'a> {
-    /// The parts of a signature of set `t`. `None` exactly where it has not the form of one.
+    /// The parts of a signature of set `t`. `None` exactly where the typecode of `sig` or its
+    /// length, `t.sig_len()`, is not that of `t`.
     pub(crate) fn parse(t: OtsType, sig: &'a [u8]) -> Option<Self>
         ensures set { IfSome result (λ s. s.t ≡ t) }
         ensures some { IfSome result (λ s.

@@ -37,8 +37,9 @@ pub struct Verifier<'a> {
 }
 
 impl<'a> Verifier<'a> {
-    /// Before the first byte of the message. `None` exactly where the signature's typecode or its
-    /// length, `t.sig_len()`, is not that of `t`: it leads to nothing then, whatever the message.
+    /// A verifier of the signature `sig` by the one-time key `id`, before the first byte of the
+    /// message. `None` exactly where the signature's typecode or its length, `t.sig_len()`, is not
+    /// that of `t`: it leads to nothing then, whatever the message.
     pub fn begin(t: OtsType, id: OtsId, sig: &'a [u8]) -> Option<Self>
         ensures some { IfSome result (λ v. HasTaken v (ots_set_of t) id.i id.q sig.now []) }
         ensures none { IfNone result
@@ -65,8 +66,8 @@ impl<'a> Verifier<'a> {
         self.hasher.update(piece);
     }
 
-    /// The public hash that the signature and the message lead to (4.6). `ends` takes its chains to
-    /// their ends.
+    /// The public hash that the signature and the message lead to (4.6). `ends` takes the
+    /// signature's chains to their ends.
     pub fn finish<C: ChainEnds>(self, ends: C) -> [u8; HASH_LEN]
         ensures { (t : OtsSet) (id : List ℕ) (q : ℕ) (signature message : List ℕ)
             → HasTaken self.entry t id q signature message
@@ -76,7 +77,7 @@ impl<'a> Verifier<'a> {
         candidate_by_hash(self.signature, self.id, &hash, ends)
     }
 
-    /// The 54 bytes that the hash of a message has before it: I, q, D_MESG and C (4.5).
+    /// The 54 bytes of the hash input before the message: I, q, D_MESG and C (4.5).
     pub fn head(&self) -> [u8; MESSAGE_HEAD_LEN]
         ensures { (t : OtsSet) (id : List ℕ) (q : ℕ) (signature message : List ℕ)
             → HasTaken self.now t id q signature message → result ≡ ots_head id q signature }
@@ -85,8 +86,8 @@ impl<'a> Verifier<'a> {
     }
 
     /// The public hash that the signature leads to with a message that another hasher took: `hash`
-    /// is the SHA-256 of `head` and the message (4.6). `ends` takes its chains to their ends. What
-    /// `update` took plays no part.
+    /// is the SHA-256 of `head` and the message (4.6). `ends` takes the signature's chains to their
+    /// ends. What `update` took plays no part.
     pub fn finish_by_hash<C: ChainEnds>(self, hash: &[u8; HASH_LEN], ends: C) -> [u8; HASH_LEN]
         ensures { (t : OtsSet) (id : List ℕ) (q : ℕ) (signature taken message : List ℕ)
             → HasTaken self.entry t id q signature taken

@@ -60,8 +60,8 @@ impl LmsType {
     }
 }
 
-/// The bytes of an LMS signature: leaf number, LM-OTS signature, typecode and h hashes (RFC 8554,
-/// 5.4).
+/// How many bytes an LMS signature has: leaf number, LM-OTS signature, typecode and h hashes (RFC
+/// 8554, 5.4).
 pub fn lms_sig_len(lms: LmsType, ots: OtsType) -> usize
     ensures { result ≡ lms_signature_length (lms_set_of lms) (ots_set_of ots) }
 {

@@ -77,7 +77,7 @@ impl OtsType {
         }
     }
 
-    /// The bytes of an LM-OTS signature: typecode, randomizer and p hashes (RFC 8554, 4.5).
+    /// How many bytes an LM-OTS signature has: typecode, randomizer and p hashes (RFC 8554, 4.5).
     pub fn sig_len(self) -> usize
         ensures { result ≡ ots_signature_length (ots_set_of self) }
     {

@@ -2,7 +2,7 @@
 ghost use Rattle.std.specs.Prelude.{◌≡◌, ◌+◌, ◌^◌, ◌<◌, ◌++◌, length, IfSome, IfNone};
 ghost use Rattle.lms_spec.specs.Bytes.{u32str, u64str};
 
-/// The number in the first four bytes, the most significant first, and the bytes after it. None
+/// The number in the first four bytes, the most significant first, and the bytes after it. `None`
 /// exactly where there are fewer than four.
 pub fn split_u32(bytes: &[u8]) -> Option<(u32, &[u8])>
     ensures parts { IfSome result (λ s. bytes.now ≡ u32str s.0 ++ s.1.now) }
@@ -13,7 +13,7 @@ pub fn split_u32(bytes: &[u8]) -> Option<(u32, &[u8])>
     Some((u32::from_be_bytes(*number), rest))
 }
 
-/// The number in the first eight bytes, the most significant first, and the bytes after it. None
+/// The number in the first eight bytes, the most significant first, and the bytes after it. `None`
 /// exactly where there are fewer than eight.
 pub fn split_u64(bytes: &[u8]) -> Option<(u64, &[u8])>
     ensures parts { IfSome result (λ s. bytes.now ≡ u64str s.0 ++ s.1.now) }

@@ -14,7 +14,7 @@ turn len n Claim = if nat_lt n len then (Place n, n + 1) else (Ended, n)
 turn len n Look = (Count n, n)
 turn len n Stop = (Count (len - n), len)
 
--- from the state n on, each reply is the pool's
+-- from the state n on, each call has the reply that the pool gives it
 abbrev pub IsLegalFrom : ℕ → ℕ → List LoggedCall → Type 0
 IsLegalFrom len n [] = Unit {0}
 IsLegalFrom len n (e ∷ es) =
@@ -42,7 +42,7 @@ calls_of seat log = filter (λ e. nat_eq e.seat seat) log
 abbrev pub StartsWith : List LoggedCall → List LoggedCall → Type 0
 StartsWith log front = (rest : List LoggedCall) × (log ≡ front ++ rest)
 
--- the new log is legal: it has the old one, then calls of other seats, and then this call
+-- the new log is legal, and is the old one, then calls of other seats, and then this call
 abbrev pub Extends : ℕ → List LoggedCall → LoggedCall → List LoggedCall → Type 0
 Extends len old e new =
     IsLegal len new

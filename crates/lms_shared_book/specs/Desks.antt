@@ -30,17 +30,17 @@ abbrev pub total : List Sums → Sums
 total [] = sums 0 0 0
 total (s ∷ more) = plus s (total more)
 
--- all three of a history
+-- all three of a history: its entries, and the indices that it gave and burnt
 abbrev pub sums_of : List Entry → Sums
 sums_of history = sums (length history) (given_of history) (burnt_of history)
 
--- none of the three is more
+-- none of the three is more in `a` than in `b`
 pub record IsWithin (a b : Sums) : Type 0 where
   pub entries : a.entries ≤ b.entries
   pub received : a.received ≤ b.received
   pub burnt : a.burnt ≤ b.burnt
 
--- a blank is of the ledger with this name and these parts, and they are so many
+-- a blank has a ledger's name and number of parts, which is `wanted`
 abbrev pub BlankFits : BlankOfCode → ℕ → ℕ → ℕ → Type 0
 BlankFits blank name parts wanted = (blank.name ≡ name) × (blank.parts ≡ parts) × (parts ≡ wanted)
 
@@ -60,3 +60,10 @@ Counts n old (Ok lease) new = (lease.len ≡ n) × (new ≡ plus old (sums 1 n 0
 Counts n old (Err (Store start len)) new = (len ≡ n) × (new ≡ plus old (sums 1 0 n))
 Counts n old (Err (Exhausted left)) new = new ≡ old
 Counts n old (Err OutOfMemory) new = new ≡ old
+
+-- what a reservation of n indices adds to the sums of a history
+abbrev pub gained : ℕ → Result LeaseState BookFault → Sums
+gained n (Ok lease) = sums 1 n 0
+gained n (Err (Store start len)) = sums 1 0 n
+gained n (Err (Exhausted left)) = sums 0 0 0
+gained n (Err OutOfMemory) = sums 0 0 0

@@ -11,12 +11,13 @@ use Rattle.lms_shared_book.specs.Desks.{SharedState, Sums, sums_of}
 abbrev pub next_lease : BookState → ℕ → LeaseState
 next_lease book n = record { key = book.key; start = counter book; len = n }
 
--- the reservation that this entry of the history is of
+-- a reservation that adds this entry to the history: one that gave a lease, or one whose write
+-- failed
 abbrev pub IsReservationOf : BookState → Entry → BookState → Type 0
 IsReservationOf old (Given n) new = Reserves n old (Ok (next_lease old n)) new
 IsReservationOf old (Burnt n) new = Reserves n old (Err (Store (counter old) n)) new
 
--- that reservation, under one opening
+-- such a reservation, under one opening
 pub record IsAfterEntry (old : BookState) (entry : Entry) (new : BookState) : Type 0 where
   pub opening : IsSameOpening old new
   pub reservation : IsReservationOf old entry new
@@ -34,7 +35,8 @@ pub record IsFound (shared : SharedState) (counted : Sums) (found : BookState) :
   pub after : IsAfter shared.book entries found
   pub alone : shared.desks ≡ 1 → sums_of entries ≡ counted
 
--- what is under the lock in the end: all desks together count the reservations
+-- what is under the lock in the end: the book that was shared, after some reservations, which all
+-- desks together count
 pub record IsSettled (shared : BookState) (counted : Sums) (book : BookState) : Type 0 where
   pub entries : List Entry
   pub after : IsAfter shared entries book

@@ -6,12 +6,12 @@ ghost use Rattle.lms_shared_book.specs.Desks.{SharesState, BlankFits, IsWithin, 
 use std::marker::{Brand, Model};
 use std::sync::ledger::{Blank, Book as LedgerBook, Ledger, Share};
 
-/// A ledger of `std::sync::ledger`, for one of the three numbers that the desks of a shared book
-/// count. Only contracts see its members.
+/// The ledger of a shared book's entries, which names the book. Only contracts see its members.
 ///
-/// To share a book, write a function that is generic over three types with this bound and takes the
-/// book and its `Blanks`, and call it with `Brand` for each of the three. There `Brand` stands for a
-/// ledger that the caller's proof names: by the blank's name and parts, and by the book.
+/// To share a book, write a function that is generic over this ledger and two of
+/// `std::sync::ledger`, for the indices received and burnt, and that takes the book and its
+/// `Blanks`; call it with `Brand` for each of the three. There `Brand` stands for a ledger that the
+/// caller's proof names: by the blank's name and parts, and the first by the book, too.
 pub trait BookLedger: Ledger {
     /// The book that is shared, as it was before.
     ghost book: { BookState };
@@ -80,7 +80,7 @@ impl<E: Ledger, G: Ledger, B: Ledger> Model for Totals<E, G, B> {
 }
 
 impl<E: Ledger, G: Ledger, B: Ledger> Shares<E, G, B> {
-    /// A share with one part that counts nothing.
+    /// Splits one part off, as a share that counts nothing. There must be more than one part.
     pub(crate) fn split_off(&mut self) -> Shares<E, G, B>
         requires { 1 < self.old.parts }
         ensures left { self.new ≡ record self.old { parts = self.new.parts } }
@@ -94,7 +94,8 @@ impl<E: Ledger, G: Ledger, B: Ledger> Shares<E, G, B> {
         }
     }
 
-    /// Gives one part to another share, with so much of what it counts.
+    /// Gives one part to another share, with so much of what this one counts. The last part must
+    /// take all of it.
     pub(crate) fn give(&mut self, to: &mut Shares<E, G, B>, entries: u64, received: u64, burnt: u64)
         requires some { 1 ≤ self.old.parts }
         requires enough { IsWithin (sums entries received burnt) self.old.counted }
@@ -127,7 +128,7 @@ impl<E: Ledger, G: Ledger, B: Ledger> Shares<E, G, B> {
 }
 
 impl<E: Ledger, G: Ledger, B: Ledger> Totals<E, G, B> {
-    /// Opens the ledgers with one share of all.
+    /// Opens the blanks as ledgers that count nothing yet, with one share that has all parts.
     pub(crate) fn open(blanks: Blanks) -> (Totals<E, G, B>, Shares<E, G, B>)
         requires entries { BlankFits blanks.entries E.name E.parts E.parts }
         requires received { BlankFits blanks.received G.name G.parts E.parts }
@@ -157,7 +158,7 @@ impl<E: Ledger, G: Ledger, B: Ledger> Totals<E, G, B> {
         )
     }
 
-    /// Adds to the totals, and to what the share counts.
+    /// Adds these numbers to the totals, and to what the share counts, which must have a part.
     pub(crate) fn add(
         &mut self,
         shares: &mut Shares<E, G, B>,

@@ -1,24 +1,25 @@
 //! What is under the lock of a shared book.
 ghost use Rattle.std.specs.Prelude.{◌≡◌, ℕ, ◌+◌, ◌≤◌, length, IfOk};
 ghost use Rattle.lms_hss.specs.Covered.{most_covered};
-ghost use Rattle.lms_shared_book.specs.Desks.{total, Counts};
+ghost use Rattle.lms_shared_book.specs.Desks.{total, Counts, gained, sums};
 ghost use Rattle.lms_shared_book.specs.Shared.{IsFound, IsSettled};
 
 use crate::book_ledger::{BookLedger, Shares, Totals};
 use crate::desk::{Desk, all_shares};
 use lms_book::{Book, BookFault, Lease, StateStore};
 use std::marker::Model;
+use std::sync::ledger::Ledger;
 
 /// A book, with the sums of its history. What the history counted before it was shared is one share
 /// of them.
 #[derive(Drop)]
-pub(crate) struct CountedBook<S: StateStore, E: BookLedger, G: BookLedger, B: BookLedger> {
+pub(crate) struct CountedBook<S: StateStore, E: BookLedger, G: Ledger, B: Ledger> {
     pub(crate) book: Book<S>,
     pub(crate) totals: Totals<E, G, B>,
     pub(crate) shares: Shares<E, G, B>,
 }
 
-impl<S: StateStore, E: BookLedger, G: BookLedger, B: BookLedger> Model for CountedBook<S, E, G, B> {
+impl<S: StateStore, E: BookLedger, G: Ledger, B: Ledger> Model for CountedBook<S, E, G, B> {
     ghost use Rattle.std.specs.Prelude.{◌≡◌, List};
     ghost use Rattle.lms_shared_book.specs.Desks.{sums_of};
     ghost use Rattle.lms_shared_book.specs.Shared.{IsAfter};
@@ -36,10 +37,11 @@ impl<S: StateStore, E: BookLedger, G: BookLedger, B: BookLedger> Model for Count
         × ((entries : List EntryOfCode) × IsAfter E.book entries c.book) };
 }
 
-impl<S: StateStore, E: BookLedger, G: BookLedger, B: BookLedger> CountedBook<S, E, G, B> {
+impl<S: StateStore, E: BookLedger, G: Ledger, B: Ledger> CountedBook<S, E, G, B> {
     ghost use Rattle.lms_book.specs.Books.{ReservesInOrder};
 
-    /// `Book::reserve`, counted at the desk and in the totals.
+    /// Reserves n indices as `Book::reserve` does, with its errors, and counts that at the desk and
+    /// in the totals.
     pub(crate) fn reserve(&mut self, desk: &mut Desk<E, G, B>, n: u64) -> Result<Lease, BookFault>
         requires some { 1 ≤ n }
         requires at_most { n ≤ most_covered }
@@ -55,21 +57,14 @@ impl<S: StateStore, E: BookLedger, G: BookLedger, B: BookLedger> CountedBook<S, 
         let _entries = self.book.history().len();
         // for the proof: a desk that is the only one has counted every reservation
         desk.audit(&mut self.totals, &mut self.shares);
-        match self.book.reserve(n) {
-            Ok(lease) => {
-                desk.count(&mut self.totals, n, 0);
-                Ok(lease)
-            }
-            Err(BookFault::Store { start, len }) => {
-                desk.count(&mut self.totals, 0, n);
-                Err(BookFault::Store { start, len })
-            }
-            Err(BookFault::Exhausted { left }) => Err(BookFault::Exhausted { left }),
-            Err(BookFault::OutOfMemory) => Err(BookFault::OutOfMemory),
-        }
+        let answer = self.book.reserve(n);
+        let (entries, received, burnt) = gains_of(&answer, n);
+        desk.count(&mut self.totals, entries, received, burnt);
+        answer
     }
 
-    /// The book. All desks together count what was reserved since it was shared.
+    /// Takes the book out, once all desks have come: together they count what was reserved since it
+    /// was shared.
     pub(crate) fn into_book(self, desks: Vec<Desk<E, G, B>>) -> Book<S>
         requires some { 1 ≤ E.parts }
         requires all { E.parts ≤ length desks.items + 1 }
@@ -87,5 +82,17 @@ impl<S: StateStore, E: BookLedger, G: BookLedger, B: BookLedger> CountedBook<S, 
         let mut all = all_shares(shares, desks);
         totals.audit(&mut all);
         book
+    }
+}
+
+/// What a reservation of n indices adds to a history's sums: entries, indices received and burnt.
+fn gains_of(answer: &Result<Lease, BookFault>, n: u64) -> (u64, u64, u64)
+    ensures { sums result.0 result.1 result.2 ≡ gained n answer.now }
+{
+    match answer {
+        Ok(_) => (1, n, 0),
+        Err(BookFault::Store { .. }) => (1, 0, n),
+        Err(BookFault::Exhausted { .. }) => (0, 0, 0),
+        Err(BookFault::OutOfMemory) => (0, 0, 0),
     }
 }

@@ -4,18 +4,19 @@ ghost use Rattle.lms_shared_book.specs.Desks.{Sums, sums, plus, total};
 
 use crate::book_ledger::{BookLedger, Shares, Totals};
 use std::marker::Model;
+use std::sync::ledger::Ledger;
 
 /// A caller's desk at a shared book. It counts what its reservations added to the book's history.
 /// Its ledgers are those of its book, so a desk of another book does not fit.
 #[derive(Drop)]
-pub struct Desk<E: BookLedger, G: BookLedger, B: BookLedger> {
+pub struct Desk<E: BookLedger, G: Ledger, B: Ledger> {
     entries: u64,
     received: u64,
     burnt: u64,
     shares: Shares<E, G, B>,
 }
 
-impl<E: BookLedger, G: BookLedger, B: BookLedger> Model for Desk<E, G, B> {
+impl<E: BookLedger, G: Ledger, B: Ledger> Model for Desk<E, G, B> {
     ghost use Rattle.std.specs.Prelude.{◌≡◌};
     ghost use Rattle.lms_shared_book.specs.Desks.{Sums, sums};
 
@@ -28,7 +29,7 @@ impl<E: BookLedger, G: BookLedger, B: BookLedger> Model for Desk<E, G, B> {
         × (desk.shares.counted ≡ sums desk.entries desk.received desk.burnt) };
 }
 
-impl<E: BookLedger, G: BookLedger, B: BookLedger> Desk<E, G, B> {
+impl<E: BookLedger, G: Ledger, B: Ledger> Desk<E, G, B> {
     /// How many entries its reservations added to the history.
     pub fn entries(&self) -> u64
         ensures { result ≡ self.now.entries }
@@ -66,25 +67,33 @@ impl<E: BookLedger, G: BookLedger, B: BookLedger> Desk<E, G, B> {
         other.give(&mut self.shares, self.entries, self.received, self.burnt);
     }
 
-    /// Counts one entry more, with the indices that the desk received and those that were burnt.
-    pub(crate) fn count(&mut self, totals: &mut Totals<E, G, B>, received: u64, burnt: u64)
-        requires entries { totals.old.entries + 1 < 2 ^ 64 }
+    /// Counts so many entries more, with the indices that the desk received and those that were
+    /// burnt.
+    pub(crate) fn count(
+        &mut self,
+        totals: &mut Totals<E, G, B>,
+        entries: u64,
+        received: u64,
+        burnt: u64,
+    )
+        requires entries { totals.old.entries + entries < 2 ^ 64 }
         requires received { totals.old.received + received < 2 ^ 64 }
         requires burnt { totals.old.burnt + burnt < 2 ^ 64 }
-        ensures desk { self.new ≡ plus self.old (sums 1 received burnt) }
-        ensures totals { totals.new ≡ plus totals.old (sums 1 received burnt) }
+        ensures desk { self.new ≡ plus self.old (sums entries received burnt) }
+        ensures totals { totals.new ≡ plus totals.old (sums entries received burnt) }
     {
         // for the proof: no number of a desk is above its total
         totals.audit(&mut self.shares);
-        totals.add(&mut self.shares, 1, received, burnt);
-        self.entries += 1;
+        totals.add(&mut self.shares, entries, received, burnt);
+        self.entries += entries;
         self.received += received;
         self.burnt += burnt;
     }
 }
 
-/// Desks that have counted nothing, each with one part of the shares.
-pub(crate) fn new_desks<E: BookLedger, G: BookLedger, B: BookLedger>(
+/// Makes `count` desks that have counted nothing, each with one part of the shares, which keep one.
+/// `memory` must be empty and have room for them.
+pub(crate) fn new_desks<E: BookLedger, G: Ledger, B: Ledger>(
     memory: Vec<Desk<E, G, B>>,
     shares: &mut Shares<E, G, B>,
     count: usize,
@@ -108,8 +117,8 @@ pub(crate) fn new_desks<E: BookLedger, G: BookLedger, B: BookLedger>(
     desks
 }
 
-/// These shares with those of all desks.
-pub(crate) fn all_shares<E: BookLedger, G: BookLedger, B: BookLedger>(
+/// Puts these shares and those of all desks together.
+pub(crate) fn all_shares<E: BookLedger, G: Ledger, B: Ledger>(
     shares: Shares<E, G, B>,
     desks: Vec<Desk<E, G, B>>,
 ) -> Shares<E, G, B>

@@ -15,6 +15,7 @@ use lms_hss::HssKey;
 use lms_params::OutOfMemory;
 use std::alloc::Global;
 use std::marker::Model;
+use std::sync::ledger::Ledger;
 use std::sync::{Mutex, Wait};
 
 /// A book behind a lock. Whenever the lock is acquired, the counter is within the key's capacity,
@@ -22,13 +23,13 @@ use std::sync::{Mutex, Wait};
 /// ledgers count the entries, the indices received and the indices burnt. Contracts see the book as
 /// it was when it was shared, and the number of desks.
 #[derive(Drop)]
-pub struct SharedBook<S: StateStore, E: BookLedger, G: BookLedger, B: BookLedger> {
+pub struct SharedBook<S: StateStore, E: BookLedger, G: Ledger, B: Ledger> {
     counted: Mutex<CountedBook<S, E, G, B>>,
     key: HssKey,
     desks: usize,
 }
 
-impl<S: StateStore, E: BookLedger, G: BookLedger, B: BookLedger> Model for SharedBook<S, E, G, B> {
+impl<S: StateStore, E: BookLedger, G: Ledger, B: Ledger> Model for SharedBook<S, E, G, B> {
     ghost use Rattle.std.specs.Prelude.{◌≡◌, ◌+◌};
     ghost use Rattle.lms_shared_book.specs.Desks.{SharedState};
 
@@ -41,7 +42,7 @@ impl<S: StateStore, E: BookLedger, G: BookLedger, B: BookLedger> Model for Share
         × (s.key ≡ E.book.key) };
 }
 
-impl<S: StateStore, E: BookLedger, G: BookLedger, B: BookLedger> SharedBook<S, E, G, B> {
+impl<S: StateStore, E: BookLedger, G: Ledger, B: Ledger> SharedBook<S, E, G, B> {
     ghost use Rattle.lms_book.specs.States.{BookState, reservations_of};
     ghost use Rattle.std.specs.Prelude.{List};
     ghost use Rattle.lms_book.specs.declared.history.Entry.{Entry as EntryOfCode};
@@ -142,8 +143,8 @@ impl<S: StateStore, E: BookLedger, G: BookLedger, B: BookLedger> SharedBook<S, E
     /// Takes the book back once all desks have come. It is the book that was shared, after
     /// reservations whose entries, indices given and indices burnt are the sums over the desks.
     ///
-    /// `MissingDesks`, with the number of desks that came, exactly where that is less than were
-    /// shared. All is handed back as it was.
+    /// `MissingDesks`, with the number of desks that came, exactly where these are fewer than
+    /// `share` gave out. All is then handed back as it was.
     pub fn settle(
         self,
         desks: Vec<Desk<E, G, B>>,

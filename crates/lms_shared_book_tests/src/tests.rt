@@ -9,7 +9,7 @@ use std::alloc::{AllocGlobal, Global};
 use std::marker::Brand;
 use std::process::Abort;
 use std::sync::Wait;
-use std::sync::ledger::Blank;
+use std::sync::ledger::{Blank, Ledger};
 use std::test::Fail;
 use std::thread;
 use std::thread::Threads;
@@ -36,12 +36,12 @@ fn blanks(parts: u64) -> Blanks
 }
 
 /// What a desk counted: entries, received, burnt.
-fn counts<E: BookLedger, G: BookLedger, B: BookLedger>(desk: &Desk<E, G, B>) -> (u64, u64, u64) {
+fn counts<E: BookLedger, G: Ledger, B: Ledger>(desk: &Desk<E, G, B>) -> (u64, u64, u64) {
     (desk.entries(), desk.received(), desk.burnt())
 }
 
 /// What the desk of this place counted.
-fn counts_at<E: BookLedger, G: BookLedger, B: BookLedger>(
+fn counts_at<E: BookLedger, G: Ledger, B: Ledger>(
     desks: &[Desk<E, G, B>],
     place: usize,
 ) -> Option<(u64, u64, u64)> {
@@ -57,7 +57,7 @@ fn spent(lease: Lease) -> (u64, u64) {
 
 /// Reserves at the desk of this place, and gives the lease back: the first index and the number of
 /// indices.
-fn reserved_at<E: BookLedger, G: BookLedger, B: BookLedger>(
+fn reserved_at<E: BookLedger, G: Ledger, B: Ledger>(
     rt: &impl Wait,
     shared: &SharedBook<MemoryStore, E, G, B>,
     desks: &mut [Desk<E, G, B>],
@@ -76,7 +76,7 @@ fn reserved_at<E: BookLedger, G: BookLedger, B: BookLedger>(
 }
 
 /// Settles with all desks, and compares the history.
-fn settled<E: BookLedger, G: BookLedger, B: BookLedger>(
+fn settled<E: BookLedger, G: Ledger, B: Ledger>(
     rt: &impl Abort,
     shared: SharedBook<MemoryStore, E, G, B>,
     desks: Vec<Desk<E, G, B>>,
@@ -88,7 +88,7 @@ fn settled<E: BookLedger, G: BookLedger, B: BookLedger>(
 }
 
 /// Shares a book, and once more with what was handed back where memory is refused.
-fn shared_at_last<E: BookLedger, G: BookLedger, B: BookLedger>(
+fn shared_at_last<E: BookLedger, G: Ledger, B: Ledger>(
     alloc: Global,
     book: Book<MemoryStore>,
     blanks: Blanks,
@@ -106,7 +106,7 @@ fn shared_at_last<E: BookLedger, G: BookLedger, B: BookLedger>(
 }
 
 /// Shares a book that gave 3 indices before, and reserves 2 at the second of two desks.
-fn two_desks<E: BookLedger, G: BookLedger, B: BookLedger>(
+fn two_desks<E: BookLedger, G: Ledger, B: Ledger>(
     rt: &(impl Abort + AllocGlobal + Wait),
     book: Book<MemoryStore>,
     blanks: Blanks,
@@ -137,7 +137,7 @@ fn a_book_is_shared_after_refused_memory(rt: HostRuntime) -> Result<(), Fail> {
 }
 
 /// Settles with a desk less than all, reads those that are handed back, and settles with all.
-fn settled_at_last<E: BookLedger, G: BookLedger, B: BookLedger>(
+fn settled_at_last<E: BookLedger, G: Ledger, B: Ledger>(
     rt: &(impl Abort + AllocGlobal),
     shared: SharedBook<MemoryStore, E, G, B>,
     desks: Vec<Desk<E, G, B>>,
@@ -160,7 +160,7 @@ fn settled_at_last<E: BookLedger, G: BookLedger, B: BookLedger>(
 }
 
 /// Three desks: 2 given, 3 burnt, 5 given, and one at which nothing is reserved.
-fn three_desks<E: BookLedger, G: BookLedger, B: BookLedger>(
+fn three_desks<E: BookLedger, G: Ledger, B: Ledger>(
     rt: &(impl Abort + AllocGlobal + Wait),
     book: Book<MemoryStore>,
     blanks: Blanks,
@@ -202,7 +202,7 @@ fn three_desks<E: BookLedger, G: BookLedger, B: BookLedger>(
 
 /// What a shared book says of its reservations: base, counter, what is stored, entries. Its key is
 /// that of the reservations.
-fn base_counter_stored_entries<E: BookLedger, G: BookLedger, B: BookLedger>(
+fn base_counter_stored_entries<E: BookLedger, G: Ledger, B: Ledger>(
     rt: &(impl Abort + Wait),
     shared: &SharedBook<MemoryStore, E, G, B>,
 ) -> (u64, u64, u64, usize) {
@@ -228,7 +228,7 @@ fn desks_count_what_they_got(rt: HostRuntime) -> Result<(), Fail> {
 }
 
 /// Reserves at each desk once.
-fn each_reserves<E: BookLedger, G: BookLedger, B: BookLedger>(
+fn each_reserves<E: BookLedger, G: Ledger, B: Ledger>(
     rt: &(impl Abort + Wait),
     shared: &SharedBook<MemoryStore, E, G, B>,
     desks: &mut [Desk<E, G, B>],
@@ -244,7 +244,7 @@ fn each_reserves<E: BookLedger, G: BookLedger, B: BookLedger>(
 }
 
 /// So many desks, each of which reserves once.
-fn many_desks<E: BookLedger, G: BookLedger, B: BookLedger>(
+fn many_desks<E: BookLedger, G: Ledger, B: Ledger>(
     rt: &(impl Abort + AllocGlobal + Wait),
     book: Book<MemoryStore>,
     blanks: Blanks,
@@ -281,7 +281,7 @@ fn each_number_of_desks_is_shared(rt: HostRuntime) -> Result<(), Fail> {
 }
 
 /// Eight leases of one index, each asked of the book: the starts of those that it knew.
-fn reserve_eight<E: BookLedger, G: BookLedger, B: BookLedger>(
+fn reserve_eight<E: BookLedger, G: Ledger, B: Ledger>(
     rt: &impl Wait,
     shared: &SharedBook<MemoryStore, E, G, B>,
     desk: Desk<E, G, B>,
@@ -300,7 +300,7 @@ fn reserve_eight<E: BookLedger, G: BookLedger, B: BookLedger>(
 }
 
 /// The desks of four threads, where the starts that they got are 0 to 31, each once.
-fn gathered<E: BookLedger, G: BookLedger, B: BookLedger>(
+fn gathered<E: BookLedger, G: Ledger, B: Ledger>(
     rt: &(impl Abort + AllocGlobal),
     visits: Vec<(Desk<E, G, B>, [Option<u64>; 8])>,
 ) -> Result<Vec<Desk<E, G, B>>, Fail> {
@@ -321,7 +321,7 @@ fn gathered<E: BookLedger, G: BookLedger, B: BookLedger>(
 }
 
 /// Settles with no desk, which is refused, and then with all.
-fn settled_after_none<E: BookLedger, G: BookLedger, B: BookLedger>(
+fn settled_after_none<E: BookLedger, G: Ledger, B: Ledger>(
     rt: &(impl Abort + AllocGlobal),
     shared: SharedBook<MemoryStore, E, G, B>,
     desks: Vec<Desk<E, G, B>>,
@@ -335,11 +335,7 @@ fn settled_after_none<E: BookLedger, G: BookLedger, B: BookLedger>(
 }
 
 /// Four threads, each with a desk, use up a key of 32 indices.
-fn four_threads<
-    E: BookLedger + Send + Sync,
-    G: BookLedger + Send + Sync,
-    B: BookLedger + Send + Sync,
->(
+fn four_threads<E: BookLedger + Send + Sync, G: Ledger + Send + Sync, B: Ledger + Send + Sync>(
     rt: &(impl Abort + AllocGlobal + Threads + Wait + Sync),
     book: Book<MemoryStore>,
     blanks: Blanks,

@@ -2,8 +2,6 @@
 use Rattle.std.proofs.Common.{◌≡◌, ◌∙◌, inl, inr, ℕ, zero, suc, ◌+◌, ◌-◌, ◌≤◌, List, [], ◌∷◌, ◌++◌, drop, take, length}
 use Rattle.std.proofs.Common.{Option, None, Some, Result, Ok, Err, refl, sym, ap, ap₂, subst, arith}
 use Rattle.std.specs.Prelude.{IfSome, min}
-use Rattle.std.specs.Io.KnownBytes.{Appends, Keeps}
-use Rattle.std.proofs.lemmas.List.{append-nil}
 use Rattle.std.proofs.lemmas.List.Sums.{sum_by-cons}
 use Rattle.lms_book.specs.declared.history.Entry.{Entry}
 use Rattle.lms_book.specs.declared.history.Entry.TheVariants.{Given, Burnt}
@@ -19,7 +17,6 @@ use Rattle.lms_batch.specs.Answers.{CouldBeReserved, IsAnswerAfter, start_of}
 use Rattle.lms_batch.specs.declared.collector.Batch.{Batch}
 use Rattle.lms_batch.specs.declared.fault.BatchFault.{BatchFault}
 use Rattle.lms_batch.specs.declared.fault.BatchFault.TheVariants as unsigned
-use Rattle.lms_blocks.specs.Writing.{AppendsFront}
 use Rattle.lms_lines.specs.SignedLines.{IsUnsigned, signatures_in}
 use Rattle.lms_lines.specs.declared.fault.JobsFault.TheVariants as jobs
 use Rattle.lms_lines.specs.declared.signing.SignedJobs.{SignedJobs}
@@ -292,24 +289,6 @@ lent_one len items lent first counted one was is =
     ap (λ (n : ℕ). take n (lent ++ drop (length lent) items)) one
     ∙ ap (λ (ds : List Sums). take 1 (ds ++ drop (length ds) items)) is
     ∙ ap (λ (ds : List Sums). take 1 (counted ∷ drop 1 ds)) was
-
-flushed : (before mid after : Option (List ℕ)) (text : List ℕ) → Appends before mid text → Keeps mid after
-    → Appends before after text
-flushed None mid after text appends keeps = tt
-flushed (Some x) None after text appends keeps = absurd appends
-flushed (Some x) (Some y) None text appends keeps = absurd keeps
-flushed (Some x) (Some y) (Some z) text appends keeps = keeps ∙ appends
-
--- what was printed stays when it is passed on
-pub flushed_front : (before mid after : Option (List ℕ)) (text : List ℕ) → Appends before mid text → Keeps mid after
-    → AppendsFront before after text
-flushed_front before mid after text appends keeps =
-    record {
-      front = text;
-      rest = [];
-      whole = sym (append-nil _);
-      appended = flushed before mid after text appends keeps;
-    }
 
 -- of an input of which nothing is said
 pub says_nothing : (input : Option (List ℕ)) → IfSome input (λ text. Unit {0})

@@ -42,7 +42,7 @@ module _ (watch : Watch) (before after_it : BookState) (view : StoreView) (old o
       → LogsSigned nodes random message index signature old new
   log_signed nodes random message index signature trees noted new gives at noted_is keeps signed = record {
     state = state_of before;
-    trees = trees;
+    to_keep = trees;
     until_stored = noted;
     next = at ∙ is_fresh.used;
     stores = (by, back, uses_one gives, noted_is);

@@ -1,30 +1,25 @@
 -- What `serve` leaves in a world in memory, by its calls.
 use Rattle.std.proofs.Common.{◌≡◌, ◌∙◌, ◌∷◌, [], ◌++◌, ℕ, List, Option, Some, None, ap, ap₂, refl, subst, subst₂, sym}
-use Rattle.std.proofs.Common.{append-nil, append_assoc, inl, inr, length, map}
+use Rattle.std.proofs.Common.{append_assoc, inl, inr, length, map}
 use Rattle.std.specs.Prelude.{false}
 use Rattle.std.proofs.lemmas.List.{append_cancel_right}
-use Rattle.lms_book.specs.Stops.{Texts}
 use Rattle.lms_batch.specs.declared.collector.Batch.{Batch}
-use Rattle.lms_lines.specs.SignedLines.{signatures_in}
-use Rattle.lms_world.specs.Events.{Acquired, Event, Locked, Unlocked}
+use Rattle.lms_world.specs.Events.{Acquired, Locked, Unlocked}
 use Rattle.lms_world.specs.Held.{Follows, Held, Replays}
 use Rattle.lms_world.specs.Names.{Bytes}
-use Rattle.lms_world.specs.Outcomes.{files_after, nodes_after, state_after, witness_after}
 use Rattle.lms_commands.specs.InMemory.{FailsToWatch, FindsState, IsWatched, SignsNone}
 use Rattle.lms_commands.specs.Logs.{KeyState, WorldCalls}
 use Rattle.lms_commands.specs.Watching.{LeavesWatched, LogsUnwatched, UnsignedWatched}
 use Rattle.lms_commands.specs.declared.fault.Fault.{Fault}
-use Rattle.lms_commands.specs.declared.fault.Fault.TheVariants.{Partial}
 use Rattle.lms_commands.proofs.AtState.{AreStill, finds_watched, not_locked, unsigned_watched, unwatched}
-use Rattle.lms_commands.proofs.Telling.{Adds, AllTell, and_then, nothing_done, told, was_state}
-use Rattle.lms_signature_commands.specs.BatchInMemory.{CountsIndices, SignsInPart, SignsJobs}
+use Rattle.lms_commands.proofs.Telling.{Adds, nothing_done, told}
+use Rattle.lms_signature_commands.specs.BatchInMemory.{SignsJobs}
 use Rattle.lms_signature_commands.specs.BatchLogs.{AnswersJobs}
-use Rattle.lms_signature_commands.specs.Batches.{IsUnprinted}
 use Rattle.lms_signature_commands.specs.ServeInMemory.{FailsToServeInMemory, GroupInMemory, GroupsInMemory}
 use Rattle.lms_signature_commands.specs.ServeInMemory.{ServesInMemory, TriesInMemory}
 use Rattle.lms_signature_commands.specs.Serving.{AnyState, Due, FailsGroup, Group, IsDue, LogsGroup, LogsGroups, Only}
 use Rattle.lms_signature_commands.specs.Serving.{answered, having_used}
-use Rattle.lms_signature_commands.proofs.Using.{uses_so}
+use Rattle.lms_signature_commands.proofs.BatchInMemory.{in_part, signed_so}
 use Rattle.lms_signature_commands.proofs.ServingCalls.{Keeps, fails_to_serve, group_keeps, groups_keep, keeps_none}
 
 -- ---- a part of the calls
@@ -75,38 +70,12 @@ none_still = record {
 
 module _ (text : List ℕ) {earlier now : WorldCalls} (old new : Held) (free : old.in_use ≡ false)
     (follows : Follows (Some old) earlier (Some new) now) where
-  signed_so : (rest : Option (List ℕ)) (before : List ℕ) (batch : Batch)
+  group_signed : (rest : Option (List ℕ)) (before : List ℕ) (batch : Batch)
       → (answers : AnswersJobs (Some text) rest before batch earlier now)
       → (signs : SignsJobs (Some text) rest batch old new) × (signs.state ≡ answers.signs.state)
       × (length signs.jobs ≡ length answers.signs.jobs)
-  signed_so rest before batch answers =
-      let signs = answers.signs in
-      let n = length signs.jobs in
-      let uses = uses_so n signs.state signs.uses in
-      let used : Adds earlier answers.until_signed = record { calls = uses.calls; are = uses.are } in
-      let is = told old new (and_then used answers.prints) follows in
-      let none : uses.calls ++ [] ≡ uses.calls = append-nil uses.calls in
-      let tell = uses.tell [] old (subst (λ (log : List Event). AllTell log old) (sym none) is.tell.0) in
-      let found = tell.1 in
-      let made : SignsJobs (Some text) rest batch old new = record {
-        free = free;
-        state = signs.state;
-        was = was_state signs.state uses.reads found;
-        jobs = signs.jobs;
-        read = signs.read;
-        answer = signs.answer;
-        next = signs.next;
-        within = uses.within;
-        files = is.files ∙ (ap (λ (log : List Event). files_after log old.files) (sym none) ∙ uses.files [] old.files);
-        nodes = is.nodes ∙ (ap (λ (log : List Event). nodes_after log old.nodes) (sym none) ∙ uses.nodes [] old.nodes);
-        counted = subst₂ (λ (a b : Texts). CountsIndices n signs.state a b) found
-            (sym (is.state ∙ (ap (λ (log : List Event). state_after log old.state) (sym none)
-            ∙ uses.state_is [] old.state))) uses.counted;
-        watched = (uses.watch, tell.2, uses.admitted);
-        witness = is.witness ∙ (ap (λ (log : List Event). witness_after log old.witness) (sym none)
-            ∙ uses.witness [] old.witness tell.2);
-      } in
-      (made, refl, refl)
+  group_signed rest before batch answers = signed_so [] none_still (Some text) rest {earlier = earlier} refl old new
+      (λ _. free) (then_unlocked old new follows) before batch answers
 
   found_so : (state : KeyState) → LeavesWatched state earlier now
       → (found : FindsState old new) × (found.state ≡ state) × IsWatched found.state old.witness
@@ -122,16 +91,6 @@ module _ (text : List ℕ) {earlier now : WorldCalls} (old new : Held) (free : o
   unopened_so : (cause : Fault) → LogsUnwatched cause earlier now → FailsToWatch cause old new
   unopened_so cause is =
       (unwatched [] none_still {before = earlier} refl refl old new (then_unlocked old new follows) cause is).1
-
-  in_part : (rest : Option (List ℕ)) (before printed : List ℕ) (fault : Fault) (batch : Batch)
-      → (answers : AnswersJobs (Some text) rest before batch earlier now)
-      → IsUnprinted batch (length answers.signs.jobs) (Some before) (Some printed) fault
-      → SignsInPart (Some text) rest before printed fault old new
-  in_part rest before printed fault batch answers (inl (at, differ, lines)) =
-      let is = signed_so rest before batch answers in
-      (batch, (is.0, inl (at ∙ ap (Partial (signatures_in batch)) (sym is.2), λ same. differ (same ∙ is.2), lines)))
-  in_part rest before printed fault batch answers (inr (at, front)) =
-      let is = signed_so rest before batch answers in (batch, (is.0, inr (at, front)))
 
   fails_so : (fault : Fault) (due next : Due) (before printed : List ℕ)
       → FailsGroup text fault due next before printed earlier now
@@ -152,13 +111,17 @@ module _ (text : List ℕ) {earlier now : WorldCalls} (old new : Held) (free : o
   fails_so fault due next before printed (inr ((state, of, inl (rest, jobs, reads, some, burns, same)), is)) =
       inl (same, inr (inr (inr (rest, jobs, reads, unsigned_so (length jobs) state fault (inr burns)))))
   fails_so fault due next before printed (inr ((state, of, inr (rest, batch, answers, so, lines)), is)) =
-      inr (rest, in_part rest before printed fault batch answers lines)
+      inr (
+        rest,
+        in_part [] none_still (Some text) rest {earlier = earlier} refl old new (λ _. free)
+            (then_unlocked old new follows) before printed fault batch answers lines,
+      )
 
   group_so : (fault : Option Fault) (due next : Due) (before printed : List ℕ)
       → LogsGroup text fault due next before printed earlier now
       → GroupInMemory text fault due next before printed old new
   group_so None due next before printed (rest, count, (batch, answers, signed, asked, lines), of, is) =
-      let signs = signed_so rest before batch answers in (
+      let signs = group_signed rest before batch answers in (
         rest,
         batch,
         signs.0,

@@ -21,7 +21,7 @@ use Rattle.lms_commands.specs.Logs.{WorldCalls}
 use Rattle.lms_commands.specs.Watching.{BurnsWatched, FailsToNote, LeavesWatched, LogsUnwatched, SparesWatched, Watch}
 use Rattle.lms_commands.specs.Watching.{notes, watch_calls}
 use Rattle.lms_signature_commands.specs.Serving.{AnyState, Due, FailsGroup, FailsToServe, Group, LeavesGroup, LogsGroup}
-use Rattle.lms_signature_commands.specs.Serving.{LogsGroups, LogsServe, LogsServeFailed, ServesNone, UsesGroup}
+use Rattle.lms_signature_commands.specs.Serving.{LogsGroups, LogsServe, LogsServeFailed, StopsServing, UsesGroup}
 use Rattle.lms_signature_commands.specs.Serving.{answered}
 use Rattle.lms_commands.specs.declared.fault.Fault.{Fault}
 
@@ -238,7 +238,7 @@ groups_keep was (group ∷ earlier) due next before printed (between, mid, later
 
 none_served : {base old new : WorldCalls} (was : Keeps base old) (count : ℕ) (input rest : Option (List ℕ))
     (held : List ℕ) (fault : Fault) (due : Due) (before printed : List ℕ)
-    → ServesNone count input rest held fault due before printed old new → Keeps base new
+    → StopsServing count input rest held fault due before printed old new → Keeps base new
 none_served was count input rest held fault due before printed (inl (cause, cuts, is, same, none)) = keeps_as was none
 none_served was count input rest held fault due before printed (inr next) =
     groups_keep was next.groups due next.next before printed next.logs

@@ -5,7 +5,7 @@ use Rattle.std.proofs.Common.{refl, sym, subst, inl, inr, length, append-nil, ap
 use Rattle.lms_image.specs.Image.{IsImage, image_of}
 use Rattle.lms_batch.specs.Answers.{start_of}
 use Rattle.lms_batch.specs.declared.collector.Batch.{Batch}
-use Rattle.lms_lines.specs.AnswerLines.{answer_line, answer_text}
+use Rattle.lms_lines.specs.AnswerLines.{answer_line, answer_text, slots_of}
 use Rattle.lms_lines.specs.TextLines.{lines_of}
 use Rattle.lms_world.specs.Names.{Bytes}
 use Rattle.lms_world.specs.Events.{Acquired, Locked, Unlocked}
@@ -21,7 +21,7 @@ use Rattle.lms_commands.proofs.Turns.{whole_text}
 use Rattle.lms_signature_commands.specs.BatchLogs.{AnswersJobs}
 use Rattle.lms_signature_commands.specs.Serving.{AnswersGroup, AnyState, Due, FailsGroup, FailsToServe, FindsNoState}
 use Rattle.lms_signature_commands.specs.Serving.{Group, IsDue}
-use Rattle.lms_signature_commands.specs.Serving.{LeavesGroup, LogsGroup, LogsGroups, NoState, Only, ServesNone}
+use Rattle.lms_signature_commands.specs.Serving.{LeavesGroup, LogsGroup, LogsGroups, NoState, Only, StopsServing}
 use Rattle.lms_signature_commands.specs.Serving.{SparesGroup}
 use Rattle.lms_signature_commands.specs.Serving.{TriesLines, TriesPiece, UsesGroup, answered, having_used, tried}
 use Rattle.lms_signature_commands.specs.Serving.{whole_text as text_of_pieces}
@@ -29,7 +29,7 @@ use Rattle.lms_signature_commands.specs.ServingTurns.{FailsInTurns, PrintsInTurn
 use Rattle.lms_signature_commands.proofs.Serving.{both_groups, one_group}
 use Rattle.lms_signature_commands.proofs.ServingAlone.{group_alone}
 use Rattle.lms_signature_commands.proofs.ServingCalls.{serve_failed_keeps, serve_keeps, writes_none}
-use Rattle.lms_signature_commands.proofs.SigningTurns.{BatchTurn, IsUseOf, batch_lines, batch_turn, filled, slots_of}
+use Rattle.lms_signature_commands.proofs.SigningTurns.{BatchTurn, IsUseOf, batch_lines, batch_turn, filled}
 
 -- ---- what is read
 
@@ -538,7 +538,7 @@ module _ (state : Bytes) (before printed : List ℕ) (last whole : WorldCalls) (
       (one_group [] None AnyState next before printed locked last is) calls no_file
   fails_so input rest fault (inr (inr (inl some))) = by_fails some.fails
     where
-      by_fails : ServesNone (length (lines_of (text_of_pieces some.texts))) some.until rest some.held fault some.due
+      by_fails : StopsServing (length (lines_of (text_of_pieces some.texts))) some.until rest some.held fault some.due
           some.between printed some.mid last → PrintsInTurns before printed whole
       by_fails (inl (cause, cuts, is, same, none)) =
           all_in_turns (map answered some.texts) some.due state before printed last whole

@@ -20,8 +20,8 @@ use Rattle.lms_signature_commands.proofs.Using.{UsesSo, uses_so}
 -- a signature is written to its file, or its write fails
 module _ {message state out : Bytes} {c text : List ℕ} {answer : Writing} {earlier last : WorldCalls}
     (writes : WritesSignature c text out answer (Locked state Acquired ∷ Read message (Ok text) ∷ earlier) last) where
-  abbrev asked : List Event
-  asked = NodesRead writes.nodes ∷ Locked state Acquired ∷ Read message (Ok text) ∷ []
+  abbrev begun : List Event
+  begun = NodesRead writes.nodes ∷ Locked state Acquired ∷ Read message (Ok text) ∷ []
 
   abbrev uses : UsesSo 1 writes.signs.state
       (NodesRead writes.nodes ∷ Locked state Acquired ∷ Read message (Ok text) ∷ earlier)
@@ -29,25 +29,25 @@ module _ {message state out : Bytes} {c text : List ℕ} {answer : Writing} {ear
   uses = uses_so 1 writes.signs.state writes.signs.stores
 
   abbrev first : List Event
-  first = uses.calls ++ asked
+  first = uses.calls ++ begun
 
-  abbrev keeps : KeepsOnly writes.signs.trees writes.signs.until_stored writes.until_signed
-  keeps = keeps_only writes.signs.trees writes.signs.keeps
+  abbrev keeps : KeepsOnly writes.signs.to_keep writes.signs.until_stored writes.until_signed
+  keeps = keeps_only writes.signs.to_keep writes.signs.keeps
 
   abbrev all_calls : Adds earlier last
   all_calls = and_then (and_kept (record {
     calls = first;
-    are = uses.are ∙ sym (append_assoc uses.calls asked earlier);
+    are = uses.are ∙ sym (append_assoc uses.calls begun earlier);
   }) keeps) writes.writes
 
   signs : {random : Bytes} (old new : Held) → IsRandomizer random c → Told all_calls.calls old new
       → SignsMessage random message old new
   signs old new randomizer is =
-      let trees = writes.signs.trees in
-      let tell = uses.tell asked old (keeps.tell first old is.tell.0) in
+      let trees = writes.signs.to_keep in
+      let tell = uses.tell begun old (keeps.tell first old is.tell.0) in
       let kept = subst
       (λ (nodes : Option (List ℕ)). KeepsNodes trees nodes (nodes_after (keeps.calls ++ first) old.nodes))
-      (uses.nodes asked old.nodes) (keeps.nodes first old.nodes) in
+      (uses.nodes begun old.nodes) (keeps.nodes first old.nodes) in
       record {
         c = c;
         text = text;
@@ -65,53 +65,53 @@ module _ {message state out : Bytes} {c text : List ℕ} {answer : Writing} {ear
           within = uses.within;
           trees = trees;
           signed = writes.signs.signed;
-          stored = is.state ∙ (keeps.state first old.state ∙ (uses.state_is asked old.state ∙ uses.counted));
+          stored = is.state ∙ (keeps.state first old.state ∙ (uses.state_is begun old.state ∙ uses.counted));
           kept = subst (λ (nodes : Option (List ℕ)). KeepsNodes trees old.nodes nodes) (sym is.nodes) kept;
           watched = (uses.watch, tell.2, uses.admitted);
-          witness = is.witness ∙ (keeps.witness first old.witness ∙ uses.witness asked old.witness tell.2);
+          witness = is.witness ∙ (keeps.witness first old.witness ∙ uses.witness begun old.witness tell.2);
         };
       }
 
   no_other : (old : Held) → files_after (keeps.calls ++ first) old.files ≡ old.files
-  no_other old = keeps.files first old.files ∙ uses.files asked old.files
+  no_other old = keeps.files first old.files ∙ uses.files begun old.files
 
 pub signs_in_memory : SignsInMemory
 unfolding signs
-signs_in_memory random message state out before printed old new earlier now
+signs_in_memory asked before printed old new earlier now
     (c, text, last, randomizer, (delivers, line), calls) follows =
     let writes = delivers.writes in
     let all = and_then (and_then (all_calls writes) delivers.prints) calls in
     let is = until_printing (unlocked (told old new all follows)) in
-    let files = is.files ∙ ap (λ (files : Answers). (out, Ok writes.signature) ∷ files) (no_other writes old) in
-    (signs writes old new randomizer is, written_file out writes.signature old.files new.files files, line)
+    let files = is.files ∙ ap (λ (files : Answers). (asked.out, Ok writes.signature) ∷ files) (no_other writes old) in
+    (signs writes old new randomizer is, written_file asked.out writes.signature old.files new.files files, line)
 
 pub fails_to_sign_in_memory : FailsToSignInMemory
 unfolding signs
-fails_to_sign_in_memory random message state out before printed fault old new earlier now
+fails_to_sign_in_memory asked before printed fault old new earlier now
     (inl (bad, calls, same, no_hex)) follows =
     let stays = nothing_done old new calls follows in
     (inl (bad, no_hex, stays), λ other. ap (λ (h : Held). h.files) stays)
-fails_to_sign_in_memory random message state out before printed fault old new earlier now
+fails_to_sign_in_memory asked before printed fault old new earlier now
     (inr (inl (refused, calls, same, hex))) follows =
-    let is = told old new (record { calls = Read message (Err (read_cause fault)) ∷ []; are = calls }) follows in
+    let is = told old new (record { calls = Read asked.message (Err (read_cause fault)) ∷ []; are = calls }) follows in
     let stays = same_held old new is.files is.state is.may_fail is.in_use is.nodes is.nodes_fault is.witness in
-    let why = read_refused fault message old.files refused is.tell.1 in (
+    let why = read_refused fault asked.message old.files refused is.tell.1 in (
       inr (hex, ⊎_elim (λ memory. inl (memory, stays)) (λ device. inr (inl (device.0, device.1, stays))) why),
       λ other. is.files,
     )
-fails_to_sign_in_memory random message state out before printed fault old new earlier now
+fails_to_sign_in_memory asked before printed fault old new earlier now
     (inr (inr (inl (text, refused, calls, same, hex)))) follows =
-    let first = Locked state (lock_answer fault) ∷ Read message (Ok text) ∷ [] in
+    let first = Locked asked.state (lock_answer fault) ∷ Read asked.message (Ok text) ∷ [] in
     let is = told old new (record { calls = first; are = calls }) follows in
     let stays = same_held old new is.files is.state is.may_fail is.in_use is.nodes is.nodes_fault is.witness in
-    let never = lock_refused fault state (Read message (Ok text) ∷ []) old new refused is.tell.1 stays in
+    let never = lock_refused fault asked.state (Read asked.message (Ok text) ∷ []) old new refused is.tell.1 stays in
     (inr (hex, inr (inr (text, is.tell.0.1, inl never))), λ other. is.files)
-fails_to_sign_in_memory random message state out before printed fault old new earlier now
+fails_to_sign_in_memory asked before printed fault old new earlier now
     (inr (inr (inr (c, text, last, randomizer, inl (nodes, never, same), calls)))) follows =
-    let base : List Event = NodesRead nodes ∷ Locked state Acquired ∷ Read message (Ok text) ∷ [] in
+    let base : List Event = NodesRead nodes ∷ Locked asked.state Acquired ∷ Read asked.message (Ok text) ∷ [] in
     let still : AreStill base =
     record { files = λ f. refl; state = λ s. refl; nodes = λ n. refl; witness = λ w. refl; may_fail = λ a b is. is } in
-    let hex : IsHexOf hash_length random = (c, randomizer.0, randomizer.1) in
+    let hex : IsHexOf hash_length asked.randomizer = (c, randomizer.0, randomizer.1) in
     ⊎_elim
     (λ unread.
     let is = unwatched base still {before = earlier} refl calls old new follows fault unread in
@@ -120,7 +120,7 @@ fails_to_sign_in_memory random message state out before printed fault old new ea
     let is = unsigned_watched base still {before = earlier} refl calls old new follows 1 at.0 fault at.1 in
     (inr (hex, inr (inr (text, is.0.0.0.1, inr (is.0.0.1, inr (inl is.1.1))))), λ other. is.1.0))
     never
-fails_to_sign_in_memory random message state out before printed fault old new earlier now
+fails_to_sign_in_memory asked before printed fault old new earlier now
     (inr (inr (inr (c, text, last, randomizer, inr (at, inl (cause, writes, same)), calls)))) follows =
     let is = unlocked (told old new (and_then (all_calls writes) calls) follows) in
     let made = signs writes old new randomizer is in
@@ -128,14 +128,14 @@ fails_to_sign_in_memory random message state out before printed fault old new ea
       inr ((c, randomizer.0, randomizer.1), inr (inr (text, made.given, inr (made.free, end)))),
       λ other. absurd (other at),
     )
-fails_to_sign_in_memory random message state out before printed fault old new earlier now
+fails_to_sign_in_memory asked before printed fault old new earlier now
     (inr (inr (inr (c, text, last, randomizer, inr (at, inr (delivers, line)), calls)))) follows =
     let writes = delivers.writes in
     let all = and_then (and_then (all_calls writes) delivers.prints) calls in
     let is = until_printing (unlocked (told old new all follows)) in
     let made = signs writes old new randomizer is in
-    let files = is.files ∙ ap (λ (files : Answers). (out, Ok writes.signature) ∷ files) (no_other writes old) in
-    let end = inr (inr (at, (made, inr (written_file out writes.signature old.files new.files files)))) in (
+    let files = is.files ∙ ap (λ (files : Answers). (asked.out, Ok writes.signature) ∷ files) (no_other writes old) in
+    let end = inr (inr (at, (made, inr (written_file asked.out writes.signature old.files new.files files)))) in (
       inr ((c, randomizer.0, randomizer.1), inr (inr (text, made.given, inr (made.free, end)))),
       λ other. absurd (other at),
     )

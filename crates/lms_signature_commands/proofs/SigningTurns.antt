@@ -6,7 +6,6 @@ use Rattle.std.proofs.Common.{Err, ap, refl, subst, sym, inl, inr, arith}
 use Rattle.std.specs.Prelude.{Vec}
 use Rattle.std.specs.Global.{Global}
 use Rattle.std.specs.List.{list_any}
-use Rattle.std.specs.Option.{option_map}
 use Rattle.lms_hss.specs.declared.key.HssKey.{HssKey as KeyOfCode}
 use Rattle.lms_image.specs.Image.{IsImage}
 use Rattle.lms_batch.specs.Batches.{HoldsOnly, batch_of}
@@ -14,7 +13,7 @@ use Rattle.lms_batch.specs.Jobs.{JobText}
 use Rattle.lms_batch.specs.Answers.{IsAnswerTo, start_of}
 use Rattle.lms_batch.specs.declared.collector.Batch.{Batch}
 use Rattle.lms_batch.specs.declared.collector.Batch.TheVariants as batches
-use Rattle.lms_lines.specs.AnswerLines.{answer_line, answer_text, answers}
+use Rattle.lms_lines.specs.AnswerLines.{answer_line, answer_text, answers, slots_of}
 use Rattle.lms_blocks.specs.Writing.{AppendsFront}
 use Rattle.lms_world.specs.Names.{Bytes}
 use Rattle.lms_world.specs.Events.{Acquired, Event, Locked, NodesRead, Printing, Read, Unlocked, Writing}
@@ -26,8 +25,8 @@ use Rattle.lms_commands.specs.Histories.{written_in}
 use Rattle.lms_commands.specs.Watching.{Watch}
 use Rattle.lms_commands.specs.Logs.{KeyState, WorldCalls}
 use Rattle.lms_signature_commands.specs.SignLogs.{DeliversSignature, index_line, LogsNotSigned, LogsSign}
-use Rattle.lms_signature_commands.specs.SignLogs.{LogsSignFailed}
-use Rattle.lms_signature_commands.specs.SignLogs.{LogsUndelivered, WritesSignature}
+use Rattle.lms_signature_commands.specs.SignLogs.{LogsSignFailed, LogsUndelivered, Signing, WritesSignature}
+use Rattle.lms_signature_commands.specs.SignLogs.{until_locked}
 use Rattle.lms_commands.specs.declared.fault.Fault.{Fault}
 use Rattle.lms_commands.proofs.Turns.{Quietly, idle_as, is_kept, keeping, kept_calls, left_watched, no_text, one_more}
 use Rattle.lms_commands.proofs.Turns.{unsigned, unwatched, used, whole_text}
@@ -56,7 +55,7 @@ module _ (old : WorldCalls) (quiet : list_any hands_out old ≡ false) (none : k
       (made, refl, omega (arith, signs.next), omega (arith, signs.next), tt) in
       let stored = used (NodesRead writes.nodes ∷ old) quiet none unseen 1 signs.state signs.until_stored signs.stores
       (omega arith) (one ∷ []) are in
-      let kept = keeping signs.trees signs.until_stored writes.until_signed signs.keeps stored.0 in (
+      let kept = keeping signs.to_keep signs.until_stored writes.until_signed signs.keeps stored.0 in (
         _,
         one_more new _ refl writes.writes kept.0,
         ap written_in writes.writes ∙ ap (λ (texts : List (List ℕ)). writes.signature ∷ texts)
@@ -97,12 +96,11 @@ unlocked : (before printed : List ℕ) (log new : WorldCalls) → new ≡ Unlock
 unlocked before printed log new calls (turn, signatures, is, (written, line)) =
     (turn, signatures, one_more new Unlocked refl calls is, (ap written_in calls ∙ written, line))
 
-pub sign_turn : (random message state out : Bytes) (before printed : List ℕ) (whole : WorldCalls)
-    → LogsSign random message state out before printed [] whole
-    → Delivers before printed whole
-sign_turn random message state out before printed whole (c, text, last, decoded, (delivers, line), calls) =
+pub sign_turn : (asked : Signing) (before printed : List ℕ) (whole : WorldCalls)
+    → LogsSign asked before printed [] whole → Delivers before printed whole
+sign_turn asked before printed whole (c, text, last, decoded, (delivers, line), calls) =
     unlocked before printed last whole calls
-    (delivered (Locked state Acquired ∷ Read message (Ok text) ∷ []) refl refl refl refl c text out before printed last
+    (delivered (until_locked asked text []) refl refl refl refl c text asked.out before printed last
     delivers (whole_text before printed (index_line delivers.writes) line))
 
 nothing_delivered : (before printed : List ℕ) (new calls : WorldCalls) → new ≡ calls → kept_calls calls ≡ []
@@ -111,20 +109,19 @@ nothing_delivered : (before printed : List ℕ) (new calls : WorldCalls) → new
 nothing_delivered before printed new calls is none quiet no_file same =
     (StoresNothing, [], idle_as new calls is none quiet, (ap written_in is ∙ no_file, inl same))
 
-pub sign_failed_turn : (random message state out : Bytes) (before printed : List ℕ) (fault : Fault) (whole : WorldCalls)
-    → LogsSignFailed random message state out before printed fault [] whole → Delivers before printed whole
-sign_failed_turn random message state out before printed fault whole (inl (bad, calls, same, no_hex)) =
+pub sign_failed_turn : (asked : Signing) (before printed : List ℕ) (fault : Fault) (whole : WorldCalls)
+    → LogsSignFailed asked before printed fault [] whole → Delivers before printed whole
+sign_failed_turn asked before printed fault whole (inl (bad, calls, same, no_hex)) =
     nothing_delivered before printed whole _ calls refl refl refl same
-sign_failed_turn random message state out before printed fault whole (inr (inl (refused, calls, same, hex))) =
+sign_failed_turn asked before printed fault whole (inr (inl (refused, calls, same, hex))) =
     nothing_delivered before printed whole _ calls refl refl refl same
-sign_failed_turn random message state out before printed fault whole
+sign_failed_turn asked before printed fault whole
     (inr (inr (inl (text, refused, calls, same, hex)))) =
     nothing_delivered before printed whole _ calls refl refl refl same
-sign_failed_turn random message state out before printed fault whole
+sign_failed_turn asked before printed fault whole
     (inr (inr (inr (c, text, last, decoded, never, calls)))) =
     unlocked before printed last whole calls
-    (undelivered (Locked state Acquired ∷ Read message (Ok text) ∷ []) refl refl refl refl c text out before printed
-    fault last never)
+    (undelivered (until_locked asked text []) refl refl refl refl c text asked.out before printed fault last never)
 
 -- ---- `batch`
 
@@ -134,11 +131,6 @@ IsUseOf zero state turn = turn ≡ StoresNothing
 IsUseOf (suc n) state turn =
     (text : List ℕ) × (watch : Watch) × IsImage text state.key state.index state.openings state.burnt
     × (turn ≡ Uses (suc n) state text watch)
-
--- the slots of a batch
-abbrev pub slots_of : Batch → List (Option (List ℕ))
-slots_of (batches.Complete start signatures) = map (λ v. Some v.items) signatures.items
-slots_of (batches.Partial start slots) = map (option_map (λ v. v.items)) slots.items
 
 -- the signatures in slots, at one index after another
 abbrev pub filled : KeyOfCode → ℕ → List (Option (List ℕ)) → List Signature
@@ -156,9 +148,7 @@ answer_lines key index (Some bytes ∷ slots) =
 
 pub batch_lines : (key : KeyOfCode) (batch : Batch)
     → answer_text batch ≡ signature_lines (filled key (start_of batch) (slots_of batch))
-batch_lines key (batches.Complete start signatures) =
-    answer_lines key start (slots_of (batches.Complete start signatures))
-batch_lines key (batches.Partial start slots) = answer_lines key start (slots_of (batches.Partial start slots))
+batch_lines key batch = answer_lines key (start_of batch) (slots_of batch)
 
 in_slots : (key : KeyOfCode) (start : ℕ) (jobs : List JobText) (slots : List (Option (List ℕ)))
     → HoldsOnly (batch_of key start jobs) slots

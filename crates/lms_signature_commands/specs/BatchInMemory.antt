@@ -24,8 +24,8 @@ abbrev pub CountsIndices : ℕ → KeyState → Texts → Texts → Type 0
 CountsIndices zero state old new = new ≡ old
 CountsIndices (suc n) state old new = new ≡ only (image_using (suc n) state)
 
--- the jobs of an input are signed as a batch by the next indices of the state's key, which its witness
--- does not refuse, and says afterwards; no file and no nodes are changed
+-- the jobs of an input are signed as a batch, perhaps not all, by the next indices of the state's key. The witness, if
+-- there is one, does not refuse the state, and says afterwards that they are used; no file and no nodes are changed
 pub record SignsJobs (input rest : Option (List ℕ)) (batch : Batch) (old new : Held) : Type 0 where
   pub free : old.in_use ≡ false
   pub state : KeyState

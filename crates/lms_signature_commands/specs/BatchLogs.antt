@@ -15,7 +15,7 @@ use Rattle.lms_commands.specs.Watching.{LeavesWatched, LogsUnwatched, UnsignedWa
 use Rattle.lms_commands.specs.declared.fault.Fault.{Fault}
 use Rattle.lms_commands.specs.declared.fault.Fault.TheVariants.{BadWorkers, BadJob, TooManyJobs, Partial, WriteOutput}
 
--- the use of n indices is stored for certain, and said by the witness; of none, nothing is written
+-- the use of n indices is stored for certain, and said by the witness, if there is one; of none, nothing is written
 abbrev pub UsesAll : ℕ → KeyState → WorldCalls → WorldCalls → Type 0
 UsesAll zero state old new = LeavesWatched state old new
 UsesAll (suc n) state old new = UsesWatched (suc n) state old new
@@ -37,8 +37,7 @@ AreUnread input fault =
     ⊎ (((line : ℕ) × (fault ≡ BadJob line) × IfSome input (λ text. IsFirstBadLine text line))
     ⊎ ((fault ≡ TooManyJobs) × IfSome input HasTooManyJobs))
 
--- jobs of a state that was opened are not signed; where their lines are not read, nothing is
--- written
+-- a state is read, and the jobs of an input are not signed; where their lines are not read, nothing is written
 abbrev pub LogsJobsUnsigned : Option (List ℕ) → Option (List ℕ) → Fault → KeyState → WorldCalls
     → WorldCalls → Type 0
 LogsJobsUnsigned input rest fault state old new =
@@ -61,7 +60,7 @@ pub record AnswersJobs (input rest : Option (List ℕ)) (before : List ℕ) (bat
   pub signs : LogsBatch input rest batch old until_signed
   pub prints : new ≡ after (Printing before ∷ []) until_signed
 
--- all lines of the jobs that were signed are printed, so many of so many
+-- all lines of the jobs that were signed are printed, for `count` of the `asked` jobs
 abbrev pub LogsAnswers : Option (List ℕ) → Option (List ℕ) → List ℕ → List ℕ → ℕ → ℕ → WorldCalls
     → WorldCalls → Type 0
 LogsAnswers input rest before printed count asked old new =

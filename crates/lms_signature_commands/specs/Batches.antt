@@ -13,7 +13,7 @@ use Rattle.lms_commands.specs.declared.fault.Fault.{Fault}
 use Rattle.lms_signature_commands.specs.BatchLogs.{LogsBatch, LogsJobsUnsigned}
 use Rattle.lms_commands.specs.declared.fault.Fault.TheVariants.{WriteOutput, Partial}
 
--- a batch's lines are not all printed, or they are and not all jobs were signed
+-- a batch's lines are printed, and not all jobs were signed; or a beginning at most of them is printed
 abbrev pub IsUnprinted : Batch → ℕ → Option (List ℕ) → Option (List ℕ) → Fault → Type 0
 IsUnprinted batch asked before after fault =
     ((fault ≡ Partial (signatures_in batch) asked)

@@ -40,7 +40,7 @@ SignsNoGroup text fault due old new =
     ⊎ ((rest : Option (List ℕ)) × (jobs : List JobText) × ReadsJobs (Some text) rest jobs
     × SignsNone (length jobs) fault old new)))
 
--- what a group does there
+-- what a group does in a world in memory, which is answered or has this fault
 abbrev pub GroupInMemory : List ℕ → Option Fault → Due → Due → List ℕ → List ℕ → Held → Held → Type 0
 GroupInMemory text None due next before printed old new =
     SignsGroup text due next before printed old new
@@ -65,7 +65,7 @@ TriesInMemory = (state : Bytes) (groups : List Group) (next : Due) (before print
     → Follows (Some old) earlier (Some new) now
     → (old.in_use ≡ false) × GroupsInMemory groups AnyState next before printed old new
 
--- at status 0 these are all lines that it read
+-- at status 0 these groups are all lines that it read, and each is answered
 abbrev pub ServesInMemory : Type 0
 ServesInMemory = (state workers : Bytes) (input rest : Option (List ℕ))
     (before printed : List ℕ) (old new : Held) (earlier now : WorldCalls)

@@ -97,7 +97,7 @@ LeavesGroup text fault state old new =
     ⊎ ((rest : Option (List ℕ)) × (jobs : List JobText) × ReadsJobs (Some text) rest jobs
     × (1 ≤ length jobs) × SparesWatched (length jobs) fault state old new)
 
--- their indices are used, or perhaps, and they are not all answered
+-- the indices of these lines are used, or perhaps, and the lines are not all answered
 abbrev pub UsesGroup : List ℕ → Fault → KeyState → List ℕ → List ℕ → WorldCalls → WorldCalls → Type 0
 UsesGroup text fault state before printed old new =
     ((rest : Option (List ℕ)) × (jobs : List JobText) × ReadsJobs (Some text) rest jobs
@@ -132,7 +132,7 @@ LogsGroup text None due next before printed old new = AnswersGroup text due next
 LogsGroup text (Some fault) due next before printed old new =
     FailsGroup text fault due next before printed old new
 
--- those for one group after another, the newest first
+-- the calls for one group after another, the newest first
 abbrev pub LogsGroups : List Group → Due → Due → List ℕ → List ℕ → WorldCalls → WorldCalls → Type 0
 LogsGroups [] due next before printed old new = (printed ≡ before) × (new ≡ old) × (next ≡ due)
 LogsGroups (group ∷ earlier) due next before printed old new =
@@ -148,8 +148,9 @@ pub record IsFront (n : ℕ) (text front : List ℕ) : Type 0 where
   pub ends : 1 ≤ length (lines_of front) → EndsLine front
   pub all : length (lines_of front) < n → HasNoEnd rest
 
--- why lines are not all answered: as `batch` says; but where too few indices are left, and some,
--- the first lines get these, and then none is left
+-- the groups that are tried for lines that are not all answered: all lines, as `batch` does; and where too few indices
+-- are left for them, though not none, the first lines, which get these. The fault is then that none is left, or the one
+-- that kept the first lines from being answered
 abbrev pub TriesLines : List ℕ → Fault → List Group → Type 0
 TriesLines text fault groups =
     ((groups ≡ tried text fault ∷ []) × ((left : ℕ) → fault ≢ Exhausted (suc left)))
@@ -170,8 +171,8 @@ FailsLines text fault due next before printed old new =
 abbrev pub numbered : ℕ → ℕ → ℕ
 numbered before line = min (before + line) (2 ^ 64 - 1)
 
--- the same of a piece of the input; where a line is no job line, those before it are answered, if
--- there are any, and it has its number in the whole input
+-- the groups that are tried for a piece of the input that is not all answered; where a line is no job line, those
+-- before it are answered, if there are any, and it has its number in the whole input
 abbrev pub TriesPiece : ℕ → List ℕ → Fault → List Group → Type 0
 TriesPiece before text fault groups =
     (TriesLines text fault groups × ((line : ℕ) → fault ≢ BadJob line))
@@ -181,8 +182,8 @@ TriesPiece before text fault groups =
     × (((fault ≡ BadJob (numbered before line)) × (groups ≡ answered front ∷ first))
     ⊎ ((more : List Group) × TriesLines front fault more × (groups ≡ more ++ first))))))
 
--- what is read of an input, and what it is cut into: a piece whose lines are answered, as far as the
--- calls say, and what is still held
+-- bytes of an input are read, and with those that were held cut into a piece, whose lines are answered, and what is
+-- held then
 pub record ServesPiece (input rest : Option (List ℕ)) (held left : List ℕ) (lines : ℕ) (is_last : Bool)
     (due next : Due) (before printed : List ℕ) (old new : WorldCalls) : Type 0 where
   pub text : List ℕ
@@ -201,7 +202,7 @@ unread_fault before (jobs.BadJob line) = BadJob (numbered before line)
 unread_fault before jobs.TooManyJobs = TooManyJobs
 unread_fault before jobs.OutOfMemory = OutOfMemory
 
--- a piece is cut, and its lines are not all answered
+-- a piece is cut so, before which `count` lines came, and its lines are not all answered
 pub record TriesNext (count : ℕ) (input rest : Option (List ℕ)) (held : List ℕ) (fault : Fault)
     (due : Due) (before printed : List ℕ) (old new : WorldCalls) : Type 0 where
   pub text : List ℕ
@@ -217,11 +218,11 @@ pub record TriesNext (count : ℕ) (input rest : Option (List ℕ)) (held : List
   pub next : Due
   pub logs : LogsGroups groups due next before printed old new
 
--- why no more lines are answered, where so many were: none are read, and nothing is called; or those
--- that are read are not all answered
-abbrev pub ServesNone : ℕ → Option (List ℕ) → Option (List ℕ) → List ℕ → Fault → Due → List ℕ
+-- why serving stops, where so many lines were answered before: no piece is cut off what is read, and
+-- nothing is called; or one is, and its lines are not all answered
+abbrev pub StopsServing : ℕ → Option (List ℕ) → Option (List ℕ) → List ℕ → Fault → Due → List ℕ
     → List ℕ → WorldCalls → WorldCalls → Type 0
-ServesNone count input rest held fault due before printed old new =
+StopsServing count input rest held fault due before printed old new =
     ((cause : JobsFault) × CutsNone held input rest cause × (fault ≡ unread_fault count cause)
     × (printed ≡ before) × (new ≡ old))
     ⊎ TriesNext count input rest held fault due before printed old new
@@ -277,7 +278,7 @@ pub record AnswersSome (input rest : Option (List ℕ)) (fault : Fault) (before 
   pub mid : WorldCalls
   pub due : Due
   pub answers : AnswersPieces input until texts held due before between old mid
-  pub fails : ServesNone (length (lines_of (whole_text texts))) until rest held fault due between printed
+  pub fails : StopsServing (length (lines_of (whole_text texts))) until rest held fault due between printed
       mid new
 
 -- why not all of an input is answered under a lock: the state is not opened; or memory for its trees

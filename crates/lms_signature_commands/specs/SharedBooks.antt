@@ -11,25 +11,25 @@ use Rattle.lms_commands.specs.declared.fault.Fault.{Fault}
 
 -- the lines of an input were signed, and the desk counts that
 abbrev pub IsSignedAt : SharedState → Option (List ℕ) → Option (List ℕ) → SignedJobs → Sums → Type 0
-IsSignedAt shared before after signed counted =
-    IsSigned shared before after (sums 0 0 0) counted signed
+IsSignedAt shared input rest signed counted =
+    IsSigned shared input rest (sums 0 0 0) counted signed
 
 -- they were not, and the desk counts that
 abbrev pub IsRefusedAt : SharedState → Option (List ℕ) → Option (List ℕ) → Fault → Sums → Type 0
-IsRefusedAt shared before after fault counted =
+IsRefusedAt shared input rest fault counted =
     (lines : LinesFault) × (fault ≡ of_lines lines)
-    × IsUnsigned shared before after (sums 0 0 0) counted lines
+    × IsUnsigned shared input rest (sums 0 0 0) counted lines
 
 -- the same, of the list of all desks
 abbrev pub IsSignedAtDesk : SharedState → Option (List ℕ) → Option (List ℕ) → SignedJobs → List Sums
     → Type 0
-IsSignedAtDesk shared before after signed desks =
-    (counted : Sums) × (desks ≡ counted ∷ []) × IsSignedAt shared before after signed counted
+IsSignedAtDesk shared input rest signed desks =
+    (counted : Sums) × (desks ≡ counted ∷ []) × IsSignedAt shared input rest signed counted
 
 abbrev pub IsRefusedAtDesk : SharedState → Option (List ℕ) → Option (List ℕ) → Fault → List Sums
     → Type 0
-IsRefusedAtDesk shared before after fault desks =
-    (counted : Sums) × (desks ≡ counted ∷ []) × IsRefusedAt shared before after fault counted
+IsRefusedAtDesk shared input rest fault desks =
+    (counted : Sums) × (desks ≡ counted ∷ []) × IsRefusedAt shared input rest fault counted
 
 abbrev pub at_one_desk : BookState → SharedState
 at_one_desk book = record { book = book; desks = 1 }
@@ -37,12 +37,12 @@ at_one_desk book = record { book = book; desks = 1 }
 -- the lines were signed, and this book is left
 abbrev pub IsSignedByBook : BookState → Option (List ℕ) → Option (List ℕ) → SignedJobs → BookState
     → Type 0
-IsSignedByBook book before after signed left =
-    (counted : Sums) × IsSignedAt (at_one_desk book) before after signed counted
+IsSignedByBook book input rest signed left =
+    (counted : Sums) × IsSignedAt (at_one_desk book) input rest signed counted
     × IsSettled book counted left
 
 -- they were not, and this book is left
 abbrev pub IsRefusedBy : BookState → Option (List ℕ) → Option (List ℕ) → Fault → BookState → Type 0
-IsRefusedBy book before after fault left =
-    (counted : Sums) × IsRefusedAt (at_one_desk book) before after fault counted
+IsRefusedBy book input rest fault left =
+    (counted : Sums) × IsRefusedAt (at_one_desk book) input rest fault counted
     × IsSettled book counted left

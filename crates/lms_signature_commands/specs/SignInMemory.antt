@@ -14,12 +14,12 @@ use Rattle.lms_commands.specs.InMemory.{FailsToLock, FailsToWatch, IsWatched, Ke
 use Rattle.lms_commands.specs.InMemory.{WasState, WritesFile, noted}
 use Rattle.lms_texts.specs.Options.{IsHexOf}
 use Rattle.lms_commands.specs.Logs.{KeyState, WorldCalls, image_using}
-use Rattle.lms_signature_commands.specs.SignLogs.{IsRandomizer, LogsSign, LogsSignFailed}
+use Rattle.lms_signature_commands.specs.SignLogs.{IsRandomizer, LogsSign, LogsSignFailed, Signing}
 use Rattle.lms_commands.specs.declared.fault.Fault.{Fault}
 use Rattle.lms_commands.specs.declared.fault.Fault.TheVariants.{BadRandom, OutOfMemory, ReadInput, WriteOutput}
 
--- the next index of the state's key is used, and signs; its witness does not refuse that, and says so
--- afterwards
+-- the next index of the state's key is used, and signs; the witness, if there is one, does not refuse the state, and
+-- says afterwards that it is used
 pub record UsesIndex (nodes : Option (List ℕ)) (random message : List ℕ) (index : ℕ)
     (signature : List ℕ) (old new : Held) : Type 0 where
   pub state : KeyState
@@ -49,12 +49,10 @@ pub record SignsMessage (random message : Bytes) (old new : Held) : Type 0 where
 -- of a world in memory, `sign` at status 0 signs its message, writes the signature to its file, and
 -- prints the index
 abbrev pub SignsInMemory : Type 0
-SignsInMemory = (random message state out : Bytes) (before printed : List ℕ)
-    (old new : Held) (earlier now : WorldCalls)
-    → LogsSign random message state out before printed earlier now
-    → Follows (Some old) earlier (Some new) now
-    → (signs : SignsMessage random message old new)
-    × WritesFile out signs.signature old.files new.files
+SignsInMemory = (asked : Signing) (before printed : List ℕ) (old new : Held) (earlier now : WorldCalls)
+    → LogsSign asked before printed earlier now → Follows (Some old) earlier (Some new) now
+    → (signs : SignsMessage asked.randomizer asked.message old new)
+    × WritesFile asked.out signs.signature old.files new.files
     × (printed ≡ before ++ number_line (codes "index") signs.index)
 
 -- why a message is not signed, or its signature not delivered, in the order in which that is found
@@ -73,11 +71,10 @@ FailsToSign random message out fault old new =
 
 -- of a world in memory, this is why `sign` fails; no file is changed but at `WriteOutput`
 abbrev pub FailsToSignInMemory : Type 0
-FailsToSignInMemory = (random message state out : Bytes) (before printed : List ℕ) (fault : Fault)
+FailsToSignInMemory = (asked : Signing) (before printed : List ℕ) (fault : Fault)
     (old new : Held) (earlier now : WorldCalls)
-    → LogsSignFailed random message state out before printed fault earlier now
-    → Follows (Some old) earlier (Some new) now
-    → FailsToSign random message out fault old new
+    → LogsSignFailed asked before printed fault earlier now → Follows (Some old) earlier (Some new) now
+    → FailsToSign asked.randomizer asked.message asked.out fault old new
     × (fault ≢ WriteOutput → new.files ≡ old.files)
 
 -- what is kept of the key's trees is right after a message was signed, where it was before

@@ -15,19 +15,20 @@ use Rattle.lms_texts.specs.Options.{IsHexOf}
 use Rattle.lms_spec.specs.HashLength.{hash_length}
 use Rattle.lms_commands.specs.declared.fault.Fault.{Fault}
 use Rattle.lms_commands.specs.declared.fault.Fault.TheVariants.{BadRandom, WriteOutput}
+use Rattle.lms_signature_commands.specs.declared.sign.SignRequest.{SignRequest}
 
 -- the use of a state's next index is stored for certain, and said by its witness, where it has one,
 -- and then trees may be kept; the signature is one by that index of its key: the standard's, where the
 -- nodes that were read are right or none were
-pub record LogsSigned (nodes : Option (List ℕ)) (random message : List ℕ) (index : ℕ)
+pub record LogsSigned (nodes_text : Option (List ℕ)) (random message : List ℕ) (index : ℕ)
     (signature : List ℕ) (old new : WorldCalls) : Type 0 where
   pub state : KeyState
-  pub trees : Option Way
+  pub to_keep : Option Way
   pub until_stored : WorldCalls
   pub next : index ≡ state.index
   pub stores : UsesWatched 1 state old until_stored
-  pub keeps : LogsKeeping trees until_stored new
-  pub signed : IsSignedByText nodes state.key index random message signature trees
+  pub keeps : LogsKeeping to_keep until_stored new
+  pub signed : IsSignedByText nodes_text state.key index random message signature to_keep
 
 -- why a message is not signed
 abbrev pub LogsNotSigned : Fault → WorldCalls → WorldCalls → Type 0
@@ -46,7 +47,7 @@ pub record WritesSignature (random message : List ℕ) (out : Bytes) (answer : W
       (after (NodesRead nodes ∷ []) old) until_signed
   pub writes : new ≡ after (Written out signature answer ∷ []) until_signed
 
--- then that index begins to be printed, where this was printed before
+-- the signature is written so, and then an output begins to be printed to, where this was printed before
 pub record DeliversSignature (random message : List ℕ) (out : Bytes) (before : List ℕ)
     (old new : WorldCalls) : Type 0 where
   pub until_written : WorldCalls
@@ -75,51 +76,65 @@ LogsUndelivered random message out before printed fault old new =
 abbrev pub IsRandomizer : Bytes → List ℕ → Type 0
 IsRandomizer text c = (length c ≡ hash_length) × (decode_of text ≡ Ok c)
 
--- all calls of `sign`: the message is read, and then from the lock on until that is handed back;
--- that index is printed
-abbrev pub LogsSign : Bytes → Bytes → Bytes → Bytes → List ℕ → List ℕ → WorldCalls → WorldCalls
-    → Type 0
-LogsSign random message state out before printed old new =
-    (c text : List ℕ) × (last : WorldCalls) × IsRandomizer random c
-    × ((delivers : DeliversSignature c text out before
-    (after (Read message (Ok text) ∷ Locked state Acquired ∷ []) old) last)
+-- what `sign` is asked for: the text of a randomizer, and the names of the files of the message, the
+-- key's state and the signature
+pub record Signing : Type 0 where
+  pub randomizer : Bytes
+  pub message : Bytes
+  pub state : Bytes
+  pub out : Bytes
+
+-- what a request asks for
+abbrev pub asked_of : SignRequest → Signing
+asked_of request = record {
+  randomizer = request.random.now;
+  message = request.message.now;
+  state = request.state.now;
+  out = request.out.now;
+}
+
+-- the calls up to where the message is read and the lock is acquired
+abbrev pub until_locked : Signing → List ℕ → WorldCalls → WorldCalls
+until_locked asked text old = after (Read asked.message (Ok text) ∷ Locked asked.state Acquired ∷ []) old
+
+-- all calls of `sign`: the message is read, and then from the lock on until that is handed back; the index that signed
+-- is printed
+abbrev pub LogsSign : Signing → List ℕ → List ℕ → WorldCalls → WorldCalls → Type 0
+LogsSign asked before printed old new =
+    (c text : List ℕ) × (last : WorldCalls) × IsRandomizer asked.randomizer c
+    × ((delivers : DeliversSignature c text asked.out before (until_locked asked text old) last)
     × (printed ≡ before ++ index_line delivers.writes))
     × (new ≡ after (Unlocked ∷ []) last)
 
 -- the option spells no randomizer, and no call is made
-abbrev pub HasNoRandomizer : Bytes → List ℕ → List ℕ → Fault → WorldCalls → WorldCalls → Type 0
-HasNoRandomizer random before printed fault old new =
-    (fault ≡ BadRandom) × (new ≡ old) × (printed ≡ before) × ¬ IsHexOf hash_length random
+abbrev pub HasNoRandomizer : Signing → List ℕ → List ℕ → Fault → WorldCalls → WorldCalls → Type 0
+HasNoRandomizer asked before printed fault old new =
+    (fault ≡ BadRandom) × (new ≡ old) × (printed ≡ before) × ¬ IsHexOf hash_length asked.randomizer
 
 -- the message is not read
-abbrev pub ReadsNoMessage : Bytes → Bytes → List ℕ → List ℕ → Fault → WorldCalls → WorldCalls
-    → Type 0
-ReadsNoMessage random message before printed fault old new =
-    IsReadRefused fault × (new ≡ after (Read message (Err (read_cause fault)) ∷ []) old)
-    × (printed ≡ before) × IsHexOf hash_length random
+abbrev pub ReadsNoMessage : Signing → List ℕ → List ℕ → Fault → WorldCalls → WorldCalls → Type 0
+ReadsNoMessage asked before printed fault old new =
+    IsReadRefused fault × (new ≡ after (Read asked.message (Err (read_cause fault)) ∷ []) old)
+    × (printed ≡ before) × IsHexOf hash_length asked.randomizer
 
 -- the lock is not acquired
-abbrev pub LocksNoState : Bytes → Bytes → Bytes → List ℕ → List ℕ → Fault → WorldCalls → WorldCalls
-    → Type 0
-LocksNoState random message state before printed fault old new =
+abbrev pub LocksNoState : Signing → List ℕ → List ℕ → Fault → WorldCalls → WorldCalls → Type 0
+LocksNoState asked before printed fault old new =
     (text : List ℕ) × IsLockRefused fault
-    × (new ≡ after (Read message (Ok text) ∷ Locked state (lock_answer fault) ∷ []) old)
-    × (printed ≡ before) × IsHexOf hash_length random
+    × (new ≡ after (Read asked.message (Ok text) ∷ Locked asked.state (lock_answer fault) ∷ []) old)
+    × (printed ≡ before) × IsHexOf hash_length asked.randomizer
 
 -- no signature is delivered under the lock
-abbrev pub DeliversNone : Bytes → Bytes → Bytes → Bytes → List ℕ → List ℕ → Fault → WorldCalls
-    → WorldCalls → Type 0
-DeliversNone random message state out before printed fault old new =
-    (c text : List ℕ) × (last : WorldCalls) × IsRandomizer random c
-    × LogsUndelivered c text out before printed fault
-    (after (Read message (Ok text) ∷ Locked state Acquired ∷ []) old) last
+abbrev pub DeliversNone : Signing → List ℕ → List ℕ → Fault → WorldCalls → WorldCalls → Type 0
+DeliversNone asked before printed fault old new =
+    (c text : List ℕ) × (last : WorldCalls) × IsRandomizer asked.randomizer c
+    × LogsUndelivered c text asked.out before printed fault (until_locked asked text old) last
     × (new ≡ after (Unlocked ∷ []) last)
 
 -- all calls of `sign` where it fails
-abbrev pub LogsSignFailed : Bytes → Bytes → Bytes → Bytes → List ℕ → List ℕ → Fault → WorldCalls
-    → WorldCalls → Type 0
-LogsSignFailed random message state out before printed fault old new =
-    HasNoRandomizer random before printed fault old new
-    ⊎ (ReadsNoMessage random message before printed fault old new
-    ⊎ (LocksNoState random message state before printed fault old new
-    ⊎ DeliversNone random message state out before printed fault old new))
+abbrev pub LogsSignFailed : Signing → List ℕ → List ℕ → Fault → WorldCalls → WorldCalls → Type 0
+LogsSignFailed asked before printed fault old new =
+    HasNoRandomizer asked before printed fault old new
+    ⊎ (ReadsNoMessage asked before printed fault old new
+    ⊎ (LocksNoState asked before printed fault old new
+    ⊎ DeliversNone asked before printed fault old new))

@@ -17,14 +17,14 @@ use lms_commands::{
     Fault, Resources, Witness, discard, image_read, lock_state, note, open_watched,
 };
 use lms_hss::Progress;
-use lms_lines::{SignedJobs, count_signatures, read_and_sign_by, write_batch};
+use lms_lines::{SignedJobs, count_signatures, read_and_sign, write_batch};
 use lms_shared_book::{Blanks, BookLedger, Desk, SharedBook};
 use lms_texts::workers_from;
 use lms_world::{Printer, World};
 use std::io::{Read, Write};
 use std::marker::Brand;
 use std::sync::Wait;
-use std::sync::ledger::Blank;
+use std::sync::ledger::{Blank, Ledger};
 use std::thread::Threads;
 
 /// Signs the job lines of the whole input with the next indices of a state's key, one index a job,
@@ -70,8 +70,8 @@ pub fn sign_jobs<W: World, I: Read, O: Write>(
     done
 }
 
-/// The same, under the lock, by these trees. The answers are printed after the state's store was put
-/// back.
+/// As `sign_jobs`, under the lock, by these trees. The answers are printed after the state's store
+/// was put back.
 fn sign_locked<W: World, I: Read, O: Write>(
     resources: &Resources<impl Threads + Wait + Sync, impl Progress>,
     world: &mut W,
@@ -92,7 +92,7 @@ fn sign_locked<W: World, I: Read, O: Write>(
     ensures follows { Follows (W.memory world.old) (W.events world.old)
         (W.memory world.new) (W.events world.new) }
 {
-    let signed = sign_by_state(resources, world, lock, workers, trees, input)?;
+    let signed = sign_stored(resources, world, lock, workers, trees, input)?;
     world.begin_printing(output);
     print_answers(&signed, output)
 }
@@ -120,8 +120,10 @@ pub(crate) fn print_answers<O: Write>(signed: &SignedJobs, output: &mut O) -> Re
     Ok(())
 }
 
-/// Signs job lines with the next indices of the key of a lock's state.
-fn sign_by_state<W: World, I: Read>(
+/// Signs job lines with the next indices of the key of a lock's state, which it opens with its
+/// witness and puts back; then it has the witness say that they are used. Faults as `open_watched`
+/// and `sign_opened`.
+fn sign_stored<W: World, I: Read>(
     resources: &Resources<impl Threads + Wait + Sync, impl Progress>,
     world: &mut W,
     lock: &W::Lock,
@@ -143,8 +145,10 @@ fn sign_by_state<W: World, I: Read>(
     sign_opened(resources, world, lock, book, witness, workers, trees, input)
 }
 
-/// Signs job lines by a book that was just opened with its witness, puts its store back, and has the
-/// witness say so. Where the witness can't be written, what was signed is let go.
+/// Signs job lines by a book that was just opened with its witness, puts its store back, and has
+/// the witness say that their indices are used. `WriteWitnessBurnt` where that may not have been
+/// written, and what was signed is let go; else faults as `sign_jobs`, from the reading of the
+/// input on.
 pub(crate) fn sign_opened<W: World, I: Read>(
     resources: &Resources<impl Threads + Wait + Sync, impl Progress>,
     world: &mut W,
@@ -203,8 +207,9 @@ fn sign_by_book<S: StateStore, I: Read>(
     sign_shared::<Brand, Brand, Brand, S, I>(resources, book, blanks, workers, trees, input)
 }
 
-/// The same, with the ledgers of the desk. Where memory for the desk is refused, no line is read.
-fn sign_shared<E: BookLedger, G: BookLedger, B: BookLedger, S: StateStore, I: Read>(
+/// As `sign_by_book`, with the blanks of which the desk's ledgers are made. `OutOfMemory` also
+/// where memory for the desk is refused, and no line is read then.
+fn sign_shared<E: BookLedger, G: Ledger, B: Ledger, S: StateStore, I: Read>(
     resources: &Resources<impl Threads + Wait + Sync, impl Progress>,
     book: Book<S>,
     blanks: Blanks,
@@ -241,8 +246,9 @@ fn sign_shared<E: BookLedger, G: BookLedger, B: BookLedger, S: StateStore, I: Re
     }
 }
 
-/// Signs job lines at the only desk of a service, which has counted nothing.
-fn sign_at_desk<E: BookLedger, G: BookLedger, B: BookLedger, S: StateStore, I: Read>(
+/// Signs job lines at the only desk of a service, which has counted nothing before. Faults as
+/// `lms_lines::read_and_sign`.
+fn sign_at_desk<E: BookLedger, G: Ledger, B: Ledger, S: StateStore, I: Read>(
     resources: &Resources<impl Threads + Wait + Sync, impl Progress>,
     service: &SigningService<S, E, G, B>,
     desks: &mut [Desk<E, G, B>],
@@ -258,7 +264,7 @@ fn sign_at_desk<E: BookLedger, G: BookLedger, B: BookLedger, S: StateStore, I: R
     ensures refused { IfErr result (λ fault. IsRefusedAtDesk service.now
         (I.remaining input.old) (I.remaining input.new) fault desks.new) }
 {
-    Ok(read_and_sign_by(
+    Ok(read_and_sign(
         resources.rt,
         resources.alloc,
         service,

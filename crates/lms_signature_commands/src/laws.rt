@@ -7,47 +7,53 @@ ghost use Rattle.lms_signature_commands.specs.ServingTurns.{FailsInTurns, Serves
 ghost use Rattle.lms_signature_commands.specs.SignInMemory.{FailsToSignInMemory, NodesStayRight, SignsInMemory};
 ghost use Rattle.lms_signature_commands.specs.VerifyInMemory.{FailsToJudgeInMemory, JudgesInMemory};
 
-/// What `sign_file` leaves.
+/// In a world in memory, by the calls of `sign_file`: where it is done, the next index of the
+/// state's key is counted as used, and its signature of the message is in its file; where it fails,
+/// why, and what is left.
 pub fn signs_in_memory()
     ensures done { SignsInMemory }
     ensures fails { FailsToSignInMemory }
 {}
 
-/// What `sign_jobs` leaves. It is done where all jobs are signed and answered.
+/// In a world in memory, by the calls of `sign_jobs`: where it is done, all jobs are signed and
+/// answered, and their indices are counted as used; where it fails, why, and what is left.
 pub fn signs_jobs_in_memory()
     ensures done { SignsJobsInMemory }
     ensures fails { FailsToSignJobsInMemory }
 {}
 
-/// What `serve_jobs` leaves: what each group does that it tries. It is done where all lines are
-/// answered.
+/// In a world in memory, by the calls of `serve_jobs`: what each group that it tries finds and
+/// leaves. Where it is done, the groups are all lines that it read, and each is answered; where it
+/// fails, why, and which groups it tried.
 pub fn serves_in_memory()
     ensures groups { TriesInMemory }
     ensures done { ServesInMemory }
     ensures fails { FailsToServeInMemory }
 {}
 
-/// What `verify_files` finds.
+/// In a world in memory, by the calls of `verify_files`: where it is done, its verdict is right for
+/// what the three files hold; where it fails, why. In either case nothing is changed.
 pub fn judges_in_memory()
     ensures done { JudgesInMemory }
     ensures fails { FailsToJudgeInMemory }
 {}
 
-/// What is kept of the key's trees is right after a message was signed where it was before.
+/// After a message was signed, what is kept of its key's trees is right, where it was right before.
 pub fn nodes_stay_right()
     ensures { NodesStayRight }
 {}
 
-/// All calls of `serve_jobs` are those of turns at its state, one after another, in each of which
-/// the use of its indices is stored before anything leaves; and what it prints is a beginning of
-/// the lines of their signatures.
+/// All calls of `serve_jobs`, done or failed, are those of turns at its state, one after another. One
+/// that uses indices reads what the call stored last, if it stored anything before; their use is
+/// stored for certain, and said by the witness, if there is one, before anything leaves. No file is
+/// written, and what is printed is a beginning of the lines of their signatures.
 pub fn serves_in_turns()
     ensures done { ServesInTurns }
     ensures fails { FailsInTurns }
 {}
 
-/// What `serve_jobs` answers where it is done: each line of its whole input, in order, however that
-/// came in groups.
+/// Where `serve_jobs` is done, it has read its input to the end and answered each line of it, in
+/// order, however the lines came in groups.
 pub fn serves_each_line()
     ensures { ServesEachLine }
 {}

@@ -4,6 +4,7 @@
 #![tactic(auto)]
 
 mod batch;
+mod due;
 pub mod laws;
 mod serve;
 mod sign;

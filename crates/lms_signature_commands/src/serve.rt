@@ -1,23 +1,18 @@
 //! `serve`: job lines signed as they come, by the next indices of a key's state.
-ghost use Rattle.std.specs.Prelude.{◌≡◌, ◌+◌, ◌⊎◌, ◌≤◌, ℕ, List, [], None, Some, IfErr, IfOk, IsTrue, OnOk, ◌↔◌, length};
-ghost use Rattle.lms_spec.specs.Hss.{capacity_of};
-ghost use Rattle.lms_hss.specs.Keys.{hss_key_of};
+ghost use Rattle.std.specs.Prelude.{◌≡◌, ◌⊎◌, ◌≤◌, List, IfErr, IfOk, OnOk};
 ghost use Rattle.lms_batch.specs.Jobs.{most_workers};
-ghost use Rattle.lms_commands.specs.Logs.{state_in, state_of};
-ghost use Rattle.lms_commands.specs.Watching.{OpensWatched, watch_of};
-ghost use Rattle.lms_signature_commands.specs.Serving.{AnswersAll, AnswersGroup, Due, FailsLines, FailsToServe, FindsNoState, Group, IsDue, IsFront, LogsGroups, LogsServe, LogsServeFailed, ServesNone, ServesPiece, SparesGroup, SpendsGroup, TriesPiece, due_of, having_used, unopened_fault, unread_fault};
+ghost use Rattle.lms_signature_commands.specs.Serving.{AnswersAll, AnswersGroup, Due, FailsLines, FailsToServe, Group, IsFront, LogsGroups, LogsServe, LogsServeFailed, StopsServing, ServesPiece, SparesGroup, SpendsGroup, TriesPiece, due_of, unread_fault};
 ghost use Rattle.lms_world.specs.Held.{Follows};
 
 use crate::batch::{print_answers, sign_opened};
+use crate::due::{after_use, open_due};
 use lms_batch::Trees;
-use lms_book::{Book, StateStore};
-use lms_commands::{Fault, Resources, Witness, discard, image_read, lock_state, open_watched};
-use lms_hss::{Progress, same_key};
+use lms_commands::{Fault, Resources, image_read, lock_state};
+use lms_hss::Progress;
 use lms_image::Image;
 use lms_lines::{JobsFault, Pieces, end_of_lines};
 use lms_texts::workers_from;
 use lms_world::{Printer, World};
-use std::alloc::Global;
 use std::io::{Read, Write};
 use std::sync::Wait;
 use std::thread::Threads;
@@ -92,7 +87,7 @@ struct Ongoing {
     due: Option<Image>,
 }
 
-/// The same, under the lock. A group of no lines comes first, which opens the state.
+/// As `serve_jobs`, under the lock. A group of no lines comes first, which opens the state.
 fn serve_locked<W: World, I: Read, O: Write>(
     serving: &Serving<W::Lock, impl Threads + Wait + Sync, impl Progress>,
     world: &mut W,
@@ -162,8 +157,8 @@ fn prepare(
     }
 }
 
-/// Answers the next piece of the input, where so many lines came before it. Returns how many lines
-/// it has, and whether it is the last.
+/// Reads the next piece of the input, before which `before` lines came, and answers its lines.
+/// Returns how many lines it has, and whether it is the last. Faults as `serve_jobs`.
 fn serve_next<W: World, I: Read, O: Write>(
     serving: &Serving<W::Lock, impl Threads + Wait + Sync, impl Progress>,
     world: &mut W,
@@ -178,7 +173,7 @@ fn serve_next<W: World, I: Read, O: Write>(
     ensures serves { IfOk result (λ next. ServesPiece (I.remaining input.old)
         (I.remaining input.new) pieces.old pieces.new next.0 next.1 (due_of ongoing.old.due)
         (due_of ongoing.new.due) output.old output.new (W.events world.old) (W.events world.new)) }
-    ensures fails { IfErr result (λ fault. ServesNone before (I.remaining input.old)
+    ensures fails { IfErr result (λ fault. StopsServing before (I.remaining input.old)
         (I.remaining input.new) pieces.old fault (due_of ongoing.old.due) output.old output.new
         (W.events world.old) (W.events world.new)) }
     ensures follows { Follows (W.memory world.old) (W.events world.old)
@@ -194,7 +189,8 @@ fn serve_next<W: World, I: Read, O: Write>(
     Ok((piece.lines, piece.is_last))
 }
 
-/// The fault of a piece that was not read, where so many lines came before it.
+/// The fault of a piece that was not read, before which `before` lines came: `BadJob` gets the
+/// number of the line in the whole input.
 fn unread(fault: JobsFault, before: u64) -> Fault
     ensures { result ≡ unread_fault before fault }
 {
@@ -208,7 +204,8 @@ fn unread(fault: JobsFault, before: u64) -> Fault
     }
 }
 
-/// Answers the lines of a piece. Where one of them is no job line, those before it are answered.
+/// Answers the lines of a piece, before which `before` lines came. Where one of them is no job
+/// line, those before it are answered, and then comes `BadJob` with its number in the whole input.
 fn serve_piece<W: World, O: Write>(
     serving: &Serving<W::Lock, impl Threads + Wait + Sync, impl Progress>,
     world: &mut W,
@@ -246,7 +243,7 @@ fn serve_piece<W: World, O: Write>(
 }
 
 /// Answers these lines. Where fewer indices are left than there are lines, the first lines get
-/// these.
+/// these, and then comes `Exhausted` with 0 left.
 fn serve_lines<W: World, O: Write>(
     serving: &Serving<W::Lock, impl Threads + Wait + Sync, impl Progress>,
     world: &mut W,
@@ -276,7 +273,7 @@ fn serve_lines<W: World, O: Write>(
     Err(Fault::Exhausted { left: 0 })
 }
 
-/// The first lines that end with LF, at most so many.
+/// The first lines of a text that end with LF, at most `most` of them.
 fn first_lines(text: &[u8], most: usize) -> &[u8]
     ensures { IsFront most text.now result.now }
 {
@@ -284,8 +281,9 @@ fn first_lines(text: &[u8], most: usize) -> &[u8]
     &text[..end]
 }
 
-/// Signs these lines and prints their answers, as an input of `batch`. The state has to be what is
-/// due, which becomes what is stored last.
+/// Signs these lines and prints their answers, as an input of `batch`. The state has to say what is
+/// due, else `ReadState`. What it says once the lines are answered is due from then on; where no
+/// index was used, what it said as it was opened.
 fn sign_group<W: World, O: Write>(
     serving: &Serving<W::Lock, impl Threads + Wait + Sync, impl Progress>,
     world: &mut W,
@@ -317,83 +315,4 @@ fn sign_group<W: World, O: Write>(
     ongoing.due = Some(after_use(&read, signed.asked));
     world.begin_printing(output);
     print_answers(&signed, output)
-}
-
-/// Opens the state of a lock with its witness, as `open_watched`. It has to be what is due: `ReadState`
-/// where it is another, or no image where something is due.
-fn open_due<W: World>(
-    alloc: Global,
-    world: &mut W,
-    lock: &W::Lock,
-    due: &Option<Image>,
-) -> Result<(Book<W::Store>, Option<Witness<W::Draft>>), Fault>
-    ensures logged { IfOk result (λ opened. OpensWatched (watch_of opened.1) opened.0
-        (W.events world.old) (W.events world.new)) }
-    ensures due { IfOk result (λ opened. IsDue (due_of due.now) (state_of opened.0)) }
-    ensures refused { IfErr result (λ fault.
-        FindsNoState fault (due_of due.now) (W.events world.old) (W.events world.new)) }
-    ensures fresh { IfOk result (λ opened. opened.0.history ≡ []) }
-    ensures follows { Follows (W.memory world.old) (W.events world.old)
-        (W.memory world.new) (W.events world.new) }
-{
-    let (book, witness) = match open_watched(alloc, world, lock) {
-        Ok(opened) => opened,
-        Err(cause) => return Err(unopened(cause, due)),
-    };
-    if is_due(&image_read(&book), due) {
-        return Ok((book, witness));
-    }
-    world.put_back(lock, book.close());
-    discard(world, witness);
-    Err(Fault::ReadState)
-}
-
-/// The fault of a state that is not opened: where something is due, bytes that are no image are
-/// another state.
-fn unopened(cause: Fault, due: &Option<Image>) -> Fault
-    ensures { result ≡ unopened_fault (due_of due.now) cause }
-{
-    match (due, cause) {
-        (Some(_), Fault::BadState(_)) => Fault::ReadState,
-        _ => cause,
-    }
-}
-
-/// Whether a state that was read is what is due, if anything is.
-fn is_due(read: &Image, due: &Option<Image>) -> bool
-    ensures { IsTrue result ↔ IsDue (due_of due.now) (state_in read.now) }
-{
-    match due {
-        Some(due) => same_image(read, due),
-        None => true,
-    }
-}
-
-/// Whether these say the same of the same key.
-fn same_image(a: &Image, b: &Image) -> bool
-    ensures { IsTrue result ↔ (state_in a.now ≡ state_in b.now) }
-{
-    same_key(&a.key, &b.key)
-        && a.counter == b.counter
-        && a.openings == b.openings
-        && a.burnt == b.burnt
-}
-
-/// What is stored once n indices of a state are used, if any are.
-fn after_use(read: &Image, n: usize) -> Image
-    requires within { read.now.counter + n ≤ capacity_of (hss_key_of read.now.key) }
-    requires openings { read.now.openings ≤ read.now.counter }
-    ensures { state_in result ≡ having_used n (state_in read.now) }
-{
-    if n == 0 {
-        return *read;
-    }
-    // for the proof: the capacity is at most 2^60
-    let _capacity = read.key.capacity();
-    Image {
-        key: read.key,
-        counter: read.counter + n as u64,
-        openings: read.openings + 1,
-        burnt: read.burnt,
-    }
 }

@@ -7,7 +7,7 @@ ghost use Rattle.lms_signature_commands.specs.Signing.{of_signing};
 ghost use Rattle.lms_texts.specs.Descriptions.{number_line};
 ghost use Rattle.lms_texts.specs.Options.{IsHexOf};
 ghost use Rattle.lms_commands.specs.Logs.{FailsToPublish, LogsKeeping, Publishes};
-ghost use Rattle.lms_signature_commands.specs.SignLogs.{index_line, DeliversSignature, IsRandomizer, LogsNotSigned, LogsSign, LogsSignFailed, LogsSigned, LogsUndelivered};
+ghost use Rattle.lms_signature_commands.specs.SignLogs.{index_line, DeliversSignature, IsRandomizer, LogsNotSigned, LogsSign, LogsSignFailed, LogsSigned, LogsUndelivered, asked_of};
 ghost use Rattle.lms_world.specs.Held.{Follows};
 ghost use Rattle.lms_signature_commands.specs.Signing.{GivesOne, SignsNothing};
 
@@ -18,7 +18,7 @@ use lms_commands::{
     read_file, write_file,
 };
 use lms_hss::Progress;
-use lms_kept::{KeptSignature, sign_by_text};
+use lms_kept::{KeptSignature, sign_lease};
 use lms_params::{HASH_LEN, OutOfMemory};
 use lms_texts::{print_index, read_bytes};
 use lms_world::{Printer, World};
@@ -29,7 +29,7 @@ use std::thread::Threads;
 /// Why a message was not signed.
 #[derive(Clone, Copy)]
 enum NextFault {
-    /// No index was reserved.
+    /// No index was given; where the store failed, the next one may be stored as used.
     Book(BookFault),
     /// Memory was refused after the reservation: the index is used, and signed nothing.
     OutOfMemory,
@@ -65,7 +65,8 @@ pub struct SignRequest<'a> {
 /// `OutOfMemoryBurnt`, `WriteWitnessBurnt` where the witness may not say so, and `WriteOutput`.
 /// `OutOfMemory` may come anywhere before `WriteStateBurnt`. At the last three the index is used;
 /// after `WriteStateBurnt` the state may still be the older one, which gives the index again. The
-/// witness is written once the use of the index was stored, and every other file after that.
+/// witness's draft is made before the state is opened; the witness is replaced once the use of the
+/// index was stored, and nodes and the signature are written after that.
 ///
 /// What is kept of the key's trees beside the state is read before the state is opened, and where
 /// the signature needed other nodes it is kept anew once the use of the index was stored, before
@@ -78,12 +79,10 @@ pub fn sign_file<W: World, O: Write>(
     request: &SignRequest,
     output: &mut Printer<O>,
 ) -> Result<(), Fault>
-    ensures logged { OnOk result (LogsSign request.now.random.now request.now.message.now
-        request.now.state.now request.now.out.now output.old output.new
+    ensures logged { OnOk result (LogsSign (asked_of request.now) output.old output.new
         (W.events world.old) (W.events world.new)) }
-    ensures log_failed { IfErr result (λ fault. LogsSignFailed request.now.random.now
-        request.now.message.now request.now.state.now request.now.out.now output.old output.new fault
-        (W.events world.old) (W.events world.new)) }
+    ensures log_failed { IfErr result (λ fault. LogsSignFailed (asked_of request.now) output.old
+        output.new fault (W.events world.old) (W.events world.new)) }
     ensures follows { Follows (W.memory world.old) (W.events world.old)
         (W.memory world.new) (W.events world.new) }
 {
@@ -99,7 +98,7 @@ pub fn sign_file<W: World, O: Write>(
     done
 }
 
-/// The same, once the message is read and the lock is acquired.
+/// As `sign_file`, once the message is read and the lock is acquired.
 fn sign_locked<W: World, O: Write>(
     resources: &Resources<impl Threads + Sync, impl Progress>,
     world: &mut W,
@@ -117,7 +116,7 @@ fn sign_locked<W: World, O: Write>(
         (W.memory world.new) (W.events world.new) }
 {
     let kept = kept_text(resources.alloc, world, lock);
-    let signed = sign_by_state(resources, world, lock, job, kept.as_deref())?;
+    let signed = sign_stored(resources, world, lock, job, kept.as_deref())?;
     deliver(world, out, &signed, output)
 }
 
@@ -157,9 +156,11 @@ fn deliver<W: World, O: Write>(
     }
 }
 
-/// Signs a message with the next index of the key of a lock's state, which its witness does not refuse.
-/// Where the witness can't be written, the signature is let go.
-fn sign_by_state<W: World>(
+/// Signs a message with the next index of the key of a lock's state, by what was `kept` of its
+/// trees where that signs what is accepted, and keeps the trees that signed where they are others.
+/// Where the witness refuses the state, nothing is stored; where it can't be written, the signature
+/// is let go. Faults as `sign_file`, from those of `open_watched` to `WriteWitnessBurnt`.
+fn sign_stored<W: World>(
     resources: &Resources<impl Threads + Sync, impl Progress>,
     world: &mut W,
     lock: &W::Lock,
@@ -176,7 +177,7 @@ fn sign_by_state<W: World>(
 {
     let (mut book, witness) = open_watched(resources.alloc, world, lock)?;
     let read = image_read(&book);
-    let signed = sign_next(resources, &mut book, job, kept);
+    let signed = sign_reserved(resources, &mut book, job, kept);
     world.put_back(lock, book.close());
     match signed {
         Ok(signed) => {
@@ -203,11 +204,11 @@ fn keep_signers<W: World>(alloc: Global, world: &mut W, lock: &W::Lock, signed: 
 }
 
 /// Signs a job with the next index of a book (RFC 8554, 6.2). The use of the index is stored before
-/// the signature is made, by nodes that were kept where they sign what is accepted, and else by trees
-/// that are computed. `Book` where no index was reserved; `OutOfMemory` where memory is refused
-/// after that, and the index stays used. A crash at any moment leaves what it could leave before,
-/// or the image that counts the index.
-fn sign_next<S: StateStore>(
+/// the signature is made. That is by nodes that were kept, where they sign what is accepted, and else
+/// by trees that are computed. `Book` where no index was given; `OutOfMemory` where memory is refused after
+/// it was, and the index stays used. A crash at any moment leaves what it could leave before, or
+/// the image that counts the index.
+fn sign_reserved<S: StateStore>(
     resources: &Resources<impl Threads + Sync, impl Progress>,
     book: &mut Book<S>,
     job: &Job,
@@ -223,7 +224,7 @@ fn sign_next<S: StateStore>(
     let lease = book.reserve(1).map_err(|fault| NextFault::Book(fault))?;
     let message = job.message.as_slice();
     let (rt, alloc) = (resources.rt, resources.alloc);
-    match sign_by_text(rt, alloc, lease, &job.c, message, kept, resources.progress) {
+    match sign_lease(rt, alloc, lease, &job.c, message, kept, resources.progress) {
         Ok(signed) => Ok(signed),
         Err(OutOfMemory) => Err(NextFault::OutOfMemory),
     }

@@ -52,7 +52,8 @@ struct Judge<'a> {
 }
 
 impl<'a> Judge<'a> {
-    /// Before the first piece.
+    /// A judge of this signature under this public key, which has taken no piece of the message
+    /// yet.
     fn begin(public: &'a [u8], signature: &'a [u8]) -> Self
         ensures { HasTaken result public.now signature.now [] }
     {
@@ -61,7 +62,8 @@ impl<'a> Judge<'a> {
         }
     }
 
-    /// The verdict on all pieces.
+    /// The verdict on the message that all pieces make: `Valid` exactly where its signature is
+    /// accepted.
     fn finish(self) -> Verdict
         ensures { (public signature message : List ℕ) → HasTaken self.entry public signature message
             → IsRightFor result public message signature }
@@ -73,7 +75,7 @@ impl<'a> Judge<'a> {
     }
 }
 
-/// The verdict of a verifier.
+/// The verdict of a verifier that has taken the whole message.
 fn verdict_of(verifier: Verifier) -> Verdict
     ensures { (public signature message : List ℕ) → HasTakenByVerifier
         verifier.entry public signature message → IsRightFor result public message signature }

@@ -45,7 +45,7 @@ height_of levels = sum_by (λ l. l.lms.h) levels
 abbrev pub capacity_of : HssKey → ℕ
 capacity_of key = 2 ^ height_of key.levels
 
--- the bytes of a signature under these levels (6.2)
+-- how many bytes a signature under these levels has (6.2)
 abbrev pub hss_signature_length : List Level → ℕ
 hss_signature_length levels =
     4 + sum_by (λ l.
@@ -61,8 +61,8 @@ abbrev pub signed_public_key : Tree → ℕ → List ℕ → Tree → List ℕ
 signed_public_key tree q randomizer next =
     lms_signature tree q randomizer (public_key_of next) ++ public_key_of next
 
--- a signature: how many public keys are signed, these from the top, and the message's signature by
--- the bottom tree (6.2)
+-- a signature: how many public keys are signed, these from the top, each after its own signature,
+-- and the message's signature by the bottom tree (6.2)
 abbrev pub signature_over : List (List ℕ) → List ℕ → List ℕ
 signature_over signed_keys last = u32str (length signed_keys) ++ concat signed_keys ++ last
 

@@ -15,7 +15,8 @@ use Rattle.lms_spec.specs.Hss.{most_levels, HasKnownSets, HssKey, hss_signature_
 use Rattle.lms_spec.specs.Hss.{HssAccepts}
 use Rattle.lms_spec.specs.Profile.{leaf_at, signed_key, hss_public_key, hss_signature}
 
--- a number's bytes read as one number are that number
+-- the two bytes of a number below 2^16, and the four of one below 2^32, read as one number, are
+-- that number
 abbrev pub NumbersReadBack : Type 0
 NumbersReadBack =
     ((n : ℕ) → n < 2 ^ 16 → number_of (u16str n) ≡ n)
@@ -66,7 +67,7 @@ ChainsCompose =
     (id : List ℕ) (q i from m n : ℕ) (value : List ℕ)
     → chain id q i (from + m) n (chain id q i from m value) ≡ chain id q i from (m + n) value
 
--- how long a one-time signature is
+-- a one-time signature under a randomizer of 32 bytes is as long as its set says
 abbrev pub OtsSignatureLength : Type 0
 OtsSignatureLength =
     (t : OtsSet) (id seed : List ℕ) (q : ℕ) (randomizer message : List ℕ)
@@ -81,7 +82,7 @@ CandidateIsPublicHash =
     → LeadsTo t id q (ots_signature t id seed q randomizer message) message
     (public_hash t id seed q)
 
--- a one-time signature leads to one candidate
+-- a one-time signature and a message lead to one candidate at most
 abbrev pub OneCandidate : Type 0
 OneCandidate =
     (t : OtsSet) (id : List ℕ) (q : ℕ) (signature message a b : List ℕ)
@@ -105,12 +106,12 @@ ClimbReachesRoot =
     (key : Tree) (q : ℕ) → q < 2 ^ key.lms.h
     → climb key.id (2 ^ key.lms.h + q) (node key (2 ^ key.lms.h + q)) (path_of key q) ≡ node key 1
 
--- how long a tree's public key is
+-- a tree's public key has 56 bytes, where its identifier has 16
 abbrev pub LmsPublicKeyLength : Type 0
 LmsPublicKeyLength =
     (key : Tree) → length key.id ≡ 16 → length (public_key_of key) ≡ lms_public_key_length
 
--- how long a leaf's signature is
+-- a leaf's signature under a randomizer of 32 bytes is as long as its tree's two sets say
 abbrev pub LmsSignatureLength : Type 0
 LmsSignatureLength =
     (key : Tree) (q : ℕ) (randomizer message : List ℕ) → length randomizer ≡ hash_length
@@ -124,7 +125,8 @@ LmsSignatureAccepted =
     → q < 2 ^ key.lms.h → length randomizer ≡ hash_length
     → LmsAccepts (public_key_of key) message (lms_signature key q randomizer message)
 
--- how long an accepted signature and its key are
+-- where a signature is accepted, its public key has 56 bytes, and it is as long as the key's two
+-- sets say
 abbrev pub AcceptedLengths : Type 0
 AcceptedLengths =
     (public_key message signature : List ℕ) (a : LmsAccepts public_key message signature)
@@ -144,12 +146,13 @@ AcceptedByParts =
     (u32str q ++ ots_part ++ u32str m.code ++ concat path)
     → climb id (2 ^ m.h + q) (leaf_hash id (2 ^ m.h + q) candidate) path ≡ root
 
--- how long a hierarchy's public key is
+-- a hierarchy's public key has 60 bytes, where its identifier has 16
 abbrev pub HssPublicKeyLength : Type 0
 HssPublicKeyLength =
     (key : HssKey) → length key.id ≡ 16 → length (hss_public_key key) ≡ 4 + lms_public_key_length
 
--- how long a hierarchy's signature is
+-- a signature under a randomizer of 32 bytes, by a hierarchy of at least one level whose identifier
+-- has 16 bytes, is as long as its levels say
 abbrev pub HssSignatureLength : Type 0
 HssSignatureLength =
     (key : HssKey) (g : ℕ) (randomizer message : List ℕ) → 1 ≤ length key.levels
@@ -164,7 +167,8 @@ HssSignatureAccepted =
     → length key.id ≡ 16 → length randomizer ≡ hash_length
     → HssAccepts (hss_public_key key) message (hss_signature key g randomizer message)
 
--- the parts of accepted signatures are where the sets of the key above put them
+-- where signatures are accepted through signed keys, the first signature and the key that it signs
+-- are where the sets of the key above put them, and what follows is accepted under that signed key
 abbrev pub ThroughParts : Type 0
 ThroughParts =
     (count : ℕ) (m : LmsSet) (t : OtsSet) (id root message signatures : List ℕ)
@@ -177,13 +181,14 @@ ThroughParts =
     (take lms_public_key_length (drop (lms_signature_length m t) signatures)) message
     (drop (lms_signature_length m t + lms_public_key_length) signatures)
 
--- what a level signs depends on the leaves that the index goes through down to it
-abbrev pub SameUpperText : Type 0
-SameUpperText =
+-- the public key that a level signs, and its signature, depend only on the leaves that the index
+-- goes through down to that level
+abbrev pub SameSignedKey : Type 0
+SameSignedKey =
     (key : HssKey) (g g' k : ℕ) → ((j : ℕ) → j ≤ k → leaf_at key g j ≡ leaf_at key g' j)
     → signed_key key g k ≡ signed_key key g' k
 
--- no two indices go through the same leaves
+-- no two indices below a key's capacity go through the same leaves on all levels
 abbrev pub DifferentPlaces : Type 0
 DifferentPlaces =
     (key : HssKey) (g g' : ℕ) → g < capacity_of key → g' < capacity_of key

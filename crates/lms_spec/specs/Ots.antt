@@ -33,7 +33,7 @@ unfoldable pub public_hash : OtsSet → List ℕ → List ℕ → ℕ → List �
 public_hash t id seed q =
     ends_hash id q (map (λ i. chain id q i 0 (last_digit t) (chain_secret id seed q i)) (below t.p))
 
--- the digits that a message signs (4.5)
+-- the digits of a message's hash and checksum, which its signature signs (4.5)
 unfoldable pub message_digits : OtsSet → List ℕ → ℕ → List ℕ → List ℕ → List ℕ
 message_digits t id q randomizer message = digits_of t (message_hash id q randomizer message)
 
@@ -65,7 +65,7 @@ pub record IsOtsSignature (t : OtsSet) (randomizer : List ℕ) (values : List (L
   pub value_lengths : All (λ v. length v ≡ hash_length) values
   pub parts : signature ≡ u32str t.code ++ randomizer ++ concat values
 
--- a signature that has a candidate, and that candidate (4.6)
+-- a signature and a message lead to this candidate for the public hash (4.6)
 pub record LeadsTo (t : OtsSet) (id : List ℕ) (q : ℕ)
     (signature message candidate : List ℕ) : Type 0 where
   pub randomizer : List ℕ

@@ -66,7 +66,7 @@ ots_set c = find (λ t. t.code == c) ots_sets
 abbrev pub lms_set : ℕ → Option LmsSet
 lms_set c = find (λ m. m.code == c) lms_sets
 
--- the bytes of an LM-OTS signature (4.5), of an LMS signature (5.4) and of an LMS public key (5.3)
+-- how many bytes an LM-OTS signature (4.5), an LMS signature (5.4) and an LMS public key (5.3) have
 abbrev pub ots_signature_length : OtsSet → ℕ
 ots_signature_length t = 4 + hash_length * (t.p + 1)
 

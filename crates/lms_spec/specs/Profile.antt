@@ -13,8 +13,9 @@ use Rattle.lms_spec.specs.Hss.{Level, HssKey, level, height_of, public_key_over,
 abbrev pub leaf_at : HssKey → ℕ → ℕ → ℕ
 leaf_at key g k = g / 2 ^ height_of (drop (k + 1) key.levels) % 2 ^ (level key k).lms.h
 
--- what is derived at a leaf for the tree below it and for the signature of its key; no chain has so
--- high a number
+-- the numbers, each in the place of a chain's, of what is derived at a leaf: the randomizer under
+-- which the key of the tree below it is signed, and that tree's seed and identifier; no chain has
+-- so high a number
 abbrev pub for_randomizer : ℕ
 for_randomizer = 0xfffd
 
@@ -24,7 +25,8 @@ for_child_seed = 0xfffe
 abbrev pub for_child_id : ℕ
 for_child_id = 0xffff
 
--- what is derived at leaf 0 of the top tree for the check value of nodes that are kept
+-- the number of what is derived at leaf 0 of the top tree for the check value of nodes that are
+-- kept
 abbrev pub for_nodes : ℕ
 for_nodes = 0xfffc
 
@@ -53,8 +55,8 @@ tree_at key g (suc k) = child (tree_at key g k) (leaf_at key g k) (level key (su
 unfoldable pub hss_public_key : HssKey → List ℕ
 hss_public_key key = public_key_over (length key.levels) (tree_at key 0 0)
 
--- what level k signs for index g: the next tree's public key, under the randomizer derived at the
--- leaf
+-- the signed public key of level k for index g: the next tree's public key after its signature,
+-- under the randomizer derived at the leaf
 unfoldable pub signed_key : HssKey → ℕ → ℕ → List ℕ
 signed_key key g k =
     let tree = tree_at key g k in

@@ -29,7 +29,8 @@ inner_hash id r left right = sha256 (hash_prefix id r ++ u16str d_intr ++ left +
 abbrev pub is_leaf : Tree → ℕ → Bool
 is_leaf key r = nat_le (2 ^ key.lms.h) r
 
--- node r (5.3), at a depth that is at least the number of levels from r to the leaves, both counted
+-- node r (5.3), where `depth` is at least the number of levels from that of r to that of the
+-- leaves, both counted
 abbrev pub node_within : Tree → ℕ → ℕ → List ℕ
 node_within key zero r = []
 node_within key (suc depth) r =
@@ -58,7 +59,7 @@ climb id r value (other ∷ path) =
     (if r % 2 == 0 then inner_hash id (r / 2) value other
     else inner_hash id (r / 2) other value) path
 
--- the public key (5.3)
+-- the public key over this root (5.3)
 unfoldable pub lms_public_key : LmsSet → OtsSet → List ℕ → List ℕ → List ℕ
 lms_public_key lms ots id root = u32str lms.code ++ u32str ots.code ++ id ++ root
 

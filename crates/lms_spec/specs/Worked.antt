@@ -48,7 +48,7 @@ value_bytes = replicate 32 0xaa
 abbrev pub randomizer_bytes : List ℕ
 randomizer_bytes = replicate 32 0xcc
 
--- what the standard hashes, byte by byte
+-- what the standard hashes and a public key, byte by byte, and the last digit of each width
 pub record WorkedTexts : Type 0 where
   pub last_digits : map last_digit ots_sets ≡ 1 ∷ 3 ∷ 15 ∷ 255 ∷ []
   pub secret : chain_secret id_bytes value_bytes 1 0x102
@@ -71,13 +71,14 @@ pub record WorkedTexts : Type 0 where
       lms_public_key lms_h5 ots_w8 id_bytes value_bytes ≡ 0 ∷ 0 ∷ 0 ∷ 5 ∷ 0 ∷ 0 ∷ 0 ∷ 4 ∷ id_bytes
       ++ value_bytes
 
+-- a level and a tree of the cases below
 abbrev pub level_in_case : LmsSet → OtsSet → Level
 level_in_case m t = record { lms = m; ots = t }
 
 abbrev pub tree_in_case : Tree
 tree_in_case = record { lms = lms_h5; ots = ots_w8; id = id_bytes; seed = value_bytes }
 
--- what is derived at a leaf for the tree below it
+-- what is derived at a leaf for the tree below it and for the signature of its key
 pub record WorkedChildren : Type 0 where
   pub seed :
       (child tree_in_case 1 (level_in_case lms_h5 ots_w8)).seed

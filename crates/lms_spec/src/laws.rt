@@ -6,10 +6,11 @@ ghost use Rattle.lms_spec.specs.Laws.{ChainsCompose, OtsSignatureLength, Candida
 ghost use Rattle.lms_spec.specs.Laws.{LeafNodes, InnerNodes, ClimbReachesRoot, LmsPublicKeyLength, LmsSignatureLength};
 ghost use Rattle.lms_spec.specs.Laws.{LmsSignatureAccepted, AcceptedLengths, AcceptedByParts};
 ghost use Rattle.lms_spec.specs.Laws.{HssPublicKeyLength, HssSignatureLength, HssSignatureAccepted};
-ghost use Rattle.lms_spec.specs.Laws.{ThroughParts, SameUpperText, DifferentPlaces};
+ghost use Rattle.lms_spec.specs.Laws.{ThroughParts, SameSignedKey, DifferentPlaces};
 ghost use Rattle.lms_spec.specs.Worked.{WorkedExtremes, WorkedOrder, WorkedTexts, WorkedChildren, WorkedPlaces, WorkedLengths};
 
-/// The bytes of a number, read as one number, are that number.
+/// The two bytes of a number below 2^16, and the four of one below 2^32, read as one number, are
+/// that number.
 pub fn numbers_read_back()
     ensures { NumbersReadBack }
 {}
@@ -29,13 +30,13 @@ pub fn digits_fit()
     ensures { DigitsFit }
 {}
 
-/// A digit is some bits of one byte.
+/// A digit is w bits of one byte: 8 / w digits to a byte, the highest first.
 pub fn digit_bits()
     ensures { DigitBits }
 {}
 
-/// Where each digit of one hash is at most another's, the two hashes have the same digits: what the
-/// checksum is for.
+/// What the checksum is for: where each digit of one hash, and of its checksum, is at most
+/// another's, the two hashes have the same digits.
 pub fn checksum_guards()
     ensures { ChecksumGuards }
 {}
@@ -45,7 +46,7 @@ pub fn chains_compose()
     ensures { ChainsCompose }
 {}
 
-/// How long a one-time signature is.
+/// A one-time signature under a randomizer of 32 bytes is as long as its set says.
 pub fn ots_signature_length()
     ensures { OtsSignatureLength }
 {}
@@ -55,7 +56,7 @@ pub fn candidate_is_public_hash()
     ensures { CandidateIsPublicHash }
 {}
 
-/// A one-time signature leads to one candidate.
+/// A one-time signature and a message lead to one candidate at most.
 pub fn one_candidate()
     ensures { OneCandidate }
 {}
@@ -75,12 +76,12 @@ pub fn climb_reaches_root()
     ensures { ClimbReachesRoot }
 {}
 
-/// How long a tree's public key is.
+/// A tree's public key has 56 bytes, where its identifier has 16.
 pub fn lms_public_key_length()
     ensures { LmsPublicKeyLength }
 {}
 
-/// How long a leaf's signature is.
+/// A leaf's signature under a randomizer of 32 bytes is as long as its tree's two sets say.
 pub fn lms_signature_length()
     ensures { LmsSignatureLength }
 {}
@@ -90,22 +91,25 @@ pub fn lms_signature_accepted()
     ensures { LmsSignatureAccepted }
 {}
 
-/// How long an accepted signature and its key are.
+/// Where a signature is accepted, its public key has 56 bytes, and it is as long as the key's two
+/// sets say.
 pub fn accepted_lengths()
     ensures { AcceptedLengths }
 {}
 
-/// One parse of a key and a signature decides.
+/// One parse of a key and a signature decides: if the signature is accepted at all, then this parse
+/// climbs to the root.
 pub fn accepted_by_parts()
     ensures { AcceptedByParts }
 {}
 
-/// How long a hierarchy's public key is.
+/// A hierarchy's public key has 60 bytes, where its identifier has 16.
 pub fn hss_public_key_length()
     ensures { HssPublicKeyLength }
 {}
 
-/// How long a hierarchy's signature is.
+/// A signature under a randomizer of 32 bytes, by a hierarchy of at least one level whose
+/// identifier has 16 bytes, is as long as its levels say.
 pub fn hss_signature_length()
     ensures { HssSignatureLength }
 {}
@@ -115,17 +119,20 @@ pub fn hss_signature_accepted()
     ensures { HssSignatureAccepted }
 {}
 
-/// The parts of accepted signatures are where the sets of the key above put them.
+/// Where signatures are accepted through signed keys, the first signature and the key that it signs
+/// are where the sets of the key above put them, and what follows is accepted under that signed
+/// key.
 pub fn through_parts()
     ensures { ThroughParts }
 {}
 
-/// What a level signs depends on the leaves that the index goes through down to it.
-pub fn same_upper_text()
-    ensures { SameUpperText }
+/// The public key that a level signs, and its signature, depend only on the leaves that the index
+/// goes through down to that level.
+pub fn same_signed_key()
+    ensures { SameSignedKey }
 {}
 
-/// No two indices go through the same leaves.
+/// No two indices below a key's capacity go through the same leaves on all levels.
 pub fn different_places()
     ensures { DifferentPlaces }
 {}
@@ -140,12 +147,12 @@ pub fn worked_order()
     ensures { WorkedOrder }
 {}
 
-/// What the standard hashes, and a public key, byte by byte.
+/// What the standard hashes and a public key, byte by byte, and the last digit of each width.
 pub fn worked_texts()
     ensures { WorkedTexts }
 {}
 
-/// What is derived at a leaf for the tree below it, byte by byte.
+/// What is derived at a leaf for the tree below it and for the signature of its key, byte by byte.
 pub fn worked_children()
     ensures { WorkedChildren }
 {}

@@ -52,7 +52,7 @@ IsSeedOf option input rest seed =
     ⊎ ((option ≡ on_input) × ReadsSeed input rest seed)
 
 -- why there is no seed: the option's text is no digits, and nothing is read; or the input, of which
--- no more than that is read, is the text of none, or can't be read
+-- at most `most_read` bytes are read, is the text of none, or can't be read
 abbrev pub IsNoSeed : List ℕ → Option (List ℕ) → Option (List ℕ) → SeedFault → Type 0
 IsNoSeed option input rest fault =
     ((option ≢ on_input) × (fault ≡ Bad) × (¬ IsHexOf hash_length option) × (rest ≡ input))

@@ -7,6 +7,6 @@ abbrev pub witness_head : List ℕ → List ℕ
 witness_head id =
     codes "HSS key " ++ (encode_lower id ++ codes " has used all indices below ")
 
--- and the first index that may not be used
+-- the whole line: that head, and the first index that may not be used
 abbrev pub witness_text : List ℕ → ℕ → List ℕ
 witness_text id counter = witness_head id ++ (decimal counter ++ codes "\n")

@@ -11,8 +11,8 @@ use lms_hss::{HssKey, LevelsText};
 use lms_image::Image;
 use std::io::Write;
 
-/// Prints six lines: a key's levels, the indices used so far, those that there are, and those that
-/// are left, the openings that stored something, and the indices that were burnt.
+/// Prints six lines: a key's levels, how many indices are used so far, how many there are, and how
+/// many are left, how many openings stored something, and how many indices were burnt.
 ///
 /// On a fault, a beginning of them was written.
 pub fn print_info<O: Write>(output: &mut O, image: &Image) -> Result<(), WriteFault>
@@ -29,8 +29,8 @@ pub fn print_info<O: Write>(output: &mut O, image: &Image) -> Result<(), WriteFa
     print_line(output, format_args!("burnt {burnt}"))
 }
 
-/// Prints four lines: a key's levels, the indices used so far, those that there are, and those that
-/// are left.
+/// Prints four lines: a key's levels, how many indices are used so far, how many there are, and how
+/// many are left.
 ///
 /// On a fault, a beginning of them was written.
 fn print_indices<O: Write>(output: &mut O, key: HssKey, counter: u64) -> Result<(), WriteFault>

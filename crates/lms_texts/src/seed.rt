@@ -20,9 +20,12 @@ const DIGITS: usize = 2 * HASH_LEN;
 /// One byte more than the digits and LF have.
 const MOST_READ: usize = DIGITS + 2;
 
-/// The seed of an option's text: 64 hexadecimal digits in either case, or `-`. For that the input
-/// has the digits, perhaps LF, and nothing more. No more than 66 bytes of it are read, into the
-/// only copy of them, and none where the text is not `-`.
+/// The seed of an option's text: 64 hexadecimal digits in either case, or `-`. For `-` the input
+/// has the digits, perhaps LF, and nothing more; no more than 66 bytes of it are read, and no other
+/// copy of these is made. Nothing is read where the text is not `-`.
+///
+/// `Bad` where the text, or for `-` the input, is anything else; `Read` where the input can't be
+/// read.
 pub fn read_seed<R: Read>(text: &str, input: &mut R) -> Result<[u8; HASH_LEN], SeedFault>
     ensures seed { IfOk result
         (IsSeedOf text.now (R.remaining input.old) (R.remaining input.new)) }
@@ -37,7 +40,8 @@ pub fn read_seed<R: Read>(text: &str, input: &mut R) -> Result<[u8; HASH_LEN], S
     }
 }
 
-/// The seed of an input: 64 digits, perhaps LF, and its end. It takes no memory.
+/// The seed of an input: 64 hexadecimal digits, perhaps LF, and its end. `Bad` where it has
+/// anything else, `Read` where it can't be read. It takes no memory.
 fn seed_on<R: Read>(input: &mut R) -> Result<[u8; HASH_LEN], SeedFault>
     ensures read { IfOk result (ReadsSeed (R.remaining input.old) (R.remaining input.new)) }
     ensures bad { result ≡ Err SeedFault.Bad → GivesNoSeed (R.remaining input.old) }
@@ -53,7 +57,8 @@ fn seed_on<R: Read>(input: &mut R) -> Result<[u8; HASH_LEN], SeedFault>
     }
 }
 
-/// Reads until the block is full or the reader at its end, and answers how many bytes that were.
+/// Reads until the block is full or the reader at its end, and answers how many bytes that were. An
+/// error is the reader's own; bytes may be read before it.
 fn fill<R: Read>(reader: &mut R, block: &mut [u8]) -> io::Result<usize>
     ensures bound { IfOk result (λ n. n ≤ length block.new) }
     ensures bytes { IfOk result (λ n.
@@ -73,7 +78,8 @@ fn fill<R: Read>(reader: &mut R, block: &mut [u8]) -> io::Result<usize>
     Ok(filled)
 }
 
-/// The seed of the text of an input. `None` exactly where it is that of none.
+/// The seed of an input's text, which is 64 hexadecimal digits and perhaps LF. `None` exactly where
+/// it is no such text.
 fn seed_in(text: &[u8]) -> Option<[u8; HASH_LEN]>
     ensures some { IfSome result (IsSeedText text.now) }
     ensures none { IfNone result ((seed : List ℕ) → ¬ IsSeedText text.now seed) }

@@ -7,8 +7,8 @@ use lms_blocks::{WriteFault, print_line, write_bytes};
 use std::io::Write;
 use std::str;
 
-/// How many bytes come before the identifier, how many spell it, and how many come after it, up to
-/// the number.
+/// How many bytes come before the identifier, how many spell it, and how many come before the
+/// number in all.
 const BEFORE: usize = 8;
 
 const DIGITS: usize = 32;
@@ -16,7 +16,7 @@ const DIGITS: usize = 32;
 const HEAD: usize = 68;
 
 /// Prints the line of a witness: that of the key of this identifier all indices below `counter` are
-/// used.
+/// used. On a fault, a beginning of it was written.
 pub fn print_witness<O: Write>(
     output: &mut O,
     id: &[u8; 16],
@@ -58,7 +58,8 @@ fn head_of(id: &[u8; 16]) -> [u8; HEAD]
     head
 }
 
-/// The number of a line that has nothing else, in decimal without leading zeros.
+/// The number of a line that has nothing else, in decimal without leading zeros, with LF. `None`
+/// exactly where it is the line of no number below 2^64.
 fn line_number(line: &[u8]) -> Option<u64>
     ensures some { IfSome result (λ number. line.now ≡ decimal number ++ codes "\n") }
     ensures none { IfNone result
@@ -74,7 +75,8 @@ fn line_number(line: &[u8]) -> Option<u64>
     }
 }
 
-/// The number of a text that is one in decimal without leading zeros.
+/// The number of a text that is one in decimal without leading zeros. `None` exactly where it is that
+/// of no number below 2^64.
 pub fn decimal_number(text: &str) -> Option<u64>
     ensures some { IfSome result (λ number. text.now ≡ decimal number) }
     ensures none { IfNone result ((number : ℕ) → number < 2 ^ 64 → text.now ≢ decimal number) }

@@ -1,8 +1,6 @@
 mod arguments;
 mod batch;
 mod batch_faults;
-mod faults;
-mod joined;
 mod kept;
 mod lines;
 mod memory;
@@ -10,7 +8,6 @@ mod meter;
 mod recorded;
 mod replays;
 mod seeds;
-mod serve;
 mod states;
 
 use lms_cli::run::run;
@@ -216,20 +213,6 @@ fn reads_the_files_in_order(rt: HostRuntime) -> Result<(), Fail> {
         }
     }
     Ok(())
-}
-
-/// A stream that takes no bytes.
-#[derive(Drop)]
-struct Closed;
-
-impl Write for Closed {
-    fn write(&mut self, _buf: &[u8]) -> io::Result<usize> {
-        Err(io::Error::from(io::ErrorKind::BrokenPipe))
-    }
-
-    fn flush(&mut self) -> io::Result<()> {
-        Ok(())
-    }
 }
 
 /// A stream that takes bytes and fails when they are to be passed on, so many times.

@@ -1,3 +1,4 @@
+pub mod KeptLeaves
 pub mod Rows
 pub mod Served
 pub mod Subtrees

@@ -32,7 +32,7 @@ bottom_height h = min h tallest_subtree
 abbrev pub subtrees : ℕ → ℕ → ℕ → ℕ
 subtrees h first last = last / 2 ^ bottom_height h - first / 2 ^ bottom_height h + 1
 
--- all rows of these subtrees
+-- all rows of the bottom subtrees that hold the leaves from `first` to `last`
 abbrev pub lower_rows : ℕ → ℕ → ℕ → Rows
 lower_rows h first last = record {
   first = 2 ^ (h - bottom_height h) + first / 2 ^ bottom_height h;
@@ -40,25 +40,27 @@ lower_rows h first last = record {
   depth = bottom_height h;
 }
 
--- how many leaves are computed so that other leaves are served: none where the same subtrees hold
--- these, else all leaves of theirs
+-- how many leaves are computed so that those from `first` to `last` are served, after those from
+-- `old_first` to `old_last`: none where the first ones are in one bottom subtree, and the last ones
+-- too, else all leaves of the bottom subtrees that hold the new ones
 abbrev pub moved_leaves : ℕ → ℕ → ℕ → ℕ → ℕ → ℕ
 moved_leaves h old_first old_last first last =
     if (first / 2 ^ bottom_height h == old_first / 2 ^ bottom_height h)
     && (last / 2 ^ bottom_height h == old_last / 2 ^ bottom_height h)
     then 0 else subtrees h first last * 2 ^ bottom_height h
 
--- the number of nodes of both: the nodes from the root down to the roots of the bottom subtrees,
--- and all nodes of each subtree that holds one of the leaves
+-- the number of nodes that are held: the nodes from the root down to the roots of the bottom
+-- subtrees, and all nodes of each subtree that holds one of the leaves
 abbrev pub kept_nodes : ℕ → ℕ → ℕ → ℕ
 kept_nodes h first last =
     2 ^ (h - bottom_height h + 1) - 1 + subtrees h first last * (2 ^ (bottom_height h + 1) - 1)
 
--- the most nodes of both, which a tree of height 25 has where two of its subtrees hold the leaves
+-- the most nodes that are held: those of a tree of height 25 where two of its bottom subtrees hold
+-- the leaves
 abbrev pub most_kept : ℕ
 most_kept = 69629
 
--- and in a tree of height 20 or less
+-- the most nodes that are held of a tree of height 20 or less
 abbrev pub most_kept_of_20 : ℕ
 most_kept_of_20 = 6141
 
@@ -68,14 +70,15 @@ pub record CanServe (key : TreeKey) (first last : ℕ) : Type 0 where
   pub in_tree : last < 2 ^ (tree_of key).lms.h
   pub at_most : last - first < most_served
 
--- a `BandTree` can serve them, and has as many places for nodes as that takes
+-- a `BandTree` can serve the leaves from `first` to `last`, and both lists have as many places for
+-- nodes as that takes
 pub record HasRoom (key : TreeKey) (first last : ℕ) (upper lower : List (List ℕ)) : Type 0 where
   pub can : CanServe key first last
   pub upper_count : length upper
       ≡ nodes_in (root_rows ((tree_of key).lms.h - bottom_height (tree_of key).lms.h))
   pub lower_count : length lower ≡ nodes_in (lower_rows (tree_of key).lms.h first last)
 
--- what serves the leaves from `first` to `last`
+-- these two bands are what serves the leaves from `first` to `last`
 pub record HoldsBands (first last : ℕ) (upper lower : RowsOf) : Type 0 where
   pub order : first ≤ last
   pub in_tree : last < 2 ^ (tree_of upper.key).lms.h

@@ -18,7 +18,7 @@ pub record AreInTree (h : ℕ) (rows : Rows) : Type 0 where
   pub some : 1 ≤ rows.width
   pub to_leaves : (rows.first + rows.width) * 2 ^ rows.depth ≤ 2 * 2 ^ h
 
--- row `level`, counted from the top, after all rows above it
+-- row `level`, counted from the top; its place is after all rows above it
 abbrev pub row_of : Rows → ℕ → Row
 row_of rows level = record {
   first = rows.first * 2 ^ level;
@@ -26,7 +26,7 @@ row_of rows level = record {
   place = rows.width * 2 ^ level - rows.width;
 }
 
--- the row below another, after it
+-- the row below another; its place is after that one
 abbrev pub row_below : Row → Row
 row_below row =
     record { first = 2 * row.first; count = 2 * row.count; place = row.place + row.count }
@@ -40,6 +40,11 @@ abbrev pub HoldsRow : TreeKey → Row → List (List ℕ) → Type 0
 HoldsRow key row nodes =
     (i : ℕ) → i < row.count
     → slice_index_or nodes (row.place + i) [] ≡ node (tree_of key) (row.first + i)
+
+-- so many nodes side by side are the tree's, from node `first` on
+abbrev pub AreNodesFrom : TreeKey → ℕ → ℕ → List (List ℕ) → Type 0
+AreNodesFrom key first count nodes =
+    (i : ℕ) → i < count → slice_index_or nodes i [] ≡ node (tree_of key) (first + i)
 
 -- all nodes of all rows, each at its place
 pub record HoldsRows (key : TreeKey) (rows : Rows) (nodes : List (List ℕ)) : Type 0 where

@@ -18,6 +18,11 @@ pub record KeptNodes : Type 0 where
   pub upper : List (List ℕ)
   pub lower : List (List ℕ)
 
+-- these four as one value
+abbrev pub kept_nodes_of : TreeKey → ℕ → List (List ℕ) → List (List ℕ) → KeptNodes
+kept_nodes_of key subtree upper lower =
+    record { key = key; subtree = subtree; upper = upper; lower = lower }
+
 -- the height of what is above the bottom subtrees of a tree of height h
 abbrev pub upper_height : ℕ → ℕ
 upper_height h = h - bottom_height h
@@ -30,7 +35,7 @@ upper_rows h = root_rows (upper_height h)
 abbrev pub subtree_root : ℕ → ℕ → ℕ
 subtree_root h n = 2 ^ upper_height h + n
 
--- all rows of that subtree
+-- all rows of bottom subtree n
 abbrev pub subtree_rows : ℕ → ℕ → Rows
 subtree_rows h n = record { first = subtree_root h n; width = 1; depth = bottom_height h }
 
@@ -43,7 +48,7 @@ pub record FillsRows (rows : Rows) (nodes : List (List ℕ)) : Type 0 where
   pub count : length nodes ≡ nodes_in rows
   pub sizes : AreHashes nodes
 
--- a bottom subtree, and as many nodes as serve it
+-- the number is that of a bottom subtree, and there are as many nodes as serve it
 pub record HasShape (kept : KeptNodes) : Type 0 where
   pub in_tree : kept.subtree < 2 ^ upper_height (tree_of kept.key).lms.h
   pub upper : FillsRows (upper_rows (tree_of kept.key).lms.h) kept.upper
@@ -55,7 +60,7 @@ given_public kept =
     lms_public_key (tree_of kept.key).lms (tree_of kept.key).ots (tree_of kept.key).id
     (slice_index_or kept.upper 0 [])
 
--- they are the tree's, each at its place
+-- the nodes are the tree's, each at its place
 pub record AreNodes (kept : KeptNodes) : Type 0 where
   pub upper_are : HoldsRows kept.key (upper_rows (tree_of kept.key).lms.h) kept.upper
   pub lower_are : HoldsRows kept.key (subtree_rows (tree_of kept.key).lms.h kept.subtree) kept.lower
@@ -64,8 +69,15 @@ pub record AreNodes (kept : KeptNodes) : Type 0 where
 abbrev pub ServesLeaf : KeptNodes → ℕ → Type 0
 ServesLeaf kept q = q / 2 ^ bottom_height (tree_of kept.key).lms.h ≡ kept.subtree
 
--- the same upper nodes with those of another bottom subtree, which are the tree's, as is the node
--- that was given for its root
+-- the first leaf that is served, and the last
+abbrev pub first_served : KeptNodes → ℕ
+first_served kept = kept.subtree * 2 ^ bottom_height (tree_of kept.key).lms.h
+
+abbrev pub last_served : KeptNodes → ℕ
+last_served kept = first_served kept + (2 ^ bottom_height (tree_of kept.key).lms.h - 1)
+
+-- `moved` has the same upper nodes, and those of bottom subtree n, which are the tree's, as is the
+-- node that was given for the root of that subtree
 pub record MovesTo (kept : KeptNodes) (n : ℕ) (moved : KeptNodes) : Type 0 where
   pub key : moved.key ≡ kept.key
   pub subtree : moved.subtree ≡ n

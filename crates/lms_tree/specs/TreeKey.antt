@@ -21,7 +21,7 @@ public_text key = public_key_of (tree_of key)
 abbrev pub signature_text : TreeKey → ℕ → List ℕ → List ℕ → List ℕ
 signature_text key q randomizer message = lms_signature (tree_of key) q randomizer message
 
--- the bytes of a signature (5.4)
+-- how many bytes a signature has (5.4)
 abbrev pub signature_length_under : TreeKey → ℕ
 signature_length_under key = lms_signature_length (lms_set_of key.lms) (ots_set_of key.ots)
 
@@ -29,6 +29,6 @@ signature_length_under key = lms_signature_length (lms_set_of key.lms) (ots_set_
 abbrev pub path_text : TreeKey → ℕ → List ℕ
 path_text key q = concat (path_of (tree_of key) q)
 
--- the bytes of a path (5.4)
+-- how many bytes a path has (5.4)
 abbrev pub path_length_under : TreeKey → ℕ
 path_length_under key = hash_length * (tree_of key).lms.h

@@ -160,7 +160,7 @@ impl Band {
         node_in(&self.nodes, self.rows, level, r)
     }
 
-    /// The rows.
+    /// The rows that are held.
     pub(crate) fn rows(&self) -> Rows
         ensures rows { result ≡ self.now.rows }
         ensures in_tree { AreInTree (tree_of self.now.key).lms.h result }

@@ -41,9 +41,9 @@ impl Model for BandTree {
 }
 
 impl BandTree {
-    /// Computes what serves the leaves from `first` to `last`, at most 1024 leaves of the tree, by as
-    /// many threads as there are processors, at most 32. `OutOfMemory` where one of the two requests
-    /// for memory is refused, before anything is computed.
+    /// Computes what serves the leaves from `first` to `last`, at most 1024 leaves of the tree, by
+    /// as many threads as there are processors, at most 32. `OutOfMemory` where one of the two
+    /// requests for memory is refused, before anything is computed.
     pub fn build(
         rt: &(impl Threads + Sync),
         alloc: Global,
@@ -75,10 +75,10 @@ impl BandTree {
     }
 
     /// Moves on to other leaves of the tree, from `first` to `last`, at most 1024. The upper nodes
-    /// stay. Where the first and the last of these leaves are in the same bottom subtrees as those of
-    /// before, nothing is computed; else all of the new ones' bottom subtrees are, and their leaves
-    /// are reported to the `Progress` of `begun`.
-    /// `OutOfMemory` where the one request for memory is refused, before anything is computed.
+    /// stay. Where the first and the last of these leaves are in the same bottom subtrees as those
+    /// of before, nothing is computed; else all of the new ones' bottom subtrees are, also one that
+    /// was held, and reported to the `Progress` of `begun`. `OutOfMemory` where the one request for
+    /// memory is refused, before anything is computed: then this tree is gone.
     pub fn moved_to(
         self,
         rt: &(impl Threads + Sync),
@@ -91,34 +91,20 @@ impl BandTree {
         ensures { IfOk result (λ tree.
             tree ≡ record { key = self.key; first = first; last = last }) }
     {
-        let BandTree {
-            first: _,
-            last: _,
-            upper,
-            lower,
-        } = self;
-        let key = upper.key();
+        let mut tree = self;
+        let key = tree.upper.key();
         let rows = lower_rows(key.lms, first, last);
-        if lower.has_rows(rows) {
-            return Ok(BandTree {
-                first,
-                last,
-                upper,
-                lower,
-            });
+        if !tree.lower.has_rows(rows) {
+            let memory = rows.allocate(alloc)?;
+            tree.lower = Band::build(rt, key, rows, memory, None, begun);
         }
-        let memory = rows.allocate(alloc)?;
-        let lower = Band::build(rt, key, rows, memory, None, begun);
-        Ok(BandTree {
-            first,
-            last,
-            upper,
-            lower,
-        })
+        tree.first = first;
+        tree.last = last;
+        Ok(tree)
     }
 
-    /// How many leaves `moved_to` computes: none where the first and the last of these leaves are in
-    /// the same bottom subtrees as those of before, else all that the new ones' bottom subtrees have.
+    /// How many leaves `moved_to` computes: none where the first and the last leaf are in the bottom
+    /// subtrees of those before, else all that the new ones' bottom subtrees have.
     pub fn leaves_to(&self, first: u32, last: u32) -> u64
         ensures { result ≡ moved_leaves (tree_of self.now.key).lms.h
             self.now.first self.now.last first last }
@@ -143,8 +129,8 @@ impl BandTree {
         self.upper.len() + self.lower.len()
     }
 
-    /// The nodes that are held, where the leaves served are in one bottom subtree. They are the
-    /// tree's.
+    /// The nodes that are held, as a `KeptTree` that serves the bottom subtree of the leaves
+    /// served. These must all be in one. The nodes are the tree's.
     pub fn into_kept(self) -> KeptTree
         requires { self.first / 2 ^ bottom_height_of (tree_of self.key).lms.h
             ≡ self.last / 2 ^ bottom_height_of (tree_of self.key).lms.h }

@@ -1,20 +1,19 @@
 //! A tree whose nodes were given, for example read from a file.
-ghost use Rattle.std.specs.Prelude.{ℕ, ◌≡◌, ◌≢◌, ◌+◌, ◌-◌, ◌*◌, ◌/◌, ◌^◌, ◌<◌, ◌↔◌, [], length, slice_index_or, IfOk, IfSome, IfNone, IsTrue};
+ghost use Rattle.std.specs.Prelude.{ℕ, ◌≡◌, ◌≢◌, ◌+◌, ◌-◌, ◌/◌, ◌^◌, ◌<◌, ◌↔◌, [], length, slice_index_or, IfOk, IfSome, IfNone, IsTrue};
 ghost use Rattle.lms_spec.specs.Parameters.{greatest_height};
 ghost use Rattle.lms_spec.specs.Tree.{node as node_of};
 ghost use Rattle.lms_params.specs.LmsType.{lms_set_of};
-ghost use Rattle.lms_tree.specs.TreeKey.{tree_of, path_length_under, path_text, public_text, signature_length_under, signature_text};
+ghost use Rattle.lms_tree.specs.TreeKey.{tree_of, public_text, signature_length_under, signature_text};
 ghost use Rattle.lms_tree.specs.Held.{AreInTree, nodes_in};
-ghost use Rattle.lms_tree.specs.Kept.{AreNodes, FillsRows, given_public, HasShape, IsSignatureAlong, MovesTo, ServesLeaf, subtree_root, subtree_rows as subtree_rows_of, upper_height, upper_rows as upper_rows_of};
-ghost use Rattle.lms_tree.specs.Served.{IsNeeded};
+ghost use Rattle.lms_tree.specs.Kept.{AreNodes, FillsRows, given_public, HasShape, IsSignatureAlong, kept_nodes_of, MovesTo, ServesLeaf, subtree_root, subtree_rows as subtree_rows_of, upper_height, upper_rows as upper_rows_of};
 
 use crate::band::{Band, Rows, node_in};
 use crate::band_tree::{bottom_height, upper_rows};
+use crate::node_source::NodeSource;
 use crate::progress::{Begun, Progress};
-use crate::signing::{LMS_KEY_LEN, public_key_bytes, sibling, write_head};
+use crate::signing::{LMS_KEY_LEN, public_key_bytes, sign_into};
 use crate::tree_key::TreeKey;
 use lms_params::{HASH_LEN, LmsType, OutOfMemory};
-use lms_verification::leaf_count;
 use std::alloc::Global;
 use std::marker::Model;
 use std::thread::Threads;
@@ -31,26 +30,19 @@ pub struct KeptTree {
 }
 
 impl Model for KeptTree {
-    ghost use Rattle.lms_tree.specs.Kept.{KeptNodes, HasShape};
+    ghost use Rattle.lms_tree.specs.Kept.{KeptNodes, HasShape, kept_nodes_of};
 
     ghost Value = { KeptNodes };
 
-    ghost view = { λ a.
-        record { key = a.key; subtree = a.subtree; upper = a.upper.items; lower = a.lower.items } };
+    ghost view = { λ a. kept_nodes_of a.key a.subtree a.upper.items a.lower.items };
 
-    ghost invariant = { λ a.
-        HasShape (record {
-          key = a.key;
-          subtree = a.subtree;
-          upper = a.upper.items;
-          lower = a.lower.items;
-        }) };
+    ghost invariant = { λ a. HasShape (kept_nodes_of a.key a.subtree a.upper.items a.lower.items) };
 }
 
 impl KeptTree {
-    /// Takes nodes of a tree: `upper` from the root down to the roots of the bottom subtrees, and
-    /// `lower` of one bottom subtree, counted from 0; both row by row. `None` where their numbers
-    /// are not those of `counts`.
+    /// Takes nodes of a tree, whatever their values: `upper` from the root down to the roots of the
+    /// bottom subtrees, and `lower` of the bottom subtree with the number `subtree`, counted from
+    /// 0; both row by row. `None` exactly where they are not as many as `counts` says.
     pub fn given(
         key: TreeKey,
         subtree: u32,
@@ -59,8 +51,7 @@ impl KeptTree {
     ) -> Option<Self>
         requires { subtree < 2 ^ upper_height (tree_of key).lms.h }
         ensures some { IfSome result (λ tree.
-            tree
-            ≡ record { key = key; subtree = subtree; upper = upper.items; lower = lower.items }) }
+            tree ≡ kept_nodes_of key subtree upper.items lower.items) }
         ensures shape { IfSome result HasShape }
         ensures none { IfNone result
             ((length upper.items ≡ nodes_in (upper_rows_of (tree_of key).lms.h))
@@ -77,20 +68,13 @@ impl KeptTree {
         })
     }
 
-    /// How many nodes there are in each of the two lists: from the root down to the roots of the
-    /// bottom subtrees, and in one of these.
+    /// How many nodes a `KeptTree` has in its two lists: from the root down to the roots of the
+    /// bottom subtrees, and in one bottom subtree.
     pub fn counts(lms: LmsType) -> (usize, usize)
         ensures upper { result.0 ≡ nodes_in (upper_rows_of (lms_set_of lms).h) }
         ensures lower { (n : ℕ) → result.1 ≡ nodes_in (subtree_rows_of (lms_set_of lms).h n) }
     {
         (upper_rows(lms).len(), subtree_rows(lms, 0).len())
-    }
-
-    /// The key of the tree.
-    pub fn key(&self) -> TreeKey
-        ensures { result ≡ self.now.key }
-    {
-        self.key
     }
 
     /// The number of the bottom subtree whose leaves are served.
@@ -120,13 +104,10 @@ impl KeptTree {
         ensures right { AreNodes self.now → result ≡ public_text self.now.key }
     {
         let root = self.upper.as_slice()[0];
-        public_key_bytes(self.key.lms, self.key.ots, &self.key.i, &root)
+        public_key_bytes(&self.key, &root)
     }
 
-    /// Signs a message with leaf q, which must be served, under the randomizer `c`, and writes the
-    /// signature to `out`. Its path is made of the nodes given. Where they are the tree's, it is
-    /// RFC 8554's signature (5.4.1); else a verifier may refuse it, but its one-time signature is
-    /// the same.
+    /// Signs by the nodes given, as the function `sign_into` does. Leaf q must be served.
     pub fn sign_into(&self, q: u32, c: &[u8; HASH_LEN], msg: &[u8], out: &mut [u8])
         requires served { ServesLeaf self.now q }
         requires long { length out.old ≡ signature_length_under self.now.key }
@@ -134,14 +115,13 @@ impl KeptTree {
         ensures signature { AreNodes self.now
             → out.new ≡ signature_text self.now.key q c.now msg.now }
     {
-        let path_start = 8 + self.key.ots.sig_len();
-        write_head(&self.key, q, c, msg, &mut out[..path_start]);
-        self.write_path(q, &mut out[path_start..]);
+        sign_into(self, q, c, msg, out);
     }
 
     /// Moves to another bottom subtree and computes its nodes: 2^10 leaves in a tree of height 10
     /// or more, reported to the `Progress` of `begun`. `None` where its root is not the node that
-    /// was given for it.
+    /// was given for it. `OutOfMemory` where the one request for memory is refused, before anything
+    /// is computed. In either case this tree is gone.
     pub fn moved_to(
         self,
         rt: &(impl Threads + Sync),
@@ -154,33 +134,43 @@ impl KeptTree {
         ensures shape { IfOk result (λ moved. IfSome moved HasShape) }
         ensures refused { IfOk result (λ moved. IfNone moved (¬ AreNodes self)) }
     {
-        let KeptTree {
-            key,
-            subtree: _,
-            upper,
-            lower: _,
-        } = self;
-        let rows = subtree_rows(key.lms, subtree);
+        let mut tree = self;
+        let rows = subtree_rows(tree.key.lms, subtree);
         let memory = rows.allocate(alloc)?;
-        let band = Band::build(rt, key, rows, memory, None, begun);
-        if !has_root(&upper, subtree, &band) {
+        let band = Band::build(rt, tree.key, rows, memory, None, begun);
+        if !has_root(&tree.upper, subtree, &band) {
             return Ok(None);
         }
-        Ok(Some(KeptTree {
-            key,
-            subtree,
-            upper,
-            lower: band.into_nodes(),
-        }))
+        tree.subtree = subtree;
+        tree.lower = band.into_nodes();
+        Ok(Some(tree))
+    }
+}
+
+impl NodeSource for KeptTree {
+    ghost use Rattle.lms_tree.specs.Kept.{AreNodes, first_served, last_served};
+
+    ghost tree_key = { λ kept. kept.key };
+
+    ghost first_leaf = { first_served };
+
+    ghost last_leaf = { last_served };
+
+    ghost are_nodes = { AreNodes };
+
+    fn key(&self) -> TreeKey {
+        self.key
     }
 
-    /// The node that was given for node r, which must be the root, 1, or in the path of a leaf that
-    /// is served.
-    fn node(&self, r: u32) -> [u8; HASH_LEN]
-        requires { (q : ℕ) × ServesLeaf self.now q × (q < 2 ^ (tree_of self.now.key).lms.h)
-            × IsNeeded (tree_of self.now.key).lms.h q q r }
-        ensures { AreNodes self.now → result ≡ node_of (tree_of self.now.key) r }
-    {
+    fn first(&self) -> u32 {
+        self.subtree << bottom_height(self.key.lms)
+    }
+
+    fn last(&self) -> u32 {
+        self.first() + ((1 << bottom_height(self.key.lms)) - 1)
+    }
+
+    fn node(&self, r: u32) -> [u8; HASH_LEN] {
         let upper = upper_rows(self.key.lms);
         let level = r.ilog2();
         if level <= upper.depth {
@@ -188,20 +178,6 @@ impl KeptTree {
         } else {
             let lower = subtree_rows(self.key.lms, self.subtree);
             node_in(&self.lower, lower, level - upper.depth, r)
-        }
-    }
-
-    /// Writes the path of leaf q from the nodes given (5.4).
-    fn write_path(&self, q: u32, out: &mut [u8])
-        requires served { ServesLeaf self.now q }
-        requires long { length out.old ≡ path_length_under self.now.key }
-        ensures long { length out.new ≡ path_length_under self.now.key }
-        ensures path { AreNodes self.now → out.new ≡ path_text self.now.key q }
-    {
-        let leaf = leaf_count(self.key.lms) + q;
-        for level in 0..self.key.lms.height() as usize {
-            let value = self.node(sibling(leaf >> level));
-            out[HASH_LEN * level..HASH_LEN * level + HASH_LEN].copy_from_slice(&value);
         }
     }
 }

@@ -11,9 +11,9 @@ use std::alloc::Global;
 use std::marker::Model;
 use std::thread::Threads;
 
-/// What a `BandTree` is to serve, and all memory that it takes. Who needs several trees plans all of
-/// them first: then no leaf is computed where memory for one of them is refused. Contracts see the
-/// key and the range of leaves.
+/// What a `BandTree` is to serve, and all memory that it takes. Who needs several trees plans all
+/// of them first: then no leaf is computed where memory for one of them is refused. Contracts see
+/// the key and the range of leaves.
 #[derive(Drop)]
 pub struct PlannedTree {
     key: TreeKey,

@@ -8,7 +8,7 @@ pub trait Progress: Sync {
     /// many leaves.
     fn begin(&self, leaves: u64);
 
-    /// So many more of them are computed.
+    /// So many more leaves are computed.
     fn done(&self, leaves: u64);
 }
 

@@ -1,9 +1,10 @@
 //! A row of nodes, computed by several threads at once.
-ghost use Rattle.std.specs.Prelude.{ℕ, ◌≡◌, ◌+◌, ◌*◌, ◌^◌, ◌<◌, ◌≤◌, [], length, slice_index_or, IfSome};
+ghost use Rattle.std.specs.Prelude.{◌≡◌, ◌+◌, ◌*◌, ◌^◌, ◌<◌, ◌≤◌, length, IfSome};
 ghost use Rattle.std.specs.Option.{ForSome};
 ghost use Rattle.std.specs.Thread.{IsSync};
 ghost use Rattle.lms_spec.specs.Tree.{node as node_of};
 ghost use Rattle.lms_tree.specs.TreeKey.{tree_of};
+ghost use Rattle.lms_tree.specs.Held.{AreNodesFrom};
 
 use crate::band::Band;
 use crate::progress::Progress;
@@ -45,8 +46,7 @@ pub(crate) fn fill_lowest_row(
     requires from_root { 1 ≤ first }
     requires in_tree { first + length row.old ≤ 2 * 2 ^ (tree_of key).lms.h }
     requires lower { IfSome lower (λ band. band.now.key ≡ key) }
-    ensures { (i : ℕ) → i < length row.new
-        → slice_index_or row.new i [] ≡ node_of (tree_of key) (first + i) }
+    ensures { AreNodesFrom key first (length row.new) row.new }
 {
     let threads = current_num_threads(rt).min(MOST_THREADS);
     let work = Work {
@@ -72,8 +72,7 @@ fn fill<R: Threads + Sync, P: Progress>(
     requires from_root { 1 ≤ first }
     requires in_tree { first + length part.old ≤ 2 * 2 ^ (tree_of work.now.key).lms.h }
     ensures count { length part.new ≡ length part.old }
-    ensures nodes { (i : ℕ) → i < length part.new
-        → slice_index_or part.new i [] ≡ node_of (tree_of work.now.key) (first + i) }
+    ensures nodes { AreNodesFrom work.now.key first (length part.new) part.new }
 {
     if threads > 1 && part.len() > 1 {
         fill_both(work, threads, first, part);
@@ -89,8 +88,8 @@ fn fill<R: Threads + Sync, P: Progress>(
 }
 
 /// Computes a part of a row by so many threads, half of them for the nodes on the left and half for
-/// those on the right. Where no thread can be made the caller's computes both. All of them count as
-/// at work before, and none after.
+/// those on the right. Where no thread can be made, the caller's computes both. All of them count
+/// as at work before, and none after.
 #[cycle(parts)]
 fn fill_both<R: Threads + Sync, P: Progress>(
     work: &Work<R, P>,
@@ -103,8 +102,7 @@ fn fill_both<R: Threads + Sync, P: Progress>(
     requires from_root { 1 ≤ first }
     requires in_tree { first + length part.old ≤ 2 * 2 ^ (tree_of work.now.key).lms.h }
     ensures count { length part.new ≡ length part.old }
-    ensures nodes { (i : ℕ) → i < length part.new
-        → slice_index_or part.new i [] ≡ node_of (tree_of work.now.key) (first + i) }
+    ensures nodes { AreNodesFrom work.now.key first (length part.new) part.new }
 {
     let own = threads / 2;
     let others = threads - own;
@@ -114,23 +112,19 @@ fn fill_both<R: Threads + Sync, P: Progress>(
         requires { IsSync R.row × IsSync P.row × (0 < others) × (others ≤ 32) × (1 ≤ next)
             × (next + length right.now ≤ 2 * 2 ^ (tree_of work.now.key).lms.h) }
         ensures { (length right.exit.now ≡ length right.entry.now)
-            × ((i : ℕ) → i < length right.exit.now
-            → slice_index_or right.exit.now i []
-            ≡ node_of (tree_of work.entry.now.key) (next + i)) }
+            × AreNodesFrom work.entry.now.key next (length right.exit.now) right.exit.now }
     { fill(work, others, next, right) };
     let mut ours = ||
         requires { IsSync R.row × IsSync P.row × (0 < own) × (own ≤ 32) × (1 ≤ first)
             × (first + length left.now ≤ 2 * 2 ^ (tree_of work.now.key).lms.h) }
         ensures { (length left.exit.now ≡ length left.entry.now)
-            × ((i : ℕ) → i < length left.exit.now
-            → slice_index_or left.exit.now i []
-            ≡ node_of (tree_of work.entry.now.key) (first + i)) }
+            × AreNodesFrom work.entry.now.key first (length left.exit.now) left.exit.now }
     { fill(work, own, first, left) };
     join_mut(work.rt, &mut theirs, &mut ours);
 }
 
-/// How many of these nodes `own` of the threads compute: whole eights, where that makes little
-/// difference.
+/// How many of `nodes` nodes `own` of `threads` threads compute: their share, in whole eights where
+/// that makes little difference, at least one node and not all.
 fn left_len(nodes: usize, own: usize, threads: usize) -> usize
     requires own { own < threads }
     requires threads { threads ≤ 32 }
@@ -140,11 +134,8 @@ fn left_len(nodes: usize, own: usize, threads: usize) -> usize
     ensures others { result < nodes }
 {
     let share = nodes * own / threads;
-    let whole = if share < 64 {
-        share
-    } else {
-        share / LANES * LANES
-    };
+    let eights = share / LANES * LANES;
+    let whole = if share < 64 { share } else { eights };
     whole.clamp(1, nodes - 1)
 }
 
@@ -161,8 +152,7 @@ fn fill_until_free<R: Threads + Sync, P: Progress>(
     ensures count { length part.new ≡ length part.old }
     ensures bound { result ≤ length part.old }
     ensures others { result < length part.old → result + 1 < length part.old }
-    ensures nodes { (i : ℕ) → i < result
-        → slice_index_or part.new i [] ≡ node_of (tree_of work.now.key) (first + i) }
+    ensures nodes { AreNodesFrom work.now.key first result part.new }
 {
     let much = 2 * piece_len(work, first);
     let mut done = 0;
@@ -175,8 +165,8 @@ fn fill_until_free<R: Threads + Sync, P: Progress>(
     done
 }
 
-/// How many nodes are computed at once from this one on: eight leaves, where none is copied, else
-/// one node.
+/// How many nodes are computed at once from node `first` on: eight, where it is a leaf and there is
+/// no `lower`, else one.
 fn piece_len<R, P>(work: &Work<R, P>, first: u32) -> usize
     ensures some { 0 < result }
     ensures leaves { 1 < result → (result ≡ 8) × (2 ^ (tree_of work.now.key).lms.h ≤ first) }
@@ -202,8 +192,7 @@ fn fill_next<R: Threads + Sync, P: Progress>(
     ensures count { length part.new ≡ length part.old }
     ensures some { 0 < result }
     ensures bound { result ≤ length part.old }
-    ensures nodes { (i : ℕ) → i < result
-        → slice_index_or part.new i [] ≡ node_of (tree_of work.now.key) (first + i) }
+    ensures nodes { AreNodesFrom work.now.key first result part.new }
 {
     if part.len() >= LANES && piece_len(work, first) == LANES {
         let q = first - leaf_count(work.key.lms);
@@ -217,7 +206,7 @@ fn fill_next<R: Threads + Sync, P: Progress>(
 }
 
 /// The value of node r: copied from the top row of `lower` if it is there, else computed from the
-/// leaves below it.
+/// leaves below it, which are then reported to `progress`.
 fn node<R, P: Progress>(work: &Work<R, P>, r: u32) -> [u8; HASH_LEN]
     requires from_root { 1 ≤ r }
     requires in_tree { r < 2 * 2 ^ (tree_of work.now.key).lms.h }

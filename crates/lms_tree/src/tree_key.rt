@@ -1,7 +1,8 @@
 //! A tree's private key, and the nodes that follow from it.
-ghost use Rattle.std.specs.Prelude.{ℕ, ◌≡◌, ◌+◌, ◌*◌, ◌^◌, ◌<◌, ◌≤◌, [], length, slice_index_or};
+ghost use Rattle.std.specs.Prelude.{◌≡◌, ◌+◌, ◌*◌, ◌^◌, ◌<◌, ◌≤◌, length};
 ghost use Rattle.lms_spec.specs.Tree.{node};
 ghost use Rattle.lms_tree.specs.TreeKey.{tree_of};
+ghost use Rattle.lms_tree.specs.Held.{AreNodesFrom};
 
 use lms_ots::{LANES, OtsId, eight_public_hashes, public_hash};
 use lms_params::{HASH_LEN, LmsType, OtsType};
@@ -31,9 +32,7 @@ impl TreeKey {
     pub(crate) fn neighbouring_leaves(&self, q: u32) -> [[u8; HASH_LEN]; LANES]
         requires { q + 8 ≤ 2 ^ (tree_of self.now).lms.h }
         ensures long { length result ≡ 8 }
-        ensures values { (k : ℕ) → k < 8
-            → slice_index_or result k []
-            ≡ node (tree_of self.now) (2 ^ (tree_of self.now).lms.h + q + k) }
+        ensures values { AreNodesFrom self.now (2 ^ (tree_of self.now).lms.h + q) 8 result }
     {
         let first = leaf_count(self.lms) + q;
         let ots_publics = eight_public_hashes(self.ots, &self.seed, OtsId { i: self.i, q });

@@ -10,7 +10,7 @@ pub(crate) struct Workers {
 }
 
 impl Workers {
-    /// So many may be at work, and are at first.
+    /// A count of threads of which `most` may be at work, and are at first.
     pub(crate) fn new(most: usize) -> Self {
         Workers {
             at_work: AtomicUsize::new(most),

@@ -14,8 +14,8 @@ use lms_ots::{ByEights, ChainEnds, MESSAGE_HEAD_LEN, OtsId};
 use lms_params::{HASH_LEN, LmsType, OtsType, lms_sig_len, split_u32};
 use std::marker::Model;
 
-/// Whether a signature is accepted for a message under a public key (RFC 8554, 5.4.2). The three
-/// may have any length. Its chains are taken to their ends by eights.
+/// Whether an LMS signature is accepted for a message under an LMS public key (RFC 8554, 5.4.2).
+/// The three may have any length. The signature's chains are taken to their ends by eights.
 pub fn verify(public: &[u8], msg: &[u8], sig: &[u8]) -> bool
     ensures { IsTrue result ↔ LmsAccepts public.now msg.now sig.now }
 {
@@ -74,7 +74,7 @@ impl PublicKey {
         })
     }
 
-    /// The bytes of each signature under the key (RFC 8554, 5.4).
+    /// How many bytes each signature under the key has (RFC 8554, 5.4).
     pub fn signature_len(&self) -> usize
         ensures { HasSignaturesOf result self.now }
     {
@@ -196,7 +196,8 @@ struct Signature<'a> {
 
 impl<'a> Signature<'a> {
     /// The parts of a signature under a key of these sets. `None` exactly where its leaf is not in
-    /// the tree, or its typecode or its length is not the key's.
+    /// the tree, or its LMS typecode or its length is not the key's. The typecode of the one-time
+    /// signature may be any.
     fn parse(lms: LmsType, ots: OtsType, sig: &'a [u8]) -> Option<Self>
         ensures some { IfSome result (λ s.
             IsLmsSignature (lms_set_of lms)

@@ -2,7 +2,7 @@
 use Rattle.lms_world.specs.Events.{Event, Read, Opened, Written, Locked, Unlocked, Asked}
 use Rattle.lms_world.specs.Events.{Acquired, NotAvailable, NoMemory}
 use Rattle.lms_world.specs.Events.{Taken, NodesRead, NodesWritten, Printed}
-use Rattle.lms_world.specs.Events.{WitnessDrafted, WitnessMade, WitnessRead, WitnessWritten}
+use Rattle.lms_world.specs.Events.{WitnessMade, WitnessRead, WitnessWritten}
 use Rattle.lms_world.specs.Events.{place_of, read_of, witness_of}
 use Rattle.std.specs.Prelude.{None, Err, option_map}
 use Rattle.lms_world.specs.declared.log.Call.{Call as LoggedCall}
@@ -21,7 +21,6 @@ event_of logged.NotTaken = Taken None
 event_of (logged.NodesRead found) = NodesRead (option_map (λ text. text.items) found.now)
 event_of (logged.NodesWritten text answer) = NodesWritten text.now answer
 event_of (logged.WitnessRead answer) = WitnessRead (witness_of answer.now)
-event_of (logged.WitnessDrafted answer) = WitnessDrafted answer
 event_of (logged.WitnessWritten text answer) = WitnessWritten text.now answer
 event_of (logged.WitnessMade name text answer) = WitnessMade name.now text.now (place_of answer.now)
 event_of (logged.Printed bytes) = Printed bytes.now

@@ -74,7 +74,7 @@ abbrev pub place_of : {E : Type 0} → Result (String Global) E → Result Bytes
 place_of (Ok place) = Ok (string_bytes place)
 place_of (Err fault) = Err fault
 
--- what is done, whatever it gave
+-- whether it was done, whatever it gave
 abbrev pub done_of : {T E : Type 0} → Result T E → Result (Unit {0}) E
 done_of (Ok it) = Ok tt
 done_of (Err fault) = Err fault
@@ -96,7 +96,7 @@ locking_of (Err fault.OutOfMemory) = NoMemory
 abbrev pub as_taken : {S : Type 0} → (S → StoreView) → (S → Bool) → S → Taking
 as_taken seen may_fail store = record { view = seen store; may_fail = may_fail store }
 
--- the taking out of a store, if it was
+-- the event of taking a store out, with none where that failed
 abbrev pub taking_of : {S E : Type 0} → (S → StoreView) → (S → Bool) → Result S E → Event
 taking_of seen may_fail (Ok store) = Taken (Some (as_taken seen may_fail store))
 taking_of seen may_fail (Err fault) = Taken None

@@ -41,7 +41,7 @@ state_fails (Some store) = cannot_read store
 abbrev pub store_in : MemoryWorld → Option MemoryState
 store_in world = world.state
 
--- another program has the lock
+-- whether another program has the lock
 abbrev pub is_used_elsewhere : MemoryWorld → Bool
 is_used_elsewhere world = world.in_use
 
@@ -61,7 +61,7 @@ witness_in world = witness_of world.witness
 abbrev pub with_witness_kept : Vec ℕ → MemoryWorld → MemoryWorld
 with_witness_kept text world = record world { witness = Ok (Some text) }
 
--- the world in which the witness can't be read or written
+-- the world in which the witness can't be read or written, by this fault
 abbrev pub with_failing_witness : WorldFault → MemoryWorld → MemoryWorld
 with_failing_witness fault world = record world { witness = Err fault }
 

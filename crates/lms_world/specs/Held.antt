@@ -11,7 +11,7 @@ use Rattle.lms_world.specs.Events.{WitnessDrafted, WitnessMade, WitnessRead, Wit
 use Rattle.lms_world.specs.declared.fault.WorldFault.{WorldFault}
 use Rattle.lms_world.specs.declared.fault.WorldFault.TheVariants.{Device, OutOfMemory}
 
--- what a read of a name answers
+-- names, each with what a read of it answers
 abbrev pub Answers : Type 0
 Answers = List (Bytes × Result (List ℕ) WorldFault)
 
@@ -43,11 +43,11 @@ answer_in (entry ∷ older) name = if bytes_eq entry.0 name then entry.1 else an
 abbrev pub MayRefuse : Held → Bytes → WorldFault → Type 0
 MayRefuse held name fault = (answer_in held.files name ≡ Err fault) ⊎ (fault ≡ OutOfMemory)
 
--- the same of a write of nodes
+-- a write of nodes may be refused by this fault
 abbrev pub MayRefuseNodes : Held → WorldFault → Type 0
 MayRefuseNodes held fault = (held.nodes_fault ≡ Some fault) ⊎ (fault ≡ OutOfMemory)
 
--- there is a state
+-- whether there is a state: not where a crash leaves none
 abbrev pub is_there : Texts → Bool
 is_there (Some []) = false
 is_there other = true
@@ -65,7 +65,8 @@ with_nodes_kept text held = record held { nodes = Some text }
 abbrev pub MayRefuseWitness : Held → WorldFault → Type 0
 MayRefuseWitness held fault = (held.witness ≡ Err fault) ⊎ (fault ≡ OutOfMemory)
 
--- so may the making of one, also where there is one
+-- the making of a witness may be refused by this fault: as a write of it, or by `Device` unless
+-- there is none
 abbrev pub MayRefuseMaking : Held → WorldFault → Type 0
 MayRefuseMaking held fault = MayRefuseWitness held fault ⊎ ((fault ≡ Device) × (held.witness ≢ Ok None))
 
@@ -107,19 +108,20 @@ Acts (WitnessMade name text (Err fault)) old new = (new ≡ old) × MayRefuseMak
 Acts (Printing before) old new = new ≡ old
 Acts (Printed bytes) old new = new ≡ old
 
--- the same of any world
+-- as `Acts`, of any world: of a disk nothing is known, before and after the call
 abbrev pub Does : Event → Memory → Memory → Type 0
 Does event None None = Unit {0}
 Does event (Some old) (Some new) = Acts event old new
 Does event old new = ⊥
 
--- calls one after another, the newest first
+-- what is held before and after calls that were made one after another, of which the newest is
+-- first
 abbrev pub Replays : Held → List Event → Held → Type 0
 Replays old [] new = new ≡ old
 Replays old (event ∷ earlier) new =
     (between : Held) × Replays old earlier between × Acts event between new
 
--- calls were added to those before, and each did what it does
+-- calls were added to those before, and each did what it does; of a disk it says nothing
 abbrev pub AreAdded : Memory → List Event → Memory → List Event → Type 0
 AreAdded None before None now = Unit {0}
 AreAdded (Some old) before (Some new) now =

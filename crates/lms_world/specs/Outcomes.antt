@@ -11,7 +11,7 @@ files_after [] files = files
 files_after (Written name bytes (Ok done) ∷ earlier) files = (name, Ok bytes) ∷ files_after earlier files
 files_after (other ∷ earlier) files = files_after earlier files
 
--- the state: none while its store is out, and then what that leaves
+-- the state: none while its store is out, and what the store leaves once it is put back
 abbrev pub state_after : List Event → Texts → Texts
 state_after [] state = state
 state_after (Taken (Some store) ∷ earlier) state = Some []

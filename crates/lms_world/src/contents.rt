@@ -30,8 +30,8 @@ pub trait Contents {
 
     /// Hands all of its bytes over, one piece after another. It takes no memory.
     ///
-    /// `Device` where it can't be read to its end: the taker then has a beginning of them.
-    /// `OutOfMemory` where the system lacks it.
+    /// `Device` where it can't be read to its end, `OutOfMemory` where the system lacks memory: the
+    /// taker may have a beginning of them then.
     fn hand_over<T: Taker>(self, taker: &mut T) -> Result<(), WorldFault>
         ensures handed { OnOk result
             ((bytes : List ℕ) × IfSome (holds self) (λ held. bytes ≡ held)

@@ -1,12 +1,12 @@
 //! The files of the disk.
-ghost use Rattle.std.specs.Prelude.{[], ◌∷◌, ◌≡◌, ◌≢◌, ℕ, List, None, IfOk, IfSome, IsOk, OnOk};
+ghost use Rattle.std.specs.Prelude.{[], ◌∷◌, ◌≡◌, ◌≢◌, ℕ, List, None, IfOk, IsOk, OnOk};
 ghost use Rattle.std.specs.IoError.{error_kind};
 ghost use Rattle.lms_file_store.specs.FileStores.{AreLeft, AreLeftIn, AreWritten};
 ghost use Rattle.lms_world.specs.Events.{Written};
 
 use crate::contents::{Contents, Taker};
 use crate::fault::WorldFault;
-use crate::log::{Call, Log, OpenedAs, PutIn, TakenOut};
+use crate::log::{Call, Drafted, Log, OpenedAs, PutIn, TakenOut};
 use crate::printer::{Beginning, Printer};
 use crate::world::World;
 use lms_blocks::read_block;
@@ -45,7 +45,8 @@ impl<'a, R: Files> DiskWorld<'a, R> {
         }
     }
 
-    /// Logs a write of a file, which came to this.
+    /// Logs a write of a file, which came to `answer`, and returns that, with the world's fault for
+    /// an error.
     fn written(
         &mut self,
         name: &str,
@@ -209,19 +210,11 @@ where
         alloc: Global,
         lock: &StateLock<R::File>,
     ) -> Result<WitnessDraft<R::File>, WorldFault> {
-        match lock.draft_witness(self.files, alloc) {
-            Ok(draft) => {
-                let answer = Ok(());
-                self.log = self.log.and(&Call::WitnessDrafted { answer });
-                Ok(draft)
-            }
-            Err(error) => {
-                let fault = fault_of(&error);
-                let answer = Err(fault);
-                self.log = self.log.and(&Call::WitnessDrafted { answer });
-                Err(fault)
-            }
-        }
+        let answer = lock
+            .draft_witness(self.files, alloc)
+            .map_err(|error| fault_of(&error));
+        self.log = self.log.and(&Drafted { answer: &answer });
+        answer
     }
 
     fn place_witness(
@@ -247,15 +240,11 @@ where
         name: &str,
         text: &[u8],
     ) -> Result<String, WorldFault> {
-        let answer = make_witness(self.files, alloc, lock, name, text).map_err(|error| fault_of(
-            &error,
-        ));
-        self.log = self.log.and(&Call::WitnessMade {
-            name,
-            text,
-            answer: &answer,
-        });
-        answer
+        let made = make_witness(self.files, alloc, lock, name, text);
+        let made = made.map_err(|error| fault_of(&error));
+        let answer = &made;
+        self.log = self.log.and(&Call::WitnessMade { name, text, answer });
+        made
     }
 
     fn begin_printing<O: Write>(&mut self, output: &Printer<O>) {
@@ -307,8 +296,8 @@ fn read_whole<R: Files>(files: &R, alloc: Global, path: &str) -> io::Result<Vec<
     read_sized(alloc, file, size)
 }
 
-/// All that is left in the file, which it closes, in memory of the size that it says it has and one
-/// byte for the read that finds the end, so that a large file is held once.
+/// All that is left in the file, which is closed. Memory is taken at first for `size` bytes, its
+/// length, and one byte more, for the read that finds the end, so that a large file is held once.
 fn read_sized<F: Read + Drop>(alloc: Global, file: F, size: usize) -> io::Result<Vec<u8>>
     ensures { IfOk result (λ bytes. AreLeftIn F F.remaining file bytes.items) }
 {
@@ -318,7 +307,7 @@ fn read_sized<F: Read + Drop>(alloc: Global, file: F, size: usize) -> io::Result
     Ok(bytes)
 }
 
-/// The fault of the world that an error of the disk is.
+/// The world's fault for an error of the disk: `OutOfMemory` where that is its kind, else `Device`.
 fn fault_of(error: &io::Error) -> WorldFault
     ensures memory { error_kind error.now ≡ ErrorKind.OutOfMemory
         → result ≡ WorldFault.OutOfMemory }

@@ -2,8 +2,8 @@
 ghost use Rattle.lms_world.specs.Outcomes.{HoldsWhatIsLogged};
 
 /// A world in memory that did what its log says, and nothing else, holds what that says: the files
-/// that were written, over those that there were, and of the state and of nodes what was put back
-/// or written last.
+/// that were written, over those that there were; the state that was put back last, or none while
+/// its store is taken out; and the nodes and the witness that were written last.
 pub fn holds_what_is_logged()
     ensures { HoldsWhatIsLogged }
 {}

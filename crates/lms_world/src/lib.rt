@@ -1,5 +1,5 @@
-//! The files and the keys' states that a program reaches by their names, and what is kept of the
-//! nodes of keys' trees beside states.
+//! The files and the keys' states that a program reaches by their names, and what is kept beside
+//! states: nodes of keys' trees, and witnesses.
 //!
 //! A [`World`] has them: [`DiskWorld`] is the disk, [`MemoryWorld`] stands in for it in tests.
 #![tactic(auto)]

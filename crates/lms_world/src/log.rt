@@ -26,7 +26,7 @@ impl Model for Event {
     ghost also_owns = { λ _. ftrue };
 }
 
-/// All calls but those that take a store out or put it back.
+/// A call whose entry needs none of a world's own types.
 #[derive(Drop)]
 pub(crate) enum Call<'a> {
     Read {
@@ -66,9 +66,6 @@ pub(crate) enum Call<'a> {
     WitnessRead {
         answer: &'a Result<Option<Vec<u8>>, WorldFault>,
     },
-    WitnessDrafted {
-        answer: Result<(), WorldFault>,
-    },
     WitnessWritten {
         text: &'a [u8],
         answer: Result<(), WorldFault>,
@@ -106,6 +103,16 @@ impl<C: Contents> Drop for OpenedAs<'_, C> {
 
 impl<C: Contents> Logged<Event> for OpenedAs<'_, C> {
     ghost entry = { λ call. events.Opened call.name.now (Ok (C.holds call.contents.now)) };
+}
+
+/// A draft of the witness is made, or not.
+#[derive(Drop)]
+pub(crate) struct Drafted<'a, D: Drop> {
+    pub(crate) answer: &'a Result<D, WorldFault>,
+}
+
+impl<D: Drop> Logged<Event> for Drafted<'_, D> {
+    ghost entry = { λ call. events.WitnessDrafted (events.done_of call.answer.now) };
 }
 
 /// This store is taken out.

@@ -1,13 +1,13 @@
 //! Files and a state in memory.
-ghost use Rattle.std.specs.Prelude.{string_bytes, ℕ, [], ◌≡◌, ◌≤◌, ◌⊎◌, ◌∷◌, List, IfErr, IfOk, IfSome, OnErr, OnOk, Ok, Err, None, Some, false, if◌then◌else◌, is_ok, length, option_map};
+ghost use Rattle.std.specs.Prelude.{ℕ, [], ◌≡◌, ◌⊎◌, ◌∷◌, List, IfErr, IfOk, OnErr, OnOk, Ok, Err, None, Some, false, if◌then◌else◌, is_ok, option_map};
 ghost use Rattle.lms_book.specs.Memory.{cannot_read, held};
 ghost use Rattle.lms_world.specs.Events.{read_of};
-ghost use Rattle.lms_world.specs.Held.{MayRefuseMaking, answer_in, is_there, with_file, with_nodes_kept};
-ghost use Rattle.lms_world.specs.Files.{answer_of, entry_of, files_in, held_in, is_used_elsewhere, nodes_fault_in, nodes_in, state_fails, state_text, store_in, used_elsewhere, with_failing_nodes, with_failing_witness, with_nodes, with_store, with_witness_kept, witness_in};
+ghost use Rattle.lms_world.specs.Held.{answer_in, is_there, with_file};
+ghost use Rattle.lms_world.specs.Files.{answer_of, entry_of, files_in, held_in, is_used_elsewhere, nodes_in, state_fails, state_text, store_in, with_store, witness_in};
 
 use crate::contents::{Contents, Taker};
 use crate::fault::WorldFault;
-use crate::log::{Call, Log, OpenedAs, PutIn, TakenOut};
+use crate::log::{Call, Drafted, Log, OpenedAs, PutIn, TakenOut};
 use crate::printer::{Beginning, Printer};
 use crate::world::World;
 use lms_book::MemoryStore;
@@ -24,8 +24,8 @@ pub use self::beside::{MemoryDraft, MemoryLock};
 const CAPACITY: usize = 8;
 
 /// Files and one state in memory, for tests: what a read of each name answers, the state, whatever
-/// its name, and what is kept of nodes and as its witness beside it. These are no files: a witness
-/// that is made has no other bytes under its name.
+/// its name, and what is kept of nodes and as its witness beside it. Nodes and witness are no
+/// files: a read of the name by which a witness was made does not give it.
 #[derive(Drop)]
 pub struct MemoryWorld {
     alloc: Global,
@@ -61,7 +61,8 @@ impl Contents for MemoryContents {
 }
 
 impl MemoryWorld {
-    /// No files, where a read of any name answers `Device`, no state, no nodes, and no witness.
+    /// A world without files, so that a read of any name answers `Device`, without a state, nodes
+    /// and a witness, and with its lock free.
     pub fn new(alloc: Global) -> Self
         ensures files { (name : List ℕ) → answer_of result name ≡ Err WorldFault.Device }
         ensures state { state_text (store_in result) ≡ None }
@@ -89,14 +90,15 @@ impl MemoryWorld {
         self.state = Some(store);
     }
 
-    /// The store that keeps the state, where one was made or put back.
+    /// The store that keeps the state. `None` where none was set or put back, and while it is taken
+    /// out.
     pub fn state(&self) -> Option<&MemoryStore>
         ensures { option_map (λ store. store.now) result ≡ store_in self.now }
     {
         self.state.as_ref()
     }
 
-    /// Makes each read and each write of a name fail. An error means out of memory.
+    /// Makes each read and each write of a name fail by this fault. An error means out of memory.
     pub fn fail(&mut self, name: &str, fault: WorldFault) -> Result<(), AllocError>
         ensures fails { OnOk result (answer_in (files_in self.new) name.now ≡ Err fault) }
         ensures others { self.new ≡ record self.old { entries = self.new.entries } }
@@ -114,14 +116,15 @@ impl MemoryWorld {
         Ok(())
     }
 
-    /// The entry of the name that counts.
+    /// The newest entry of the name, which counts. `None` where it has none.
     fn entry(&self, name: &str) -> Option<&(String, Result<Vec<u8>, WorldFault>)>
         ensures { option_map (λ entry. entry.now) result ≡ entry_of self.now name.now }
     {
         self.entries.iter().find(|entry| entry.0.as_str() == name)
     }
 
-    /// A copy of the bytes of a name.
+    /// A copy of the bytes of a name. An error is the fault that `fail` gave to the name, `Device`
+    /// where the name has no entry, or `OutOfMemory` where memory for the copy is refused.
     fn copy_of(&self, alloc: Global, name: &str) -> Result<Vec<u8>, WorldFault>
         ensures given { IfOk result (λ bytes. answer_of self.now name.now ≡ Ok bytes.items) }
         ensures refused { IfErr result (λ fault.
@@ -136,7 +139,8 @@ impl MemoryWorld {
         }
     }
 
-    /// Makes these the bytes of a name.
+    /// Makes these the bytes of a name. An error is the fault that `fail` gave to the name, or
+    /// `OutOfMemory` where memory is refused; its bytes are as they were then.
     fn set(&mut self, name: &str, bytes: &[u8]) -> Result<(), WorldFault>
         ensures held { held_in self.new ≡ (if is_ok result
             then with_file name.now bytes.now (held_in self.old) else held_in self.old) }
@@ -152,7 +156,7 @@ impl MemoryWorld {
             .map_err(|_| WorldFault::OutOfMemory)
     }
 
-    /// Whether the state has bytes.
+    /// Whether there is a state: a store that holds a byte string, be it empty.
     fn has_state(&self) -> bool
         ensures { result ≡ is_there (held (state_text (store_in self.now))) }
     {
@@ -162,7 +166,8 @@ impl MemoryWorld {
         }
     }
 
-    /// The store that keeps the state, or a new one.
+    /// Takes out the store that keeps the state, or a new one that holds nothing where there is
+    /// none. `OutOfMemory` where memory for a new one is refused.
     fn lend(&mut self, alloc: Global) -> Result<MemoryStore, OutOfMemory>
         ensures text { IfOk result (λ store. store.text ≡ state_text (store_in self.old)) }
         ensures fails { IfOk result (λ store.
@@ -313,34 +318,15 @@ impl World for MemoryWorld {
         alloc: Global,
         _lock: &MemoryLock,
     ) -> Result<MemoryDraft, WorldFault> {
-        match self.draft(alloc) {
-            Ok(draft) => {
-                let answer = Ok(());
-                self.log = self.log.and(&Call::WitnessDrafted { answer });
-                Ok(draft)
-            }
-            Err(fault) => {
-                let answer = Err(fault);
-                self.log = self.log.and(&Call::WitnessDrafted { answer });
-                Err(fault)
-            }
-        }
+        let answer = self.draft(alloc);
+        self.log = self.log.and(&Drafted { answer: &answer });
+        answer
     }
 
     fn place_witness(&mut self, draft: MemoryDraft, text: &[u8]) -> Result<(), WorldFault> {
-        match self.written(draft, text) {
-            Ok(copy) => {
-                let answer = Ok(());
-                self.log = self.log.and(&Call::WitnessWritten { text, answer });
-                self.set_witness(copy);
-                Ok(())
-            }
-            Err(fault) => {
-                let answer = Err(fault);
-                self.log = self.log.and(&Call::WitnessWritten { text, answer });
-                Err(fault)
-            }
-        }
+        let answer = self.place(draft, text);
+        self.log = self.log.and(&Call::WitnessWritten { text, answer });
+        answer
     }
 
     fn discard_witness(&mut self, _draft: MemoryDraft) {}
@@ -352,13 +338,10 @@ impl World for MemoryWorld {
         name: &str,
         text: &[u8],
     ) -> Result<String, WorldFault> {
-        let answer = self.make(alloc, name, text);
-        self.log = self.log.and(&Call::WitnessMade {
-            name,
-            text,
-            answer: &answer,
-        });
-        answer
+        let made = self.make(alloc, name, text);
+        let answer = &made;
+        self.log = self.log.and(&Call::WitnessMade { name, text, answer });
+        made
     }
 
     fn begin_printing<O: Write>(&mut self, output: &Printer<O>) {

@@ -14,7 +14,7 @@ use std::snapshot::Snapshot;
 #[derive(Drop)]
 pub struct Printer<O: Write> {
     stream: O,
-    // The stream as it was when it had taken nothing yet.
+    // The stream as it was before it took anything from the printer.
     begun: Snapshot<O>,
     log: Log,
 }
@@ -34,7 +34,7 @@ impl<O: Write> Model for Printer<O> {
 }
 
 impl<O: Write> Printer<O> {
-    /// A stream that took nothing yet.
+    /// A printer to this stream, which has taken nothing from it yet.
     pub fn new(stream: O) -> Self
         ensures { result ≡ [] }
     {

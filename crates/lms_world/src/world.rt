@@ -12,8 +12,8 @@ use lms_params::OutOfMemory;
 use std::alloc::Global;
 use std::io::Write;
 
-/// Files and keys' states, by their names, and what is kept of nodes beside the states. Contracts
-/// see the calls that were made on it, in their order: its log.
+/// Files and keys' states, by their names, and what is kept beside the states: nodes, and a
+/// witness. Contracts see the calls that were made on it, in their order: its log.
 pub trait World {
     /// Keeps other programs from a state for as long as it is held. It can't be dropped: its holder
     /// has to hand it back.
@@ -25,7 +25,7 @@ pub trait World {
     /// A file that was opened to be read.
     type Contents: Contents + Drop;
 
-    /// A witness that is about to be replaced.
+    /// A draft beside a witness, which is about to replace it.
     type Draft: Drop;
 
     // The calls that were made, the newest first.
@@ -67,8 +67,8 @@ pub trait World {
         ensures acts { Does (Written name.now bytes.now result) (memory self.old) (memory self.new) }
         ensures written { OnOk result (are_written bytes.now) };
 
-    /// The same, and flushes the file where that can be done: a loss of power leaves it then. After a
-    /// fault the file may be written.
+    /// As `write`, and flushes the file where that can be done, so that after `Ok` a loss of power
+    /// leaves it. After an error it may also be whole.
     fn write_flushed(&mut self, alloc: Global, name: &str, bytes: &[u8]) -> Result<(), WorldFault>
         ensures logged { events self.new ≡ Written name.now bytes.now result ∷ events self.old }
         ensures acts { Does (Written name.now bytes.now result) (memory self.old) (memory self.new) }
@@ -100,8 +100,8 @@ pub trait World {
         ensures logged { events self.new ≡ taking_of Self.Store.seen Self.Store.may_fail result ∷ events self.old }
         ensures acts { Does (taking_of Self.Store.seen Self.Store.may_fail result) (memory self.old) (memory self.new) };
 
-    /// Puts it back: the state of the lock is what it keeps. No file is changed, and nothing that
-    /// is kept of nodes.
+    /// Puts a store back: the state of the lock is what it keeps. No file is changed, and nothing
+    /// that is kept of nodes.
     fn put_back(&mut self, lock: &Self::Lock, store: Self::Store)
         ensures logged { events self.new ≡ PutBack (Self.Store.seen store) ∷ events self.old }
         ensures acts { Does (PutBack (Self.Store.seen store)) (memory self.old) (memory self.new) };

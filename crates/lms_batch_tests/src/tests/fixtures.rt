@@ -1,12 +1,7 @@
-//! Levels, open leases and jobs of the tests. Memory that is refused once is asked for again.
-ghost use Rattle.std.specs.Prelude.{◌≡◌, ◌≤◌, IfOk};
-ghost use Rattle.lms_hss.specs.Covered.{most_covered};
-
-use lms_batch::{Job, OpenLease};
-use lms_fixtures::{key_of, lease_of};
+//! Levels and jobs of the tests. Memory that is refused once is asked for again.
+use lms_batch::Job;
 use lms_hss::HssKey;
 use lms_params::{LmsType, OtsType};
-use lms_pool::DrawSeat;
 use std::alloc::Global;
 use std::test::Fail;
 use std::thread::Threads;
@@ -26,35 +21,6 @@ pub(crate) fn public_key(
         Ok(public) => Ok(public),
         Err(_) => Ok(key.public_key(rt, rt.alloc())?),
     }
-}
-
-/// An open lease of `len` indices of the key of these levels and this seed from `start` on, with
-/// one seat.
-pub(crate) fn opened(
-    rt: &(impl AllocGlobal + Threads + Sync),
-    levels: &[(LmsType, OtsType)],
-    seed: u8,
-    start: u64,
-    len: u64,
-) -> Result<(OpenLease, DrawSeat), Fail>
-    requires some { 1 ≤ len }
-    requires at_most { len ≤ most_covered }
-    ensures { IfOk result (λ r. r.1.pool ≡ r.0) }
-{
-    let lease = lease_of(rt.alloc(), key_of(levels, seed)?, start, len)?;
-    let made = match OpenLease::new(rt, rt.alloc(), lease, 1) {
-        Ok(made) => Ok(made),
-        Err((_, lease)) => OpenLease::new(rt, rt.alloc(), lease, 1),
-    };
-    let (lease, mut seats) = match made {
-        Ok(made) => made,
-        Err((_, lease)) => {
-            lease.end();
-            return Err(Fail::from("memory for an open lease"));
-        }
-    };
-    let seat = seats.pop().ok_or("one seat")?;
-    Ok((lease, seat))
 }
 
 /// A job of this message, whose first byte fills its randomizer.

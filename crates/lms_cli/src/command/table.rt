@@ -216,7 +216,9 @@ pub(super) const JOIN: Row = (
 The endorsement is the top key's signature of the last 56 bytes of the signer's public key. Under the key that `join-public`
 makes, the joined signature is valid for the messages for which the signer's is. The top key must sign such keys and nothing
 else: any 56 bytes that it signs and that form a key are endorsed, whatever they were meant to be. Both keys have together at
-most 8 levels.",
+most 8 levels.
+
+Signers sign no messages of 56 bytes, unless levels are as the help of `join-public` says.",
     &[
         ("public", "FILE", "The top public key, 60 bytes"),
         (
@@ -240,7 +242,14 @@ pub(super) const JOIN_PUBLIC: Row = (
     "Example:
   lms_tool join-public --public top.pub --signer signer.pub --out joined.pub
 
-The key is the same for all signers' keys with as many levels.",
+The key is the same for all signers' keys with as many levels.
+
+Every joined key that a device holds has as many levels as all keys from the top
+key down to each one that signs messages, or ever did, have together. A key that
+endorses signs no messages, no key is endorsed at two depths, and no key below
+the top key endorses it. Else whoever gets 56 bytes signed, a key of theirs,
+signs any message by it. Sufficient alone, whatever the levels: no key signs a
+message of 56 bytes but to endorse, and whatever hands over messages refuses it.",
     &[
         ("public", "FILE", "The top public key, 60 bytes"),
         ("signer", "FILE", "A signer's public key, 60 bytes"),

@@ -1,37 +1,63 @@
 //! Locks of states.
-use super::{empty_folder, lock_fault, make_link, mode_of};
+use super::disk::{begins, begins_with_a_link, clears, links, puts};
 use lms_file_store::{LockFault, lock};
-use std::fs;
 use std::test::Fail;
 
-/// Whether the lock on a state can be had by one name, and while it is held, not by another.
-fn locks_both(rt: &HostRuntime, name: &str, other: &str) -> Result<bool, Fail> {
-    let held = lock(rt, rt.alloc(), name)?;
-    let fault = lock_fault(rt, other);
-    drop(held);
-    Ok(fault == Some(LockFault::InUse))
+/// Why the lock on a state of this name can't be had. `None` where it can.
+fn lock_fault(rt: &HostRuntime, name: &str) -> Option<LockFault> {
+    match lock(rt, rt.alloc(), name) {
+        Ok(_) => None,
+        Err(fault) => Some(fault),
+    }
+}
+
+/// Whether the lock on a state can be had by one name, and while it is held, that by another name can't
+/// be had for this fault, or can.
+fn locks_beside(rt: &HostRuntime, name: &str, other: &str, fault: Option<LockFault>) -> bool {
+    match lock(rt, rt.alloc(), name) {
+        Ok(held) => {
+            let found = lock_fault(rt, other);
+            drop(held);
+            found == fault
+        }
+        Err(_) => false,
+    }
 }
 
 #[test]
-fn a_link_is_locked_as_its_state(rt: HostRuntime) -> Result<(), Fail> {
-    make_link(&rt)?;
-    assert!(rt; locks_both(&rt, "file_store_links/link", "file_store_links/real/state")?);
-    fs::remove_dir_all(&rt, "file_store_links")?;
-    Ok(())
+fn one_holds_the_lock(rt: HostRuntime) {
+    let (state, other) = ("file_store_lock/state", "file_store_lock/other");
+    assert!(rt; begins(&rt, "file_store_lock"));
+    assert!(rt; locks_beside(&rt, state, state, Some(LockFault::InUse)));
+    assert!(rt; locks_beside(&rt, state, other, None));
+    assert!(rt; lock_fault(&rt, state).is_none());
+    assert!(rt; clears(&rt, "file_store_lock"));
 }
 
 #[test]
-fn one_holds_the_lock(rt: HostRuntime) -> Result<(), Fail> {
-    empty_folder(&rt, "file_store_lock")?;
-    let first = lock(&rt, rt.alloc(), "file_store_lock/state")?;
-    assert!(rt; lock_fault(&rt, "file_store_lock/state") == Some(LockFault::InUse));
-    assert!(rt; lock_fault(&rt, "file_store_lock/other").is_none());
-    assert!(rt; lock_fault(&rt, "file_store_lock/none/state") == Some(LockFault::Unreachable));
-    drop(first);
-    assert!(rt; lock_fault(&rt, "file_store_lock/state").is_none());
-    assert!(rt; mode_of(&rt, "file_store_lock/state.lock")? == 0o600);
-    fs::remove_dir_all(&rt, "file_store_lock")?;
-    Ok(())
+fn a_link_is_locked_as_its_state(rt: HostRuntime) {
+    let (link, state) = ("file_store_links/link", "file_store_links/real/state");
+    assert!(rt; begins_with_a_link(&rt));
+    assert!(rt; locks_beside(&rt, link, state, Some(LockFault::InUse)));
+    assert!(rt; clears(&rt, "file_store_links"));
+}
+
+#[test]
+fn what_can_not_be_reached_has_no_lock(rt: HostRuntime) {
+    assert!(rt; begins(&rt, "file_store_faults"));
+    assert!(rt; puts(&rt, "file_store_faults/file", b"a"));
+    assert!(rt; links(&rt, "nowhere", "file_store_faults/link"));
+    for name in [
+        "file_store_faults/file/state",
+        "file_store_faults/none/state",
+        "file_store_faults/link",
+    ] {
+        assert!(rt;
+            lock_fault(&rt, name) == Some(LockFault::Unreachable),
+            "{name}"
+        );
+    }
+    assert!(rt; clears(&rt, "file_store_faults"));
 }
 
 #[test]

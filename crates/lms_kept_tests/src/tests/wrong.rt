@@ -111,8 +111,8 @@ fn gives_no_signature_by_a_changed_node(rt: HostRuntime) -> Result<(), Fail> {
     set(&mut text, place(33), &changed);
     check_again(&key, &mut text);
     let trees = taken(&rt, key, &text)?;
-    assert!(rt; signed(&rt, &trees, 0)?.is_none());
-    assert!(rt; signed(&rt, &trees, 2)? == Some(expected(&rt, key, 2)?));
+    assert!(rt; signed(&rt, key, &trees, 0)?.is_none());
+    assert!(rt; signed(&rt, key, &trees, 2)? == Some(expected(&rt, key, 2)?));
     Ok(())
 }
 
@@ -126,7 +126,7 @@ fn signs_what_is_refused_at_worst(rt: HostRuntime) -> Result<(), Fail> {
     change_consistently(&key, &mut text);
     let trees = taken(&rt, key, &text)?;
     assert!(rt; trees.public() != public);
-    let wrong = signed(&rt, &trees, 0)?.ok_or("a signature under the changed root")?;
+    let wrong = signed(&rt, key, &trees, 0)?.ok_or("a signature under the changed root")?;
     let right = expected(&rt, key, 0)?;
     assert!(rt; verify(&trees.public(), b"abc", &wrong) && !verify(&public, b"abc", &wrong));
     assert!(rt; verify(&public, b"abc", &right) && !verify(&trees.public(), b"abc", &right));
@@ -147,7 +147,7 @@ fn signs_the_same_public_keys_at_worst(rt: HostRuntime) -> Result<(), Fail> {
     let trees = moved(&rt, key, taken(&rt, key, &text)?, 64, &Sums::new())?.ok_or(
         "no subtree above",
     )?;
-    let wrong = signed(&rt, &trees, 64)?.ok_or("a signature under the changed root")?;
+    let wrong = signed(&rt, key, &trees, 64)?.ok_or("a signature under the changed root")?;
     let right = expected(&rt, key, 64)?;
     assert!(rt; wrong.len() == right.len() && wrong != right);
     assert!(rt; wrong.get(..4304) == right.get(..4304));

@@ -7,11 +7,6 @@ const ID: &str = "22222222222222222222222222222222";
 
 pub(super) const ONE: [(LmsType, OtsType); 1] = [(LmsType::H5, OtsType::W8)];
 
-pub(super) const TWO: [(LmsType, OtsType); 2] = [
-    (LmsType::H5, OtsType::W8),
-    (LmsType::H5, OtsType::W8),
-];
-
 /// The levels 5/2, whose tree takes a twentieth of the work.
 pub(super) const CHEAP: [(LmsType, OtsType); 1] = [(LmsType::H5, OtsType::W2)];
 

@@ -1,34 +1,16 @@
-//! `batch` over streams, states and memory that fail.
-use super::arguments::{CHEAP, ONE, TWO};
+//! `batch` over streams and memory that fail.
+use super::arguments::{CHEAP, ONE};
 use super::batch::{FOUR_LINES, TWO_LINES, batch, end_of_batch, end_of_batch_to};
 use super::states::{is_with, keyed, store_at};
-use super::{Closed, ProgramEnd, Stuck, status_of, text_of};
-use lms_book::Left;
+use super::{ProgramEnd, Stuck, status_of, text_of};
 use lms_commands::Status;
-use lms_world::{MemoryWorld, World};
+use lms_world::MemoryWorld;
 use std::alloc::Global;
 use std::io;
-use std::io::{ErrorKind, Read, Write};
+use std::io::{ErrorKind, Write};
 use std::sync::Wait;
 use std::test::Fail;
 use std::thread::Threads;
-
-/// A reader that gives a byte at each of so many reads, and then fails.
-#[derive(Drop)]
-struct Cut {
-    reads: usize,
-}
-
-impl Read for Cut {
-    fn read(&mut self, buf: &mut [u8]) -> io::Result<usize> {
-        if self.reads == 0 || buf.is_empty() {
-            return Err(io::Error::from(ErrorKind::BrokenPipe));
-        }
-        self.reads -= 1;
-        buf[0] = b'0';
-        Ok(1)
-    }
-}
 
 /// A writer that takes so many bytes, and then fails, or takes nothing.
 #[derive(Drop)]
@@ -54,30 +36,16 @@ impl Write for Full {
     }
 }
 
-/// Whether a batch by these streams says that one of them failed, by this line.
-fn fails_by<I: Read, O: Write>(
+/// Whether a batch of two jobs says that its answers could not be written to this stream.
+fn is_unwritten<O: Write>(
     rt: &(impl Threads + Wait + AllocGlobal + Sync),
     world: &mut MemoryWorld,
-    input: &mut I,
     output: &mut O,
-    line: &str,
 ) -> bool {
+    let mut rest = TWO_LINES.as_bytes();
     let mut said = Vec::new(rt.alloc());
-    let status = status_of(rt, &batch("2"), world, input, output, &mut said);
-    status == Status::Stream.code() && said.as_slice() == line.as_bytes()
-}
-
-/// No index is used where the lines can't be read.
-#[test]
-fn cannot_read_job_lines(rt: HostRuntime) -> Result<(), Fail> {
-    let line = "error: cannot read input\n";
-    for reads in 0..3 {
-        let mut world = keyed(rt.alloc(), &ONE, 5)?;
-        let mut cut = Cut { reads };
-        assert!(rt; fails_by(&rt, &mut world, &mut cut, &mut Closed, line));
-        assert!(rt; is_with(&world, &ONE, 5, 0, 0));
-    }
-    Ok(())
+    let status = status_of(rt, &batch("2"), world, &mut rest, output, &mut said);
+    status == Status::Stream.code() && said.as_slice() == b"error: cannot write output\n".as_slice()
 }
 
 /// Whether a batch says that its answers could not be written, where a writer gets a beginning of
@@ -89,9 +57,7 @@ fn leaves_a_beginning(
     answers: &[u8],
 ) -> bool {
     let capacity = full.capacity;
-    let mut rest = TWO_LINES.as_bytes();
-    let line = "error: cannot write output\n";
-    fails_by(rt, world, &mut rest, full, line)
+    is_unwritten(rt, world, full)
         && full.taken.len() == capacity
         && answers.starts_with(&full.taken)
 }
@@ -136,45 +102,10 @@ fn cannot_write_answers(rt: HostRuntime) -> Result<(), Fail> {
             "{capacity}"
         );
     }
-    let mut rest = TWO_LINES.as_bytes();
-    let line = "error: cannot write output\n";
     let mut output = Stuck { times: 0 };
-    assert!(rt; fails_by(&rt, &mut world, &mut rest, &mut output, line));
+    assert!(rt; is_unwritten(&rt, &mut world, &mut output));
     assert!(rt; output.times == 1);
     assert!(rt; is_with(&world, &ONE, 9, 2, 0));
-    Ok(())
-}
-
-/// The state of an unused key of 5/8,5/8, whose next write fails, and leaves the old bytes or the
-/// new ones.
-fn unwritable(alloc: Global, left: Left) -> Result<MemoryWorld, Fail> {
-    let mut store = store_at(alloc, &TWO, 0)?;
-    store.fail_replace(1, left);
-    let mut world = MemoryWorld::new(alloc);
-    world.set_state(store);
-    Ok(world)
-}
-
-/// Whether a batch of four jobs whose write of the state fails burns their indices, and leaves a
-/// state with these numbers.
-fn burns_indices(
-    rt: &(impl Threads + Wait + AllocGlobal + Sync),
-    left: Left,
-    counter: u64,
-    openings: u64,
-) -> Result<bool, Fail> {
-    let mut world = unwritable(rt.alloc(), left)?;
-    let end = end_of_batch(rt, &mut world, "2", FOUR_LINES);
-    Ok(
-        end.is(3, "", "error: cannot write state: 0 to 3 burnt\n")
-            && is_with(&world, &TWO, counter, openings, 0),
-    )
-}
-
-#[test]
-fn burns_the_indices_of_a_batch(rt: HostRuntime) -> Result<(), Fail> {
-    assert!(rt; burns_indices(&rt, Left::Old, 0, 0)?);
-    assert!(rt; burns_indices(&rt, Left::New, 4, 1)?);
     Ok(())
 }
 

@@ -1,6 +1,6 @@
 //! States of keys, and worlds that have them.
 use lms_book::MemoryStore;
-use lms_fixtures::{image_of, image_with, key_of, store_of};
+use lms_fixtures::{image_with, key_of};
 use lms_params::{LmsType, OtsType};
 use lms_world::{MemoryWorld, World};
 use std::alloc::Global;
@@ -15,21 +15,16 @@ pub(super) fn store_at(
     lms_fixtures::store_at(alloc, key_of(levels, 0x11)?, counter)
 }
 
-/// A message, and a state of these bytes.
-fn stated(alloc: Global, bytes: &[u8]) -> Result<MemoryWorld, Fail> {
-    let mut world = MemoryWorld::new(alloc);
-    world.write("text", b"abc")?;
-    world.set_state(store_of(alloc, bytes)?);
-    Ok(world)
-}
-
 /// A message, and the state with these levels and this counter.
 pub(super) fn keyed(
     alloc: Global,
     levels: &[(LmsType, OtsType)],
     counter: u64,
 ) -> Result<MemoryWorld, Fail> {
-    stated(alloc, image_of(key_of(levels, 0x11)?, counter)?.as_slice())
+    let mut world = MemoryWorld::new(alloc);
+    world.write("text", b"abc")?;
+    world.set_state(store_at(alloc, levels, counter)?);
+    Ok(world)
 }
 
 /// Whether the state has these bytes.

@@ -7,7 +7,8 @@ use crate::tests::{RANDOMIZER, band, key_of, signature};
 use lms_fixtures::Sums;
 use lms_params::{LmsType, OtsType, OutOfMemory, lms_sig_len};
 use lms_tree::{
-    BandTree, Begun, KeptTree, Progress, TreeKey, Unwatched, WholeTree, bottom_height, public_bytes,
+    BandTree, Begun, KeptTree, NodeSource, Progress, TreeKey, Unwatched, WholeTree, bottom_height,
+    public_bytes,
 };
 use std::alloc::AllocError;
 use std::process::Abort;

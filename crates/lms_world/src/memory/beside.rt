@@ -1,6 +1,6 @@
 //! What is beside a state in memory: its lock, nodes and the witness.
-ghost use Rattle.std.specs.Prelude.{string_bytes, ◌≡◌, ◌≤◌, ◌⊎◌, IfErr, IfOk, IfSome, OnErr, OnOk, Ok, Err, None, Some, if◌then◌else◌, is_ok, length, option_map};
-ghost use Rattle.lms_world.specs.Events.{WitnessMade, place_of};
+ghost use Rattle.std.specs.Prelude.{string_bytes, ◌≡◌, ◌≤◌, ◌⊎◌, IfErr, IfOk, IfSome, OnOk, Ok, Err, None, Some, if◌then◌else◌, is_ok, length, option_map};
+ghost use Rattle.lms_world.specs.Events.{WitnessDrafted, WitnessMade, WitnessWritten, done_of, place_of};
 ghost use Rattle.lms_world.specs.Held.{Acts, MayRefuseMaking, with_nodes_kept};
 ghost use Rattle.lms_world.specs.Files.{held_in, nodes_fault_in, nodes_in, used_elsewhere, with_failing_nodes, with_failing_witness, with_nodes, with_witness_kept, witness_in};
 
@@ -19,7 +19,7 @@ impl MemoryLock {
     }
 }
 
-/// A witness in memory that is about to be replaced: room for its bytes.
+/// A draft of the witness in memory, which is about to replace it: room for its bytes.
 #[derive(Drop)]
 pub struct MemoryDraft {
     room: Vec<u8>,
@@ -50,7 +50,7 @@ impl MemoryWorld {
         }
     }
 
-    /// Makes each write of nodes fail.
+    /// Makes each write of nodes fail by this fault.
     pub fn fail_nodes(&mut self, fault: WorldFault)
         ensures { self.new ≡ with_failing_nodes fault self.old }
     {
@@ -64,14 +64,15 @@ impl MemoryWorld {
         self.witness = Ok(Some(text));
     }
 
-    /// Makes each read and each write of the witness fail.
+    /// Makes each read, draft, write and making of the witness fail by this fault.
     pub fn fail_witness(&mut self, fault: WorldFault)
         ensures { self.new ≡ with_failing_witness fault self.old }
     {
         self.witness = Err(fault);
     }
 
-    /// The bytes of the witness beside the state, where there are any.
+    /// The bytes of the witness beside the state. `None` where there is none, and after
+    /// `fail_witness`.
     pub fn witness(&self) -> Option<&[u8]>
         ensures { IfSome result (λ text. witness_in self.now ≡ Ok (Some text.now)) }
     {
@@ -83,7 +84,8 @@ impl MemoryWorld {
 }
 
 impl MemoryWorld {
-    /// A copy of what is kept of nodes, where it has at most so many bytes.
+    /// A copy of what is kept of nodes. `None` where nothing is kept, where it has more than `most`
+    /// bytes, and where memory is refused.
     pub(super) fn copy_of_nodes(&self, alloc: Global, most: usize) -> Option<Vec<u8>>
         ensures given { IfSome result (λ text. nodes_in self.now ≡ Some text.items) }
         ensures at_most { IfSome result (λ text. length text.items ≤ most) }
@@ -95,7 +97,8 @@ impl MemoryWorld {
         Vec::from_slice(alloc, nodes).ok()
     }
 
-    /// Keeps these bytes of nodes. After an error what was kept is kept still.
+    /// Keeps these bytes of nodes. An error is the fault that `fail_nodes` gave, or `OutOfMemory`
+    /// where memory is refused; what was kept is kept still then.
     pub(super) fn keep(&mut self, alloc: Global, text: &[u8]) -> Result<(), WorldFault>
         ensures held { held_in self.new ≡ (if is_ok result
             then with_nodes_kept text.now (held_in self.old) else held_in self.old) }
@@ -111,7 +114,8 @@ impl MemoryWorld {
         Ok(())
     }
 
-    /// A copy of the bytes of the witness.
+    /// A copy of the bytes of the witness, `None` where there is none. An error is the fault that
+    /// `fail_witness` gave, or `OutOfMemory` where memory is refused.
     pub(super) fn copy_of_witness(&self, alloc: Global) -> Result<Option<Vec<u8>>, WorldFault>
         ensures given { IfOk result (λ found.
             witness_in self.now ≡ Ok (option_map (λ text. text.items) found)) }
@@ -128,10 +132,10 @@ impl MemoryWorld {
         }
     }
 
-    /// Room for the bytes of a witness, where it can be written.
+    /// A draft, with room for the bytes of a witness. An error is the fault that `fail_witness`
+    /// gave, or `OutOfMemory` where memory is refused.
     pub(super) fn draft(&self, alloc: Global) -> Result<MemoryDraft, WorldFault>
-        ensures refused { IfErr result (λ fault.
-            (witness_in self.now ≡ Err fault) ⊎ (fault ≡ WorldFault.OutOfMemory)) }
+        ensures { Acts (WitnessDrafted (done_of result)) (held_in self.now) (held_in self.now) }
     {
         if let Err(fault) = &self.witness {
             return Err(*fault);
@@ -142,11 +146,12 @@ impl MemoryWorld {
         }
     }
 
-    /// A draft's room with these bytes, where the witness can be written.
-    pub(super) fn written(&self, draft: MemoryDraft, text: &[u8]) -> Result<Vec<u8>, WorldFault>
-        ensures copy { IfOk result (λ written. written.items ≡ text.now) }
-        ensures refused { IfErr result (λ fault.
-            (witness_in self.now ≡ Err fault) ⊎ (fault ≡ WorldFault.OutOfMemory)) }
+    /// Makes these the bytes of the witness, in a draft's room. An error is the fault that
+    /// `fail_witness` gave, or `OutOfMemory` where memory is refused; the witness is as it was
+    /// then.
+    pub(super) fn place(&mut self, draft: MemoryDraft, text: &[u8]) -> Result<(), WorldFault>
+        ensures acts { Acts (WitnessWritten text.now result) (held_in self.old) (held_in self.new) }
+        ensures uncalled { self.new.log ≡ self.old.log }
     {
         if let Err(fault) = &self.witness {
             return Err(*fault);
@@ -154,13 +159,15 @@ impl MemoryWorld {
         let MemoryDraft { room } = draft;
         let mut written = room;
         written.clear();
-        match written.extend_from_slice(text) {
-            Ok(()) => Ok(written),
-            Err(_) => Err(WorldFault::OutOfMemory),
+        if written.extend_from_slice(text).is_err() {
+            return Err(WorldFault::OutOfMemory);
         }
+        self.set_witness(written);
+        Ok(())
     }
 
-    /// Whether a witness can be made: where there is none.
+    /// `Ok` where there is no witness, so that one can be made. `Device` where there is one, else
+    /// the fault that `fail_witness` gave.
     fn has_room(&self) -> Result<(), WorldFault>
         ensures none { OnOk result (witness_in self.now ≡ Ok None) }
         ensures refused { IfErr result (MayRefuseMaking (held_in self.now)) }
@@ -172,7 +179,8 @@ impl MemoryWorld {
         }
     }
 
-    /// Makes a witness with these bytes, where there is none, and returns its name.
+    /// Makes a witness with these bytes, where there is none, and returns its name. The faults of
+    /// `has_room`, or `OutOfMemory` where memory is refused; nothing is changed then.
     pub(super) fn make(
         &mut self,
         alloc: Global,

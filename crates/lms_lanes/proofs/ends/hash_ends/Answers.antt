@@ -1,11 +1,11 @@
-use Rattle.std.proofs.Common.{◌≡◌, ◌∙◌, ◌+◌, ◌-◌, ◌*◌, ◌++◌, ℕ, List, [], drop, get_or, length, ap, ap₂, arith, subst}
+use Rattle.std.proofs.Common.{◌≡◌, ◌∙◌, ◌+◌, ◌-◌, ◌*◌, ◌++◌, ℕ, List, [], drop, get_or, length, ap, arith, subst}
 use Rattle.std.proofs.Common.{sym, length-append}
 use Rattle.std.proofs.lemmas.List.{append-nil}
 use Rattle.std.proofs.lemmas.Simd.{get_or-replicate}
 use Rattle.std.specs.Int.{to_be_bytes, w16}
 use Rattle.sha2.specs.Sha256.{digest_bytes, sha256}
 use Rattle.lms_lanes.specs.Lanes.{lane_of}
-use Rattle.lms_lanes.specs.Ends.{end_of, ends_text}
+use Rattle.lms_lanes.specs.Ends.{ends_text}
 use Rattle.lms_lanes.proofs.Absorbed.{IsAbsorbed, IsAbsorbed-head, IsAbsorbed-pair, IsAbsorbed-end, IsAbsorbed-end_with}
 use Rattle.lms_lanes.proofs.Absorbed.{ends_text-more}
 use Rattle.lms_lanes.proofs.OneBlock.{length-digest_bytes}
@@ -31,26 +31,17 @@ pairs-preserved c = record {
   lanes = λ k lt.
       let front : List ℕ = get_or c.args.fronts.now k [] in
       let start : List ℕ = c.args.start.now in
-      let f : ℕ → List ℕ = end_of front c.args.first c.args.steps start in
       let texts : ℕ → List ℕ = λ n. ends_text front c.args.mark n c.args.first c.args.steps start in
       let pair : ℕ = c.pairs.pair in
       let n : ℕ = 2 * pair in
       let has = c.front_words-front.ensures.lanes k lt in
-      let begins : digest_bytes (lane_of c.value_words-begin.result k) 8 ≡ start =
-      c.value_words-begin.ensures.lanes k lt ∙ get_or-replicate 8 k start [] lt in
-      let a : digest_bytes (lane_of c.ends_of-even.result k) 8 ≡ f n
-      = c.ends_of-even.ensures.lanes k lt front has
-      ∙ ap (λ (v : List ℕ). end_of front c.args.first c.args.steps v n) begins in
-      let b : digest_bytes (lane_of c.ends_of-odd.result k) 8 ≡ f (n + 1)
-      = c.ends_of-odd.ensures.lanes k lt front has
-      ∙ ap (λ (v : List ℕ). end_of front c.args.first c.args.steps v (n + 1)) begins in
+      let begins = c.value_words-begin.ensures.lanes k lt ∙ get_or-replicate 8 k start [] lt in
+      let more = ends_text-more front c.args.mark c.args.first c.args.steps start in
       let so_far = c.pairs.invariant.lanes k lt in
       let two : n + 1 + 1 ≡ 2 * (pair + 1) = omega arith in
-      let grown : (texts n ++ digest_bytes (lane_of c.ends_of-even.result k) 8)
-      ++ digest_bytes (lane_of c.ends_of-odd.result k) 8 ≡ texts (2 * (pair + 1))
-      = ap₂ (λ (x y : List ℕ). (texts n ++ x) ++ y) a b
-      ∙ (ap (λ (t : List ℕ). t ++ f (n + 1)) (ends_text-more front c.args.mark c.args.first c.args.steps start n)
-      ∙ (ends_text-more front c.args.mark c.args.first c.args.steps start (n + 1) ∙ ap texts two)) in
+      let grown = ap (λ (t : List ℕ). t ++ digest_bytes (lane_of c.ends_of-odd.result k) 8)
+      (more n _ _ begins (c.ends_of-even.ensures.lanes k lt front has))
+      ∙ (more (n + 1) _ _ begins (c.ends_of-odd.ensures.lanes k lt front has) ∙ ap texts two) in
       subst (λ (text : List ℕ).
       IsAbsorbed (lane_of c.compress-next.result k) (lane_of c.rest_of-rest.result k) text (pair + 1)) grown
       (IsAbsorbed-pair _ _ (texts n) _ _ _ _ pair so_far (length-digest_bytes _) (length-digest_bytes _)
@@ -68,16 +59,13 @@ returns-then-chains-eq1-clause-hashes c = λ k lt.
     let n : ℕ = 2 * pair in
     let whole : n ≡ number = omega arith in
     let all : number + 1 ≡ c.args.chains = omega arith in
-    let begins : digest_bytes (lane_of c.value_words-begin.result k) 8 ≡ start =
-    c.value_words-begin.ensures.lanes k lt ∙ get_or-replicate 8 k start [] lt in
+    let begins = c.value_words-begin.ensures.lanes k lt ∙ get_or-replicate 8 k start [] lt in
     let end : List ℕ = digest_bytes (lane_of c.ends_of-last.result k) 8 in
-    let a : end ≡ end_of front c.args.first c.args.steps start number
-    = c.ends_of-last.ensures.lanes k lt front (c.front_words-front.ensures.lanes k lt)
-    ∙ ap (λ (v : List ℕ). end_of front c.args.first c.args.steps v number) begins in
     let so_far = c.pairs.invariant.lanes k lt in
     let grown : texts n ++ end ≡ texts c.args.chains
-    = ap₂ (λ (m : ℕ) (x : List ℕ). texts m ++ x) whole a
-    ∙ (ends_text-more front c.args.mark c.args.first c.args.steps start number ∙ ap texts all) in
+    = ap (λ (m : ℕ). texts m ++ end) whole
+    ∙ (ends_text-more front c.args.mark c.args.first c.args.steps start number _ _ begins
+    (c.ends_of-last.ensures.lanes k lt front (c.front_words-front.ensures.lanes k lt)) ∙ ap texts all) in
     let long : length (texts n ++ end) ≡ 64 * pair + 54 =
     omega (arith, length-append (texts n) end, length-digest_bytes (lane_of c.ends_of-last.result k), so_far.long) in
     c.digests_of.ensures.digests k lt

@@ -6,12 +6,13 @@ use lms_batch::{SigningService, Trees};
 use lms_book::MemoryStore;
 use lms_fixtures::Sums;
 use lms_lines::{
-    JobsFault, LinesFault, Pieces, SignedJobs, count_signatures, read_and_sign_by, write_batch,
+    JobsFault, LinesFault, Pieces, SignedJobs, count_signatures, read_and_sign, write_batch,
 };
 use lms_shared_book::{BookLedger, Desk};
 use std::alloc::Global;
 use std::process::Abort;
 use std::sync::Wait;
+use std::sync::ledger::Ledger;
 use std::test::Fail;
 use std::thread::Threads;
 
@@ -33,7 +34,7 @@ fn no_answers(alloc: Global) -> Answers {
 }
 
 /// Signs these lines by two workers.
-fn signed<E: BookLedger, G: BookLedger, B: BookLedger>(
+fn signed<E: BookLedger, G: Ledger, B: Ledger>(
     rt: &(impl AllocGlobal + Threads + Wait + Sync),
     service: &SigningService<MemoryStore, E, G, B>,
     desk: &mut Desk<E, G, B>,
@@ -43,11 +44,11 @@ fn signed<E: BookLedger, G: BookLedger, B: BookLedger>(
     let mut rest = text;
     let trees = &mut answers.trees;
     let progress = &answers.sums;
-    read_and_sign_by(rt, rt.alloc(), service, &mut rest, desk, 2, progress, trees)
+    read_and_sign(rt, rt.alloc(), service, &mut rest, desk, 2, progress, trees)
 }
 
 /// Whether so many lines are all signed. Their answers are added.
-fn adds_answers<E: BookLedger, G: BookLedger, B: BookLedger>(
+fn adds_answers<E: BookLedger, G: Ledger, B: Ledger>(
     rt: &(impl AllocGlobal + Threads + Wait + Sync),
     service: &SigningService<MemoryStore, E, G, B>,
     desk: &mut Desk<E, G, B>,
@@ -62,7 +63,7 @@ fn adds_answers<E: BookLedger, G: BookLedger, B: BookLedger>(
 
 /// Whether all pieces of a text are signed, which comes by a line and a half a read, and how many
 /// pieces it has with a line.
-fn signs_pieces_of<E: BookLedger, G: BookLedger, B: BookLedger>(
+fn signs_pieces_of<E: BookLedger, G: Ledger, B: Ledger>(
     rt: &(impl AllocGlobal + Threads + Wait + Sync),
     service: &SigningService<MemoryStore, E, G, B>,
     desk: &mut Desk<E, G, B>,
@@ -85,7 +86,7 @@ fn signs_pieces_of<E: BookLedger, G: BookLedger, B: BookLedger>(
 
 /// Whether four lines are signed in three pieces, from index 30 on, as in one batch. The trees of
 /// the first 1024 indices, one above 32, are computed once.
-fn signs_as_one_batch<E: BookLedger, G: BookLedger, B: BookLedger>(
+fn signs_as_one_batch<E: BookLedger, G: Ledger, B: Ledger>(
     rt: &(impl AllocGlobal + Threads + Wait + Sync),
     service: &SigningService<MemoryStore, E, G, B>,
     desk: &mut Desk<E, G, B>,
@@ -99,7 +100,7 @@ fn signs_as_one_batch<E: BookLedger, G: BookLedger, B: BookLedger>(
 }
 
 /// Whether a line that is no job line is refused, and the trees stay.
-fn refuses<E: BookLedger, G: BookLedger, B: BookLedger>(
+fn refuses<E: BookLedger, G: Ledger, B: Ledger>(
     rt: &(impl AllocGlobal + Threads + Wait + Sync),
     service: &SigningService<MemoryStore, E, G, B>,
     desk: &mut Desk<E, G, B>,
@@ -114,7 +115,7 @@ fn refuses<E: BookLedger, G: BookLedger, B: BookLedger>(
 }
 
 /// Signs four lines in pieces, and then refuses one.
-pub(super) fn sign_pieces<E: BookLedger, G: BookLedger, B: BookLedger>(
+pub(super) fn sign_pieces<E: BookLedger, G: Ledger, B: Ledger>(
     rt: &(impl Abort + AllocGlobal + Threads + Wait + Sync),
     service: &SigningService<MemoryStore, E, G, B>,
     desk: &mut Desk<E, G, B>,

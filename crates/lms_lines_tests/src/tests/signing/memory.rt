@@ -10,6 +10,7 @@ use lms_shared_book::{BookLedger, Desk};
 use std::alloc::Global;
 use std::process::Abort;
 use std::sync::Wait;
+use std::sync::ledger::Ledger;
 use std::test::Fail;
 use std::thread::Threads;
 
@@ -87,7 +88,7 @@ fn wanted(answer: Result<Done, LinesFault>) -> Option<(usize, u64)> {
 
 /// Signs four lines by four workers, and says how many answers were written, and how many indices
 /// it used.
-fn signed_by_four<E: BookLedger, G: BookLedger, B: BookLedger>(
+fn signed_by_four<E: BookLedger, G: Ledger, B: Ledger>(
     rt: &(impl AllocGlobal + Threads + Wait + Sync),
     service: &SigningService<MemoryStore, E, G, B>,
     desk: &mut Desk<E, G, B>,
@@ -101,7 +102,7 @@ fn signed_by_four<E: BookLedger, G: BookLedger, B: BookLedger>(
 
 /// Signs four lines from index 30 on: all are answered, or some, or none. Says how many indices it
 /// used.
-fn sign_from_30<E: BookLedger, G: BookLedger, B: BookLedger>(
+fn sign_from_30<E: BookLedger, G: Ledger, B: Ledger>(
     rt: &(impl Abort + AllocGlobal + Threads + Wait + Sync),
     service: &SigningService<MemoryStore, E, G, B>,
     desk: &mut Desk<E, G, B>,
@@ -120,7 +121,7 @@ fn sign_from_30<E: BookLedger, G: BookLedger, B: BookLedger>(
 }
 
 /// Whether all desks are there, and the book has used so many indices from index 30 on.
-fn has_used<E: BookLedger, G: BookLedger, B: BookLedger>(
+fn has_used<E: BookLedger, G: Ledger, B: Ledger>(
     service: SigningService<MemoryStore, E, G, B>,
     desks: Vec<Desk<E, G, B>>,
     used: u64,
@@ -133,7 +134,7 @@ fn has_used<E: BookLedger, G: BookLedger, B: BookLedger>(
 
 /// Signs four lines from index 30 on by four workers: all are answered, or some, or none, with
 /// their indices used; or nothing is reserved.
-pub(super) fn sign_four<E: BookLedger, G: BookLedger, B: BookLedger>(
+pub(super) fn sign_four<E: BookLedger, G: Ledger, B: Ledger>(
     rt: &(impl Abort + AllocGlobal + Threads + Wait + Sync),
     service: SigningService<MemoryStore, E, G, B>,
     desks: Vec<Desk<E, G, B>>,

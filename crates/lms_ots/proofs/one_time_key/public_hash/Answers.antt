@@ -1,10 +1,9 @@
-use Rattle.std.proofs.Common.{ℕ, ◌≡◌, ◌+◌, ◌*◌, List, [], get_or, map, min, ◌∙◌, ap, arith, subst}
+use Rattle.std.proofs.Common.{ℕ, ◌≡◌, ◌+◌, ◌*◌, List, [], get_or, min, ◌∙◌, ap, arith, subst}
 use Rattle.sha2.specs.Hashers.{Holds256}
-use Rattle.lms_spec.specs.Bytes.{below}
 use Rattle.lms_spec.specs.Hashing.{chain_secret}
-use Rattle.lms_spec.specs.Ots.{chain, last_digit, ends_hash, public_hash}
+use Rattle.lms_spec.specs.Ots.{chain, last_digit, public_hash}
 use Rattle.lms_params.specs.OtsType.{ots_set_of}
-use Rattle.lms_ots.proofs.Ends.{first_ends, one-more-end}
+use Rattle.lms_ots.proofs.Ends.{all-ends, first_ends, one-more-end}
 use Rattle.lms_ots.proofs.one_time_key.public_hash.Goals as goal
 
 pub ends-preserved : goal.ends-preserved
@@ -23,11 +22,8 @@ ends-preserved c =
     subst (Holds256 c.update-in-ends.new.self) more (c.update-in-ends.ensures _ c.ends.invariant)
 
 pub returns : goal.returns
-unfolding public_hash ends_hash
+unfolding public_hash
 returns c =
-    let id = c.args.id in
-    let f : ℕ → List ℕ =
-    λ i. chain id.i id.q i 0 (last_digit (ots_set_of c.args.t)) (chain_secret id.i c.args.seed.now id.q i) in
     let count : min (ots_set_of c.args.t).p (8 * c.groups.group) ≡ (ots_set_of c.args.t).p =
     omega (arith, c.div_ceil-group-end.ensures, c.p.ensures) in
-    c.finalize.ensures _ c.groups.invariant ∙ ap (λ n. ends_hash id.i id.q (map f (below n))) count
+    c.finalize.ensures _ c.groups.invariant ∙ all-ends _ _ _ _ _ count

@@ -11,9 +11,3 @@ ghosts-two_desks-B-Ledger g a = record { name = a.blanks.burnt.name; parts = a.b
 
 abbrev pub ghosts-two_desks-E-BookLedger : goal.ghosts-two_desks-E-BookLedger
 ghosts-two_desks-E-BookLedger g a = record { book = a.book }
-
-abbrev pub ghosts-two_desks-G-BookLedger : goal.ghosts-two_desks-G-BookLedger
-ghosts-two_desks-G-BookLedger g a = record { book = a.book }
-
-abbrev pub ghosts-two_desks-B-BookLedger : goal.ghosts-two_desks-B-BookLedger
-ghosts-two_desks-B-BookLedger g a = record { book = a.book }

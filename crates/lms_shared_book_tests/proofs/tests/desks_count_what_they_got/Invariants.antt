@@ -11,9 +11,3 @@ ghosts-three_desks-B-Ledger g a = record { name = a.blanks.burnt.name; parts = a
 
 abbrev pub ghosts-three_desks-E-BookLedger : goal.ghosts-three_desks-E-BookLedger
 ghosts-three_desks-E-BookLedger g a = record { book = a.book }
-
-abbrev pub ghosts-three_desks-G-BookLedger : goal.ghosts-three_desks-G-BookLedger
-ghosts-three_desks-G-BookLedger g a = record { book = a.book }
-
-abbrev pub ghosts-three_desks-B-BookLedger : goal.ghosts-three_desks-B-BookLedger
-ghosts-three_desks-B-BookLedger g a = record { book = a.book }

@@ -11,9 +11,3 @@ ghosts-many_desks-B-Ledger g a = record { name = a.blanks.burnt.name; parts = a.
 
 abbrev pub ghosts-many_desks-E-BookLedger : goal.ghosts-many_desks-E-BookLedger
 ghosts-many_desks-E-BookLedger g a = record { book = a.book }
-
-abbrev pub ghosts-many_desks-G-BookLedger : goal.ghosts-many_desks-G-BookLedger
-ghosts-many_desks-G-BookLedger g a = record { book = a.book }
-
-abbrev pub ghosts-many_desks-B-BookLedger : goal.ghosts-many_desks-B-BookLedger
-ghosts-many_desks-B-BookLedger g a = record { book = a.book }

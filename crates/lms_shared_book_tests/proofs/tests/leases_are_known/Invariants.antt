@@ -11,9 +11,3 @@ ghosts-four_threads-B-Ledger g a = record { name = a.blanks.burnt.name; parts = 
 
 abbrev pub ghosts-four_threads-E-BookLedger : goal.ghosts-four_threads-E-BookLedger
 ghosts-four_threads-E-BookLedger g a = record { book = a.book }
-
-abbrev pub ghosts-four_threads-G-BookLedger : goal.ghosts-four_threads-G-BookLedger
-ghosts-four_threads-G-BookLedger g a = record { book = a.book }
-
-abbrev pub ghosts-four_threads-B-BookLedger : goal.ghosts-four_threads-B-BookLedger
-ghosts-four_threads-B-BookLedger g a = record { book = a.book }

@@ -13,7 +13,7 @@ returns-clause-logged g c =
       (
         c.in_ok-signed.signed.batch,
         record {
-          until_signed = g.W.World.events c.sign_by_state.new.world;
+          until_signed = g.W.World.events c.sign_stored.new.world;
           signs = c.in_ok-signed.ensures.logged.0;
           prints = c.begin_printing.ensures.logged;
         },
@@ -28,10 +28,10 @@ pub returns-clause-log_failed : goal.returns-clause-log_failed
 returns-clause-log_failed g c =
     IfErr-weaker c.print_answers.result _ _
     (λ fault is. inr (log_unprinted (g.I.Read.remaining c.args.input.now)
-    (g.I.Read.remaining c.sign_by_state.new.input) c.args.output.now c.print_answers.new.output
+    (g.I.Read.remaining c.sign_stored.new.input) c.args.output.now c.print_answers.new.output
     c.in_ok-signed.signed _ _
     (record {
-      until_signed = g.W.World.events c.sign_by_state.new.world;
+      until_signed = g.W.World.events c.sign_stored.new.world;
       signs = c.in_ok-signed.ensures.logged.0;
       prints = c.begin_printing.ensures.logged;
     })
@@ -40,7 +40,7 @@ returns-clause-log_failed g c =
 
 pub returns-clause-follows : goal.returns-clause-follows
 returns-clause-follows g c =
-    one_more c.sign_by_state.ensures.follows c.begin_printing.ensures.logged c.begin_printing.ensures.acts
+    one_more c.sign_stored.ensures.follows c.begin_printing.ensures.logged c.begin_printing.ensures.acts
 
 pub returns-in_err-signed-clause-log_failed : goal.returns-in_err-signed-clause-log_failed
 returns-in_err-signed-clause-log_failed g c =

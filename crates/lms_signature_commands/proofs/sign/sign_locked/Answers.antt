@@ -27,7 +27,7 @@ pub returns-clause-logged : goal.returns-clause-logged
 returns-clause-logged g c =
     let job = c.args.job.now in
     let is = c.in_ok-signed.signed in
-    let signed = g.W.World.events c.sign_by_state.new.world in
+    let signed = g.W.World.events c.sign_stored.new.world in
     let asked = g.W.World.events c.kept_text-kept.new.world in
     let signs = subst (λ (nodes : Option (List ℕ)).
     LogsSigned nodes job.c job.message.items is.index is.signature.items asked signed) c.as_deref.ensures.value
@@ -49,7 +49,7 @@ returns-clause-log_failed g c =
     let job = c.args.job.now in
     let is = c.in_ok-signed.signed in
     let old = g.W.World.events c.args.world.now in
-    let signed = g.W.World.events c.sign_by_state.new.world in
+    let signed = g.W.World.events c.sign_stored.new.world in
     let asked = g.W.World.events c.kept_text-kept.new.world in
     let signs = subst (λ (nodes : Option (List ℕ)).
     LogsSigned nodes job.c job.message.items is.index is.signature.items asked signed) c.as_deref.ensures.value
@@ -75,7 +75,7 @@ returns-clause-log_failed g c =
 pub returns-clause-follows : goal.returns-clause-follows
 returns-clause-follows g c =
     both_follow (both_follow (one_call c.kept_text-kept.ensures.logged c.kept_text-kept.ensures.acts)
-    c.sign_by_state.ensures.follows) c.deliver.ensures.follows
+    c.sign_stored.ensures.follows) c.deliver.ensures.follows
 
 pub returns-in_err-signed-clause-follows : goal.returns-in_err-signed-clause-follows
 returns-in_err-signed-clause-follows g c =
@@ -83,7 +83,7 @@ returns-in_err-signed-clause-follows g c =
 
 pub returns-in_err-signed-clause-log_failed : goal.returns-in_err-signed-clause-log_failed
 returns-in_err-signed-clause-log_failed g c =
-    let new = g.W.World.events c.sign_by_state.new.world in
+    let new = g.W.World.events c.sign_stored.new.world in
     let fault = c.in_err-signed.field-0.0 in
     let never = subst (λ (log : WorldCalls). LogsNotSigned fault log new) c.kept_text-kept.ensures.logged
     c.in_err-signed.ensures.log_failed in

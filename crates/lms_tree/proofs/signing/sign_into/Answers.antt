@@ -1,4 +1,4 @@
-use Rattle.std.proofs.Common.{ℕ, ◌≡◌, ◌+◌, ◌-◌, ◌^◌, ◌<◌, List, [], ◌++◌, length, drop, sym, ◌∙◌, ap, ap₂, arith, rules}
+use Rattle.std.proofs.Common.{ℕ, ◌≡◌, ◌+◌, ◌-◌, ◌^◌, ◌<◌, List, [], ◌++◌, length, drop, sym, ◌∙◌, ap, arith, rules}
 use Rattle.std.proofs.Common.{subst, length-append}
 use Rattle.std.proofs.lemmas.List.{append-nil, length-take-le}
 use Rattle.lms_spec.specs.Parameters.{ots_signature_length}
@@ -15,9 +15,9 @@ use Rattle.lms_tree.specs.TreeKey.{tree_of}
 use Rattle.lms_tree.proofs.signing.sign_into.Goals as goal
 use borrow.Rule.Slice.PartMut.{put_mid}
 
-pub returns-clause-signature : goal.returns-clause-signature
-unfolding lms_signature
-returns-clause-signature g c =
+-- what is written before the path, and the path
+pub returns-clause-along : goal.returns-clause-along
+returns-clause-along g c =
     let start = 8 + c.sig_len-path_start.result in
     let same = c.key-key.ensures.key in
     let head : List ℕ = c.write_head.new.out in
@@ -32,17 +32,29 @@ returns-clause-signature g c =
     = c.write_head.ensures
     ∙ ap (λ (key : TreeKey). u32str c.args.q ++ ots_signature (ots_set_of key.ots) key.i key.seed c.args.q c.args.c.now
     c.args.msg.now ++ u32str (lms_set_of key.lms).code) same in
-    ap (λ text. put_mid start after (head ++ text) path) (sym (append-nil rest))
-    ∙ (put_mid-parts head rest [] path start after long (omega (arith, length-append head rest, long))
-    ∙ (ap (λ text. head ++ text) (append-nil path) ∙ ap₂ (λ x y. x ++ y) of_key c.write_path.ensures))
+    record {
+      path = path;
+      path_length = c.write_path.ensures.long;
+      parts = ap (λ text. put_mid start after (head ++ text) path) (sym (append-nil rest))
+          ∙ (put_mid-parts head rest [] path start after long (omega (arith, length-append head rest, long))
+          ∙ (ap (λ text. head ++ text) (append-nil path) ∙ ap (λ x. x ++ path) of_key));
+    }
+
+pub returns-clause-signature : goal.returns-clause-signature
+unfolding lms_signature returns-clause-along
+returns-clause-signature g c right =
+    let tree = tree_of (g.N.NodeSource.tree_key c.args.source.now) in
+    (returns-clause-along g c).parts
+    ∙ ap (λ path. u32str c.args.q ++ ots_signature tree.ots tree.id tree.seed c.args.q c.args.c.now c.args.msg.now
+    ++ u32str tree.lms.code ++ path) (c.write_path.ensures.path right)
 
 pub returns-clause-accepted : goal.returns-clause-accepted
-returns-clause-accepted g c =
+returns-clause-accepted g c right =
     let key = g.N.NodeSource.tree_key c.args.source.now in
     let tree = tree_of key in
     let sixteen : length c.key-key.result.i ≡ 16 = search rules in
     let id : length tree.id ≡ 16 = ap (λ (key : TreeKey). length key.i) (sym c.key-key.ensures.key) ∙ sixteen in
     let leaf : c.args.q < 2 ^ tree.lms.h = omega (arith, c.key-key.ensures.in_tree, c.requires.last) in
-    subst (LmsAccepts (public_key_of tree) c.args.msg.now) (sym (returns-clause-signature g c))
+    subst (LmsAccepts (public_key_of tree) c.args.msg.now) (sym (returns-clause-signature g c right))
     (tree-accepts tree c.args.q c.args.c.now c.args.msg.now (known_lms_set key.lms)
     (known_ots_set key.ots) id leaf c.told-c)

@@ -8,5 +8,5 @@ use Rattle.lms_tree.proofs.signing.write_path.Given as goal
 abbrev pub invariant-loop-level : goal.invariant-loop-level
 invariant-loop-level g l =
     let tree = tree_of (g.N.NodeSource.tree_key l.source) in
-    take (32 * l.level) l.out
+    g.N.NodeSource.are_nodes l.source → take (32 * l.level) l.out
     ≡ concat (map (λ level. node tree (sibling ((2 ^ tree.lms.h + l.q) / 2 ^ level))) (below l.level))

@@ -11,9 +11,3 @@ ghosts-sign_shared-B-Ledger g a = record { name = a.blanks.burnt.name; parts = a
 
 abbrev pub ghosts-sign_shared-E-BookLedger : goal.ghosts-sign_shared-E-BookLedger
 ghosts-sign_shared-E-BookLedger g a = record { book = a.book }
-
-abbrev pub ghosts-sign_shared-G-BookLedger : goal.ghosts-sign_shared-G-BookLedger
-ghosts-sign_shared-G-BookLedger g a = record { book = a.book }
-
-abbrev pub ghosts-sign_shared-B-BookLedger : goal.ghosts-sign_shared-B-BookLedger
-ghosts-sign_shared-B-BookLedger g a = record { book = a.book }

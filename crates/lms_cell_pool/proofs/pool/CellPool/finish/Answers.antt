@@ -1,12 +1,9 @@
 use Rattle.std.proofs.Common.{rules, ◌≡◌, ◌-◌, ◌≤◌, ◌<◌, List, [], ◌∷◌, ◌++◌, length, All, sym, ap, ◌∙◌, subst, arith}
 use Rattle.std.proofs.Common.{append_assoc}
 use Rattle.crossbeam_utils.specs.Seq.{cell_view}
-use Rattle.lms_spec.specs.Bytes.{below}
-use Rattle.lms_pool.specs.CallLog.{places_in}
+use Rattle.lms_pool.specs.declared.finish.Tally.{Tally}
 use Rattle.lms_pool.specs.States.{PoolState, SeatState}
-use Rattle.lms_pool.specs.Ends.{IsWhole}
-use Rattle.lms_pool.proofs.CallLogs.{once_each}
-use Rattle.lms_pool.proofs.Wholes.{Sums, Whole, came, hands_length, nothing_before, sums}
+use Rattle.lms_pool.proofs.Wholes.{Sums, Whole, came, ended, hands_length, sums}
 use Rattle.lms_cell_pool.specs.Rule.{View, hand_in, hands_in}
 use Rattle.lms_cell_pool.proofs.Steps.{finds}
 use Rattle.lms_cell_pool.proofs.Views.{hands_over, merges}
@@ -110,29 +107,21 @@ overflow_sub-result-2 g c =
     let n = (tallied g (goal.at.overflow_sub-result-2 g c).After-load_as-found).1 in
     omega (arith, n.fits, c.saturating_sub-left.ensures, ap (λ (p : PoolState). p.len) c.self.view_is)
 
-pub returns-clause-call_log : goal.returns-clause-call_log
-returns-clause-call_log g c =
-    let found = tallied g (goal.at.returns-clause-call_log g c).After-load_as-found in
-    let w = found.0 in
-    let n = found.1 in
-    let i = c.loop-next.invariant in
-    let none : length c.loop-next.seats.items ≡ 0 =
-    omega (arith, c.in_default-pop.ensures.cases, c.loop-next.seats.ok.0) in
-    let all = i.1 ∙ nothing_before c.loop-next.seats.items i.0 none in
-    let len = c.self.inside.len in
-    let same : len ≡ c.args.self.len = ap (λ (p : PoolState). p.len) c.self.view_is in
-    let claimed : len - c.saturating_sub-left.result - c.loop-next.stopped ≡ length (places_in w.log) =
-    omega (arith, n.claimed, c.saturating_sub-left.ensures, same) in (
-      w.log,
-      subst (λ (seats : List SeatState). IsWhole c.args.self.len seats w.log) (sym all) w.is,
-      record {
-        claimed = (once_each c.args.self.len w.log w.is.legal).0 ∙ ap below (sym claimed);
-        stopped = n.burnt;
-        left = omega (arith, c.saturating_sub-left.ensures, n.left, same);
-      },
-    )
-
-pub returns-clause-sum : goal.returns-clause-sum
-returns-clause-sum g c =
-    let n = (tallied g (goal.at.returns-clause-sum g c).After-load_as-found).1 in
-    omega (arith, n.fits, c.saturating_sub-left.ensures, ap (λ (p : PoolState). p.len) c.self.view_is)
+pub returns : goal.returns
+returns g c =
+    let w = tallied g (goal.at.returns g c).After-load_as-found in
+    let here = c.loop-next.seats in
+    let left = c.saturating_sub-left.result in
+    let tally : Tally = record {
+      claimed = c.self.inside.len - left - c.loop-next.stopped;
+      stopped = c.loop-next.stopped;
+      left = left;
+    } in
+    let len = ap (λ (p : PoolState). p.len) c.self.view_is in
+    ended c.args.self c.args.seats here.items c.loop-next.invariant.0 c.load_as-found.result.taken tally
+    c.loop-next.invariant.1 (omega (arith, c.in_default-pop.ensures.cases, here.ok.0)) (omega (
+      arith,
+      c.if-present-self.false,
+      c.len-present.ensures,
+      ap (λ (p : PoolState). p.seats) c.self.view_is,
+    )) w.0 w.1 (omega (arith, c.saturating_sub-left.ensures, len)) (omega (arith, len))

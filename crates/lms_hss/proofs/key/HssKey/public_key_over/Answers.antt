@@ -11,4 +11,4 @@ unfolding hss_public_key
 returns c =
     let levels = ap length c.as_slice-levels.ensures.levels ∙ sym (length-map c.args.self.now.levels level_of) in
     c.public_key_bytes.ensures
-    ∙ ap₂ (λ n text. u32str n ++ text) levels (c.public_bytes.ensures ∙ ap public_key_of c.requires)
+    ∙ ap₂ (λ n text. u32str n ++ text) levels (c.public_bytes.ensures tt ∙ ap public_key_of c.requires)

@@ -1,4 +1,5 @@
-use Rattle.std.proofs.Common.{◌≡◌, ◌++◌, ◌∙◌, List, ℕ, ap, length, refl, sym, subst, inr, append-nil, append_assoc, length-append, ◌+◌, arith}
+use Rattle.std.proofs.Common.{◌≡◌, ◌++◌, ◌∙◌, List, ℕ, ap, length, refl, sym, subst, inr, ◌+◌, arith}
+use Rattle.std.proofs.Common.{append-nil, append_assoc, length-append}
 use Rattle.lms_blocks.proofs.Consumed.{consumes-both}
 use Rattle.lms_lines.specs.Gathered.{HasNoEnd}
 use Rattle.lms_lines.specs.TextLines.{lines_of}

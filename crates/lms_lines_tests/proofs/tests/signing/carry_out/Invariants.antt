@@ -11,9 +11,3 @@ ghosts-carried_out-B-Ledger g a = record { name = a.blanks.burnt.name; parts = a
 
 abbrev pub ghosts-carried_out-E-BookLedger : goal.ghosts-carried_out-E-BookLedger
 ghosts-carried_out-E-BookLedger g a = record { book = a.book }
-
-abbrev pub ghosts-carried_out-G-BookLedger : goal.ghosts-carried_out-G-BookLedger
-ghosts-carried_out-G-BookLedger g a = record { book = a.book }
-
-abbrev pub ghosts-carried_out-B-BookLedger : goal.ghosts-carried_out-B-BookLedger
-ghosts-carried_out-B-BookLedger g a = record { book = a.book }

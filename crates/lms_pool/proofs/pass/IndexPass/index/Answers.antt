@@ -1,5 +1,5 @@
 use Rattle.std.proofs.Common.{rules}
 use Rattle.lms_pool.proofs.pass.IndexPass.index.Goals as goal
 
-pub returns-clause-index : goal.returns-clause-index
-returns-clause-index c = search rules
+pub returns : goal.returns
+returns c = search rules

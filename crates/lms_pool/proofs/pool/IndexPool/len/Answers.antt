@@ -4,5 +4,5 @@ use Rattle.lms_pool.proofs.pool.IndexPool.len.Goals as goal
 pub returns-clause-len : goal.returns-clause-len
 returns-clause-len c = search rules
 
-pub returns-clause-some : goal.returns-clause-some
-returns-clause-some c = search rules
+pub returns-clause-lease : goal.returns-clause-lease
+returns-clause-lease c = search rules

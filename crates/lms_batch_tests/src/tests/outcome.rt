@@ -1,0 +1,141 @@
+//! The results of batches, and what tests ask of them.
+use lms_batch::{Batch, BatchFault, Job};
+use lms_book::{Book, Entry, MemoryStore};
+use lms_fixtures::{forest_of, signature_of};
+use lms_hss::{HssKey, verify};
+use std::alloc::Global;
+use std::test::Fail;
+use std::thread::Threads;
+
+/// The result of a batch, and what its desk had counted then: entries, received, burnt.
+#[derive(Drop)]
+pub(super) struct Answer {
+    pub(super) batch: Result<Batch, BatchFault>,
+    pub(super) counts: (u64, u64, u64),
+}
+
+/// The key of a service, the results of the batches that were asked for, and the book that was
+/// settled then.
+#[derive(Drop)]
+pub(super) struct Outcome {
+    pub(super) key: HssKey,
+    pub(super) answers: Vec<Answer>,
+    pub(super) book: Book<MemoryStore>,
+}
+
+impl Outcome {
+    /// The result of the batch of this place.
+    pub(super) fn batch(&self, place: usize) -> Option<&Batch> {
+        match self.answers.get(place) {
+            Some(
+                Answer {
+                    batch: Ok(batch),
+                    counts: _,
+                },
+            ) => Some(batch),
+            _ => None,
+        }
+    }
+
+    /// Whether the batch of this place was refused so.
+    pub(super) fn has_fault(&self, place: usize, fault: BatchFault) -> bool {
+        match self.answers.get(place) {
+            Some(
+                Answer {
+                    batch: Err(found),
+                    counts: _,
+                },
+            ) => *found == fault,
+            _ => false,
+        }
+    }
+
+    /// Whether the desk had counted this after the batch of this place.
+    pub(super) fn has_counted(&self, place: usize, counts: (u64, u64, u64)) -> bool {
+        match self.answers.get(place) {
+            Some(answer) => answer.counts == counts,
+            None => false,
+        }
+    }
+
+    /// Whether the book had this history and counter in the end.
+    pub(super) fn has_ended(&self, history: &[Entry], counter: u64) -> bool {
+        self.book.history() == history && self.book.counter() == counter
+    }
+
+    /// Whether the batch of this place is complete, with the signatures of these jobs from this
+    /// index on.
+    pub(super) fn is_complete(
+        &self,
+        rt: &(impl AllocGlobal + Threads + Sync),
+        place: usize,
+        first: u64,
+        jobs: &[Job],
+    ) -> Result<bool, Fail> {
+        match self.batch(place) {
+            Some(Batch::Complete { start, signatures }) => {
+                Ok(*start == first && are_signatures(rt, self.key, first, jobs, signatures)?)
+            }
+            _ => Ok(false),
+        }
+    }
+
+    /// Whether the batch of this place is complete and has no signatures, from 0 on.
+    pub(super) fn is_of_none(&self, place: usize) -> bool {
+        match self.batch(place) {
+            Some(Batch::Complete { start, signatures }) => *start == 0 && signatures.is_empty(),
+            _ => false,
+        }
+    }
+
+    /// The first index of the batch of this place, where it is valid.
+    pub(super) fn start_of(&self, place: usize, public: &[u8], jobs: &[Job]) -> Option<u64> {
+        start_of_valid(public, self.batch(place)?, jobs)
+    }
+}
+
+/// Whether these are the signatures of jobs by a key's indices from one on, as trees make them that
+/// are computed for these indices alone.
+fn are_signatures(
+    rt: &(impl AllocGlobal + Threads + Sync),
+    key: HssKey,
+    first: u64,
+    jobs: &[Job],
+    signatures: &[Vec<u8>],
+) -> Result<bool, Fail> {
+    let forest = forest_of(rt, key, first, jobs.len() as u64)?;
+    let mut is_right = signatures.len() == jobs.len();
+    let mut g = first;
+    for (signature, job) in signatures.iter().zip(jobs) {
+        is_right = is_right && *signature == signature_of(&forest, g, &job.c, &job.message)?;
+        g = g.saturating_add(1);
+    }
+    Ok(is_right)
+}
+
+/// The first index of a batch that is complete, with signatures of the jobs that are accepted.
+fn start_of_valid(public: &[u8], batch: &Batch, jobs: &[Job]) -> Option<u64> {
+    let Batch::Complete { start, signatures } = batch else {
+        return None;
+    };
+    let mut is_valid = signatures.len() == jobs.len();
+    for (signature, job) in signatures.iter().zip(jobs) {
+        is_valid = is_valid && verify(public, &job.message, signature);
+    }
+    if is_valid { Some(*start) } else { None }
+}
+
+/// The first indices of all batches in order, `None` for one that is not valid.
+pub(super) fn starts_of(
+    alloc: Global,
+    public: &[u8],
+    outcome: &Outcome,
+    jobs: &[Job],
+) -> Result<Vec<Option<u64>>, Fail> {
+    let mut starts = Vec::new(alloc);
+    for place in 0..outcome.answers.len() {
+        starts.push(outcome.start_of(place, public, jobs))?;
+    }
+    starts.sort_unstable();
+    Ok(starts)
+}

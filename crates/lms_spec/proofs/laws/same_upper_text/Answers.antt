@@ -1,5 +1,0 @@
-use Rattle.lms_spec.proofs.Places.{upper-same}
-use Rattle.lms_spec.proofs.laws.same_upper_text.Goals as goal
-
-pub returns : goal.returns
-returns c = upper-same
