@@ -43,7 +43,7 @@ function paragraph(lines, count, at, made) {
 
 # What stands under `Example`: a line on it, where that says more, and what is to be typed.
 function examples_of(lines, count, at, made) {
-    made = lines[1] == "Example:" ? ".nf\n" : shown(substr(lines[1], 1, length(lines[1]))) "\n.PP\n.nf\n"
+    made = lines[1] == "Example:" ? ".nf\n" : shown(lines[1]) "\n.PP\n.nf\n"
     for (at = 2; at <= count; at++) made = made example(lines[at])
     return made ".fi\n"
 }
