@@ -15,6 +15,12 @@ table == "Commands:" {
     names = names " " name
     described = described "        '" name ":" quoted($0) "'\n"
 }
+table == "Options:" && !command && match($0, /--[^ ]+/) {
+    option = substr($0, RSTART, RLENGTH)
+    own = own " " option
+    sub(/^.*--[^ ]+ +/, "")
+    own_described = own_described "        '" option ":" quoted($0) "'\n"
+}
 table == "Options:" && command && /^ +--/ {
     option = $1
     value = $2
@@ -33,7 +39,7 @@ function for_bash(at, command) {
     print "    local word=${COMP_WORDS[COMP_CWORD]} before=${COMP_WORDS[COMP_CWORD - 1]} options= files= given=\" ${COMP_WORDS[*]} \" it"
     print "    COMPREPLY=()"
     print "    if [ \"$COMP_CWORD\" -eq 1 ]; then"
-    print "        mapfile -t COMPREPLY < <(compgen -W '--help" names "' -- \"$word\")"
+    print "        mapfile -t COMPREPLY < <(compgen -W '" substr(own, 2) names "' -- \"$word\")"
     print "        return"
     print "    fi"
     print "    # (`--option=value` is three words here.)"
@@ -72,8 +78,12 @@ function for_zsh(at, command) {
     print "    local -a commands=("
     printf "%s", described
     print "    )"
+    print "    local -a own=("
+    printf "%s", own_described
+    print "    )"
     print "    if (( CURRENT == 2 )); then"
     print "        _describe command commands"
+    print "        _describe -o option own"
     print "        return"
     print "    fi"
     print "    local command=$words[2]"

@@ -1,7 +1,7 @@
 # Has the links of a document lead where the package has what they name: `folder` is the document's in
 # the repository, with a stroke behind it, or nothing, and the file `places` has a line for each file that
-# is packed, its name in the repository and the one by which documents reach it. A link to another file
-# of the repository becomes its text.
+# is packed, its name in the repository and the one by which documents reach it, from a folder among them
+# by `up` before that. A link to another file of the repository becomes its text.
 BEGIN { while ((getline line < places) > 0) { split(line, words, " "); place[words[1]] = words[2] } }
 
 function led(text, target, at, file, anchor) {
@@ -11,7 +11,7 @@ function led(text, target, at, file, anchor) {
     anchor = at ? substr(target, at) : ""
     file = folder file
     while (sub(/[^\/]+\/\.\.\//, "", file));
-    return file in place ? "[" text "](" place[file] anchor ")" : text
+    return file in place ? "[" text "](" up place[file] anchor ")" : text
 }
 
 {

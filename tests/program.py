@@ -2,6 +2,7 @@
 before it. Where EMULATED names a script that runs the program for aarch64, that is the program."""
 
 import fcntl
+import hashlib
 import os
 import pathlib
 import re
@@ -51,6 +52,16 @@ def sign(message="text", out="text.sig", randomizer=RANDOMIZER.hex(), state="key
     return ["sign", "--state", state, "--random", randomizer, "--message", message, "--out", out]
 
 
+def endorse(joined=2, signer="signer.pub", out="signer.end", randomizer=RANDOMIZER.hex(), state="key.state"):
+    """The arguments of an `endorse`."""
+    return ["endorse", "--state", state, "--random", randomizer, "--signer", signer, "--joined", str(joined), "--out", out]
+
+
+def endorsed_lines(index, signer):
+    """What is printed of an endorsement of this signer's key."""
+    return f"index {index}\nsigner {hashlib.sha256(signer).hexdigest()}\n"
+
+
 def verify(message="text", signature="text.sig", public="key.pub"):
     """The arguments of a `verify`."""
     return ["verify", "--public", public, "--message", message, "--signature", signature]
@@ -84,6 +95,11 @@ def join(public="top.pub", endorsement="signer.end", signer="signer.pub", signat
 def join_public(public="top.pub", signer="signer.pub", out="joined.pub"):
     """The arguments of a `join-public`."""
     return ["join-public", "--public", public, "--signer", signer, "--out", out]
+
+
+def inspect(name="key.state"):
+    """The arguments of an `inspect`."""
+    return ["inspect", "--file", name]
 
 
 def job_lines(*messages, randomizer=RANDOMIZER):
@@ -169,13 +185,13 @@ def said_on(terminal):
             return said
 
 
-def on_terminal(arguments, streams=("stdout", "stderr"), **how):
+def on_terminal(arguments, streams=("stdout", "stderr"), program=PROGRAM, **how):
     """Runs the program with these of its streams on one terminal. What it ended with, what it printed
     there, and what to the other of the two streams, if any."""
     terminal, side = os.openpty()
     tty.setraw(side)
     how = {"stdin": subprocess.DEVNULL, "stdout": subprocess.PIPE, "stderr": subprocess.PIPE, **how, **dict.fromkeys(streams, side)}
-    with subprocess.Popen([PROGRAM, *arguments], **how) as running, os.fdopen(terminal, "rb", 0):
+    with subprocess.Popen([program, *arguments], **how) as running, os.fdopen(terminal, "rb", 0):
         os.close(side)
         try:
             shown = said_on(terminal)

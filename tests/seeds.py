@@ -53,16 +53,22 @@ def input_of(how):
     return text.encode() if isinstance(text, str) else text
 
 
+def of_digits(text):
+    """The bytes of a text of digits, without the last where it has no pair; none of another text."""
+    try:
+        return bytes.fromhex(text[: len(text) // 2 * 2])
+    except ValueError:
+        return b""
+
+
 def seeds_in(words, given_input):
-    """The seed of most tests, and the one that these words give, or this input where they say so, if any."""
-    digits = given(words, "--seed") or ""
+    """The seed of most tests, and the digits that these words, or this input where they say so, have for a
+    seed or in place of levels: also of a seed that is cut, where what is left tells it."""
+    digits, levels = given(words, "--seed") or "", given(words, "--levels") or ""
     if digits == "-":
         digits = given_input[: 2 * len(SEED)].decode(errors="replace")
-    try:
-        named = bytes.fromhex(digits)
-    except ValueError:
-        named = b""
-    return {SEED, named} if len(named) == len(SEED) else {SEED}
+    named = {of_digits(digits), of_digits(levels)}
+    return {SEED, *(it for it in named if len(it) >= TELLING and any(it))}
 
 
 def contents_of(path):

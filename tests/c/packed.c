@@ -1,19 +1,19 @@
 /* Stands in for a program that is packed: the name NAME, its process and its arguments, a line each;
-   or a help text in the form of clap's, with lines that would mean something else to the manual's
-   formatter or to a shell. */
+   or the version VERSION; or a help text in the form of clap's, with lines that would mean something
+   else to the manual's formatter or to a shell. */
 #include <stdio.h>
 #include <string.h>
 #include <unistd.h>
 
 static const char *const commands[] = {"keygen", "witness", "sign", "batch", "serve", "verify",
-                                       "info", "public", "resume", "join", "join-public"};
+                                       "info", "inspect", "public", "resume", "endorse", "join", "join-public"};
 
 static void help_with_all(void) {
     puts("Helps with all\n\nUsage: lms_tool <COMMAND>\n\nCommands:");
     for (size_t at = 0; at < sizeof commands / sizeof *commands; at++) {
         printf("  %-11s  Helps with %s, which isn't \"all\"\n", commands[at], commands[at]);
     }
-    puts("  help         Print this message\n\nOptions:\n  -h, --help  Print help");
+    puts("  help         Print this message\n\nOptions:\n  -h, --help     Print help\n  -V, --version  Print version");
 }
 
 static void help_with(const char *command) {
@@ -31,6 +31,10 @@ int main(int count, char **words) {
         } else {
             help_with_all();
         }
+        return 0;
+    }
+    if (count > 1 && !strcmp(words[count - 1], "--version")) {
+        printf("lms_tool %s\n", VERSION);
         return 0;
     }
     printf("%s\n%ld\n", NAME, (long)getpid());

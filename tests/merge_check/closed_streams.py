@@ -6,8 +6,8 @@ import subprocess
 
 from tests.harness import TOP, Skipped, add_test, holds, test
 from tests.program import (
-    BATCH, EMULATED, INFO, PROGRAM, SERVE, WITNESS, ends, fails, has, index_in, job_lines, join, join_public, keygen, preload, public, put,
-    read, resume, run, sign, verify, witness,
+    BATCH, EMULATED, INFO, PROGRAM, SERVE, WITNESS, endorse, endorsed_lines, ends, fails, has, index_in, job_lines, join, join_public, keygen,
+    preload, public, put, read, resume, run, sign, verify, witness,
 )
 from tests.reference import SEED, image, joined, public_of, signature_of, witness_of
 
@@ -93,6 +93,19 @@ def joins_two(closed):
         os.remove(name)
 
 
+def endorses_one(closed):
+    """`endorse`, of a state that is put back afterwards."""
+    kept = {name: read(name) for name in ("key.state", "key.state.nodes")}
+    signer = public_of(LEVELS, identifier=b"\x66" * 16)
+    put("signer.pub", signer)
+    prints(closed, endorse(), 0, endorsed_lines(2, signer))
+    has("signer.end", signature_of(LEVELS, 2, signer[4:]))
+    for name in ("signer.pub", "signer.end"):
+        os.remove(name)
+    for name, contents in kept.items():
+        put(name, contents)
+
+
 def works_without(closed):
     """Every command, with the streams of these numbers closed."""
     shown = run(["--help"]).stdout
@@ -105,6 +118,7 @@ def works_without(closed):
     has("1.pub", read("key.pub"))
     os.remove("1.pub")
     joins_two(closed)
+    endorses_one(closed)
     prints(closed, verify("text", "1.sig"), 0, "valid\n")
     prints(closed, verify("text", "key.pub"), 1, "invalid\n")
     prints(closed, ["--help"], 0, shown)
@@ -165,7 +179,8 @@ def lacks_dev_null(closed):
     put("key.state", image(LEVELS, 5))
     files = {name: (read(name), os.stat(name).st_mtime_ns) for name in os.listdir()}
     new = keygen(state="other", public="other.pub")
-    others = [public(), sign(), INFO, BATCH, SERVE, verify("text", "text", "text"), join(), join_public(), witness(5, "witness"), resume(6)]
+    others = [public(), sign(), endorse(), INFO, BATCH, SERVE, verify("text", "text", "text"), join(), join_public()]
+    others += [witness(5, "witness"), resume(6)]
     for arguments in (new, *others, ["--help"], ["none"]):
         ran = run([*words, PROGRAM, *arguments], program="unshare")
         found = (ran.returncode, ran.stdout, ran.stderr)

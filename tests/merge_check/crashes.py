@@ -2,14 +2,17 @@
 failing, alone or with all after it, or, beside a witness, with all on its medium alone from there on.
 
 This is done to a `keygen`, to a `public`, to a `sign` by trees that it computes and keeps, to one by
-kept trees, to a `batch` of three jobs, and to a `serve` of them, of which its reads bring two and then one.
+kept trees, to an `endorse`, to a `batch` of three jobs, and to a `serve` of them, of which its reads bring two
+and then one.
 Then a `sign` and a `batch` follow. No index may be given twice, the next one is what the old state counts or
 what a new one does, the new signature must be valid, and no draft of a file may be left. Once the second group
 of a `serve` is counted, the answers of the first are whole.
 
-It is done to `sign`, `batch` and `serve` beside a witness, too, and to a `witness` and a `resume`. The witness
+It is done to `sign`, `endorse`, `batch` and `serve` beside a witness, too, and to a `witness` and a `resume`. The witness
 is whole then, says no more than the state counts, and that all indices are used that were given. Where the state
-or the witness alone is put back as it was, in a copy, a `sign` is refused or gives another index."""
+or the witness alone is put back as it was, in a copy, a `sign` is refused or gives another index.
+
+What is given away is whole, or as it was, at each of them: missing, or an older file of the same name."""
 
 import concurrent.futures
 import os
@@ -19,40 +22,51 @@ import signal
 
 from tests.harness import add_test, holds
 from tests.merge_check.service import messages_of_groups
-from tests.program import BATCH, PLACE, SERVE, WITNESS, ends, index_in, job_lines, keygen, preload, public, resume, run, sign, verify, witness
-from tests.reference import witness_of
+from tests.program import (
+    BATCH, PLACE, SERVE, WITNESS, endorse, ends, index_in, job_lines, keygen, preload, public, resume, run, sign, verify, witness,
+)
+from tests.reference import public_of, witness_of
 
 LEVELS = ((5, 2),)
 # How many operations each command has; if the program changes, these change with it. Each opens
 # /dev/null (1), acquires the lock (3, or 4 where there is no state) and stores the state by way of
-# a draft (7). It may keep nodes by way of another one (5), write a file (3) and print a line (1).
-# `keygen` looks whether there is a state (1). It and `public`, which reads the state (3) and stores
-# none, flush their file and its folder (4). `sign` reads the message (4), the kept nodes (4, or 1
-# where there are none) and the state (3). `batch` reads the state (3) and the lines (3, the last of which
-# brings none), and prints each answer by 8 writes. `serve` reads the state before the first of these reads and
-# after each (12), and stores it twice. All but `public` look for a witness before they read the state (1).
-# Where there is one it is read (4), a draft of the next one is made (9), and takes its place (5) or is removed
-# (1). `witness` makes one (12) and prints by 3 writes; `resume` reads one and stores the state.
-OPERATIONS = {"keygen": 27, "public": 15, "sign by trees": 29, "sign by kept trees": 27, "batch": 42, "serve": 61}
-OPERATIONS |= {"sign beside a witness": 45, "batch beside a witness": 60, "serve beside a witness": 125, "witness": 23, "resume": 20}
+# a draft (7). It may keep nodes by way of another one (5), find where a file is (2), write it by way of
+# a draft (10, or 15 over an older one) and print a line (1). `keygen` looks whether there is a state (1).
+# It and `public`, which reads the state (3) and stores none, flush the folder of their file (2). `sign`
+# reads the message (4), the kept nodes (4, or 1 where there are none) and the state (3). `endorse` does what
+# `sign` does, with a signer's key as the message, and prints a line more (1). `batch` reads the state (3) and
+# the lines (3, the last of which brings none), and prints each answer by 8 writes. `serve` reads the state
+# before the first of these reads and after each (12), and stores it twice. All but `public` look for a witness
+# before they read the state (1). Where there is one it is read (4), a draft of the next one is made (9), and
+# takes its place (5) or is removed (1). `witness` makes one (12) and prints by 3 writes; `resume` reads one and
+# stores the state.
+OPERATIONS = {"keygen": 34, "public": 22, "sign by trees": 38, "sign by kept trees": 41, "endorse": 37, "batch": 42, "serve": 61}
+OPERATIONS |= {"sign beside a witness": 54, "endorse beside a witness": 55, "batch beside a witness": 60, "serve beside a witness": 125}
+OPERATIONS |= {"witness": 23, "resume": 20}
 # What each command is run with, which of the made files it finds, and the next index before it, after it, and
 # between two groups.
 KEYGEN, MADE_FILES = keygen("5/2"), ["key.pub", "key.state", "key.state.nodes"]
+ENDORSE, SIGNER = endorse(out="first.sig"), public_of(LEVELS, identifier=b"\x66" * 16)
 COMMANDS = {
     "keygen": (KEYGEN, [], [0]),
     "public": (public(name="again.pub"), MADE_FILES, [1]),
     "sign by trees": (sign(out="first.sig"), ["key.pub", "key.state"], [1, 2]),
     "sign by kept trees": (sign(out="first.sig"), MADE_FILES, [1, 2]),
+    "endorse": (ENDORSE, MADE_FILES, [1, 2]),
     "batch": (BATCH, MADE_FILES, [1, 4]),
     "serve": (SERVE, MADE_FILES, [1, 3, 4]),
     "sign beside a witness": (sign(out="first.sig"), MADE_FILES, [1, 2]),
+    "endorse beside a witness": (ENDORSE, MADE_FILES, [1, 2]),
     "batch beside a witness": (BATCH, MADE_FILES, [1, 4]),
     "serve beside a witness": (SERVE, MADE_FILES, [1, 3, 4]),
     "witness": (witness(1), MADE_FILES, [1]),
     "resume": (resume(3), MADE_FILES, [3]),
 }
+# What each command gives away, and which of them finds an older file of that name.
+GIVEN = {"keygen": "key.pub", "public": "again.pub", "sign": "first.sig", "endorse": "first.sig"}
+OLDER_FILE, OVER = b"older", "sign by kept trees"
 # What the witness says that a command finds, if any.
-SAYS = {"sign beside a witness": 1, "batch beside a witness": 1, "serve beside a witness": 1, "resume": 3}
+SAYS = {"sign beside a witness": 1, "endorse beside a witness": 1, "batch beside a witness": 1, "serve beside a witness": 1, "resume": 3}
 OLDER = b"error: state is older than its witness\n"
 # How the command ends where it meets the operation.
 STATUSES = {"killed": [-signal.SIGKILL], "failed": [3, 5, 6], "failed alone": [0, 3, 5, 6], "with its medium pulled out": [0, 3]}
@@ -89,7 +103,13 @@ class Crash:
             (self.folder / PLACE).write_bytes(witness_of(self.says))
             (self.folder / WITNESS).symlink_to(PLACE)
         shutil.copy("text", self.folder)
+        # (An endorsement is a signature of the last 56 bytes.)
+        (self.folder / "signer.pub").write_bytes(SIGNER)
+        (self.folder / "signer.key").write_bytes(SIGNER[4:])
         (self.folder / "lines").write_bytes(LINES)
+        self.older = OLDER_FILE if what == OVER else b""
+        if self.older:
+            (self.folder / GIVEN[self.command]).write_bytes(self.older)
 
     def holds(self, is_so, why):
         """Fails where this is not so."""
@@ -126,6 +146,7 @@ class Crash:
         wanted = STATUSES[self.how] if self.is_met and not is_last else [0]
         self.holds(ran.returncode in wanted, f"ended with {ran.returncode}: {ran.stderr}")
         self.holds(ran.returncode or self.is_whole(), "ended well, and did not do all")
+        self.given_is_whole()
         self.nodes_are_in_turn()
 
     def is_whole(self):
@@ -138,7 +159,19 @@ class Crash:
             return len(indices_in(self.printed)) == sum(GROUPS)
         if self.command in ("witness", "resume"):
             return self.printed.count(b"\n") == (2 if self.command == "witness" else 1) and self.is_there(WITNESS)
-        return self.run(verify(signature="first.sig")).returncode == 0
+        signed = "signer.key" if self.command == "endorse" else "text"
+        return self.run(verify(signed, "first.sig")).returncode == 0
+
+    def given_is_whole(self):
+        """What is given away is as it was, or whole. A draft of it is left by a kill alone, or where it could not be
+        removed."""
+        name = GIVEN.get(self.command)
+        if name:
+            self.holds(self.bytes_of(name) == self.older or self.is_whole(), f"a beginning of {name} is written")
+            left = [it.name for it in self.folder.glob("*.draft*")]
+            self.holds(left in ([], [f"{name}.draft0"]) and (not left or self.how != "failed alone"), f"drafts are left: {left}")
+            for draft in left:
+                (self.folder / draft).unlink()
 
     def nodes_are_in_turn(self):
         """Nodes are written after the state alone is stored, and before the signature; and none
@@ -149,7 +182,7 @@ class Crash:
         elif self.what == "sign by trees":
             self.holds(not self.is_as_made("key.state") or not nodes, "nodes are kept before the state is stored")
             is_alone = self.how == "failed alone"
-            self.holds(is_alone or not self.bytes_of("first.sig") or nodes, "no nodes are kept, and a signature is written")
+            self.holds(is_alone or not self.is_there("first.sig") or nodes, "no nodes are kept, and a signature is written")
         else:
             self.holds(self.how == "failed alone" or self.is_as_made("key.state.nodes"), "the kept nodes are others")
 
@@ -186,11 +219,11 @@ class Crash:
         shutil.rmtree(copy)
 
     def given(self):
-        """The indices that the command gave: of a file that is cut, what there is."""
+        """The indices that the command gave."""
         if self.command in ("batch", "serve"):
             return indices_in(self.printed)
-        index = index_in(self.bytes_of("first.sig"), LEVELS)
-        return [] if index is None else [index]
+        signature = self.bytes_of("first.sig")
+        return [] if signature in (b"", OLDER_FILE) else [index_in(signature, LEVELS)]
 
     def sign_again(self):
         """Signs by a `sign` and by a `batch`. The first index that is given."""

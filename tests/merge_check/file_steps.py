@@ -3,9 +3,9 @@ operation alone fails.
 
 `stop.c`, which is loaded before the program, writes down each operation before it is done, and has
 one fail. All operations of `keygen`, of `public` over an older file, of `sign` by trees that it
-computes and by kept ones, of `serve` of one line, of `info`, `join` and `join-public` are compared one by
-one; and of `sign` and `serve` beside a witness, of `witness` and of `resume`; and of those that write a public
-key, by names that lead into another folder."""
+computes and by kept ones, of `serve` of one line, of `info`, `inspect`, `join` and `join-public` are
+compared one by one; and of `sign`, `serve` and `inspect` beside a witness, of `witness` and of `resume`;
+and of those that write a public key, by names that lead into another folder."""
 
 import errno
 import itertools
@@ -13,10 +13,10 @@ import os
 
 from tests.harness import add_test, holds, test
 from tests.merge_check.steps import (
-    BESIDE_A_WITNESS, BY_TREES, COMMANDS, DESCRIBE, FOLDER, INDEX, IN_USE, JOIN, JOINED, JOINED_KEY, JOIN_KEYS, KEPT, KEYGEN, LEVELS,
-    LOCKED, LOCKED_FIRST, LOCKING, MESSAGE, NEW, NODES_READ, NO_NODES, NO_WITNESS, PRINTED, PUBLIC, RESUME, SERVICE, SERVICE_BESIDE,
-    SIGNATURE, SIGN_BESIDE, SIGN_BY_NODES, SIGN_BY_TREES, STATE, STORED, STREAMS, WATCH, WITNESS_READ, WITNESS_SEEN, elsewhere,
-    steps_in,
+    BESIDE_A_WITNESS, BY_TREES, COMMANDS, DESCRIBE, ENDORSE, FOLDER, INDEX, INSPECT, INSPECT_BESIDE, IN_USE, IS_LINK, JOIN, JOINED, JOINED_KEY,
+    JOIN_KEYS, KEPT, KEYGEN, LEVELS, LOCKED, LOCKED_FIRST, LOCKING, MESSAGE, NEW, NODES_READ, NO_NODES, NO_WITNESS, PRINTED, PUBLIC, RESUME,
+    SERVICE, SERVICE_BESIDE, SIGNATURE, SIGNATURE_AT, SIGNER, SIGN_BESIDE, SIGN_BY_NODES, SIGN_BY_TREES, STATE, STORED, STREAMS, WATCH,
+    WITNESS_READ, WITNESS_SEEN, elsewhere, steps_in,
 )
 from tests.program import DRAFT, NODES, PLACE, WITNESS, Lock, has, keeps, put, signs
 from tests.reference import image, kept, public_of, signature_of, witness_of
@@ -73,9 +73,12 @@ add_test("a flush failing with each other error", meets_each_error, SIGN_BY_TREE
 add_test("a flush beside a witness failing with each other error", meets_each_error, SIGN_BESIDE, "flush ")
 add_test("an open of a witness failing with each other error", meets_each_error, SIGN_BESIDE, f"open {WITNESS}")
 add_test("a lock failing with each other error", meets_each_error, DESCRIBE, "lock ")
-for what, one, file in [("keygen", KEYGEN, "key.pub"), ("public", PUBLIC, "key.pub"), ("join-public", JOIN_KEYS, "joined.pub")]:
-    its = tuple(f"{does} {of}" for does, of in itertools.product(["empty", "write", "flush", "open"], [file, "."]))
-    add_test(f"a public key of {what} failing with each other error", meets_each_error, one, its)
+for what, one, file in [
+    ("keygen", KEYGEN, "key.pub"), ("public", PUBLIC, "key.pub"), ("sign", SIGN_BY_TREES, "text.sig"), ("join", JOIN, "joined.sig"),
+    ("join-public", JOIN_KEYS, "joined.pub"),
+]:
+    its = tuple(f"{does} {of}" for does, of in itertools.product(["make", "permit", "write", "flush", "rename", "open"], [f"{file}.draft", file, "."]))
+    add_test(f"what {what} gives away failing with each other error", meets_each_error, one, its)
 add_test("a read of lines failing with each other error", meets_each_error, SERVICE, "read standard input")
 
 
@@ -108,13 +111,13 @@ def asks_once_for_a_lock_that_another_has():
         command.begin()
         at = command.parts.index(LOCKED_FIRST if command is KEYGEN else LOCKED)
         with Lock():
-            command.ends([*steps_in(command.parts[: at + 1]), "write standard error"], IN_USE)
+            command.ends([*steps_in(command.parts[: at + 1]), *IS_LINK, "write standard error"], IN_USE)
 
 
-def has_signed():
-    """The index has signed, and nodes are kept of it."""
+def has_signed(message=b"abc"):
+    """The index has signed this, and nodes are kept of it."""
     has(STATE, image(LEVELS, INDEX + 1, 1))
-    has("text.sig", signature_of(LEVELS, INDEX, b"abc"))
+    has("text.sig", signature_of(LEVELS, INDEX, message))
 
 
 @test
@@ -149,8 +152,8 @@ def reads_and_writes_byte_by_byte():
             has("joined.sig", JOINED)
         elif command is JOIN_KEYS:
             has("joined.pub", JOINED_KEY)
-        elif command not in (DESCRIBE, WATCH):
-            has_signed()
+        elif command not in (DESCRIBE, INSPECT, INSPECT_BESIDE, WATCH):
+            has_signed(SIGNER[4:] if command is ENDORSE else b"abc")
             has(NODES, kept(LEVELS, KEPT if command.has_nodes else INDEX))
         if command.says[1] is not None:
             has(PLACE, witness_of(command.says[1]))
@@ -182,7 +185,7 @@ def reads_no_more_nodes_than_are_reported():
     """A file that is reported to be too long is not opened, nor is what is no file. One that has
     more bytes than were reported is read to one more of them, and not used."""
     name, rest = os.path.realpath(NODES), steps_in(BY_TREES[BY_TREES.index(NO_WITNESS) :])
-    before = steps_in([STREAMS, MESSAGE, LOCKED])
+    before = steps_in([STREAMS, SIGNATURE_AT, MESSAGE, LOCKED])
     for size, count in [(2**40, 1), (1, 3)]:
         SIGN_BY_NODES.begin()
         SIGN_BY_NODES.ends(before + NODES_READ.steps[:count] + rest, NAME=name, SIZE=size)
@@ -198,7 +201,7 @@ def reads_no_more_nodes_than_are_reported():
 @test
 def reads_no_more_of_a_witness_than_it_may_have():
     """One that is reported to be too long is not opened. The length of others does not count."""
-    before = steps_in([STREAMS, MESSAGE, LOCKED, NO_NODES, WITNESS_SEEN])
+    before = steps_in([STREAMS, SIGNATURE_AT, MESSAGE, LOCKED, NO_NODES, WITNESS_SEEN])
     for size in (129, 2**40):
         SIGN_BESIDE.begin()
         steps = [*before, *WITNESS_READ.steps[:1], "write standard error"]

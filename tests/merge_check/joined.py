@@ -8,7 +8,9 @@ import os
 import signal
 
 from tests.harness import TOP, add_test, holds, test
-from tests.program import TO_JOIN, ends, fails, has, index_in, join, join_public, keygen, preload, put, read, run, sign, verify
+from tests.program import (
+    TO_JOIN, endorse, endorsed_lines, ends, fails, has, index_in, join, join_public, keygen, preload, put, read, run, sign, verify,
+)
 from tests.reference import image, joined, number, parts_to_join, public_of, signature_by, way_of
 
 ONE = ((5, 1),)
@@ -145,18 +147,26 @@ def refuses_what_is_no_endorsement():
 
 
 @test
-def refuses_signatures_of_other_levels():
+def refuses_signatures_by_no_such_key():
+    """One of other levels, cut, longer, of other typecodes, of a leaf that there is not; of two levels, by
+    another key, and with each part of the signed key's signature changed."""
     *parts, good = parts_to_join(ONE, ONE)
-    for signature in (b"", good[:3], number(1, 4) + good[4:], Key(ONE * 2, 0x55).signs(3, b"abc")):
+    others = [b"", good[:3], good[:4], good[:-1], good + b"\0", number(1, 4) + good[4:], Key(ONE * 2, 0x55).signs(3, b"abc")]
+    others += [Key(levels, 0x55).signs(3, b"abc") for levels in (((5, 2),), ((10, 1),))]
+    for signature in [*others, good[:4] + number(32, 4) + good[8:]]:
         refused([*parts, signature], BAD_SIGNATURE)
+    *parts, good = parts_to_join(ONE, ONE * 2)
+    for at in (4, 8, 12, 44, 8500, 8524, 8600, len(good) // 2):
+        refused([*parts, good[:at] + bytes([good[at] ^ 1]) + good[at + 1 :]], BAD_SIGNATURE)
+    refused([*parts, Key(ONE * 2, 0x66).signs(3, b"abc")], BAD_SIGNATURE)
 
 
 @test
 def joins_what_is_invalid():
-    """Where the signer's signature is: by another key of as many levels, cut, longer, of another
-    message."""
+    """Where the signer's signature is in what only its message tells: by another key of one level, of
+    another message, with its last byte changed."""
     *parts, good = parts_to_join(ONE, ONE)
-    for signature in (Key(ONE, 0x66).signs(3, b"abc"), good[:-1], good[:4], good + b"\0", Key(ONE, 0x55).signs(3, b"abd")):
+    for signature in (Key(ONE, 0x66).signs(3, b"abc"), Key(ONE, 0x55).signs(3, b"abd"), good[:-1] + bytes([good[-1] ^ 1])):
         joins([*parts, signature], verdict="invalid")
 
 
@@ -184,9 +194,9 @@ def fails_by_its_files():
         refused(parts, "cannot write output", 6, join_public(out=out))
 
 
-def killed(words, out):
-    """A command is killed at each of its operations in turn: no file is changed but the one of this
-    name."""
+def killed(words, out, contents):
+    """A command is killed at each of its operations in turn: a draft of the file of this name may be
+    left, that file is as it was or has all its bytes, and no other is changed."""
     for at in itertools.count(1):
         put_parts(parts_to_join(ONE, ONE))
         put(out, b"as it was")
@@ -197,13 +207,17 @@ def killed(words, out):
             return
         os.remove("met")
         holds(ran.returncode == -signal.SIGKILL, f"killed at {at}, it ended with {ran.returncode}")
+        if os.path.exists(f"{out}.draft0"):
+            os.remove(f"{out}.draft0")
         holds({**files(), out: None} == {**before, out: None}, f"killed at {at}, it changed another file")
+        holds(read(out) in (b"as it was", contents), f"killed at {at}, it left a part of its file")
 
 
 @test
 def a_kill_changes_no_other_file():
-    killed(join(), "joined.sig")
-    killed(join_public(), "joined.pub")
+    key, signature = joined(*parts_to_join(ONE, ONE))
+    killed(join(), "joined.sig", signature)
+    killed(join_public(), "joined.pub", key)
 
 
 def signs_all(name, count):
@@ -225,8 +239,8 @@ def four_machines_sign_at_once():
     for at, name in enumerate(machines):
         os.mkdir(name)
         ends(keygen("5/2", name * 64, f"c{name}" * 16), 0, "capacity 32\n", cwd=name)
-        put("signer.key", read(f"{name}/key.pub")[4:])
-        ends(sign("signer.key", f"{name}/key.end", f"e{at:03}" * 16, "top.state"), 0, f"index {at}\n")
+        signer = f"{name}/key.pub"
+        ends(endorse(2, signer, f"{name}/key.end", f"e{at:03}" * 16, "top.state"), 0, endorsed_lines(at, read(signer)))
     with concurrent.futures.ThreadPoolExecutor(len(machines)) as pool:
         said = list(pool.map(lambda name: signs_all(name, count), machines))
     holds(said == [[f"index {at}\n" for at in range(count)]] * len(machines), f"the indices are {said}")

@@ -9,7 +9,7 @@ import subprocess
 import time
 
 from tests.harness import Skipped, holds, test
-from tests.program import BATCH, INFO, PROGRAM, SERVE, Lock, ends, has, is_lock_free, job_lines, keygen, public, put, sign
+from tests.program import BATCH, INFO, PROGRAM, SERVE, Lock, endorse, ends, has, is_lock_free, job_lines, keygen, public, put, sign
 from tests.reference import image, public_of, signature_of
 
 # (in `fcntl` from Python 3.10 on)
@@ -64,14 +64,17 @@ def holds_the_lock_until_all_is_printed():
     """Each command that takes the lock, but for `public`, holds it in each of its writes, and its
     files are complete before the first."""
     levels = ((5, 2),)
+    signer = public_of(levels, identifier=b"\x66" * 16)
     put("jobs", job_lines(b"abc"))
+    put("signer.pub", signer)
     signature = "text.sig", signature_of(levels, 0, b"abc")
     for words, numbers, made, lines in [
         (keygen("5/2"), (0, 0), ("key.pub", public_of(levels)), 1),
         (sign(), (1, 1), signature, 1),
-        (INFO, (1, 1), signature, 6),
-        (BATCH, (2, 2), signature, 1),
-        (SERVE, (3, 3), signature, 1),
+        (endorse(), (2, 2), ("signer.end", signature_of(levels, 1, signer[4:])), 2),
+        (INFO, (2, 2), signature, 6),
+        (BATCH, (3, 3), signature, 1),
+        (SERVE, (4, 4), signature, 1),
     ]:
         reader, writer = pipe_of_one_write()
         with open("jobs", "rb") as jobs:

@@ -31,6 +31,9 @@ SECRET_FIELD = re.compile(rf"\bseed:|[:(<&,]\s*(?:\w+::)*(?:{'|'.join(SECRETS)})
 # Where a seed has its name.
 SEED = re.compile(r"\bseed\b(?!\s*::)")
 SEEDS = """
+    lms_cli: explain_seed: if is_hexadecimal(seed.as_str()) =>
+    lms_cli: explain_seed: seed, ..
+    lms_cli: explain_seed: world.explain(format_args!( , seed.len()))
     lms_cli: obey: let key = key_from(resources.alloc, &levels, &seed, &id, input)?
     lms_cli: obey: levels, seed, id, state, public,
     lms_cli: outside: levels: String, seed: String, id: String, state: String, public: String,
@@ -72,10 +75,10 @@ SEEDS = """
     lms_tree: outside: 16], pub seed: [u8
     lms_tree: write_head: lms_ots::sign_into(key.ots, &key.seed, id, c, msg, &mut out[4..ots_end])
     """
-# A field of bytes, and which types of the product that can be printed have one: an identifier, and what
-# clap says.
+# A field of bytes, and which types of the product that can be printed have one: an identifier, what clap says,
+# what of a file is public, and a file's name.
 BYTES_FIELD = re.compile(r"\[\s*[ui](?:8|16|32|64|128|size)\b|\b(?:u8|String|str|Vec|ArrayVec|ArrayString)\b")
-WITH_BYTES = {"ClapText of lms_cli", "OtsId of lms_ots"}
+WITH_BYTES = {"ClapText of lms_cli", "KeyParts of lms_inspect", "KeyedLevel of lms_inspect", "OtsId of lms_ots", "Quoted of lms_world"}
 
 
 def bodies():

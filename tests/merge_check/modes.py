@@ -6,12 +6,16 @@ import os
 import signal
 
 from tests.harness import add_test, holds, test
-from tests.program import BATCH, DRAFT, INFO, NODES, SERVE, VERIFY, ends, job_lines, keygen, mode_of, preload, put, read, run, sign
+from tests.program import (
+    BATCH, DRAFT, INFO, NODES, SERVE, VERIFY, endorse, endorsed_lines, ends, job_lines, keygen, mode_of, preload, put, read, run, sign,
+)
+from tests.reference import public_of
 
 STATE, LOCK, STATE_DRAFT = "key.state", "key.state.lock", "key.state.new"
 OWN = 0o600
 MASKS = [0, 0o022, 0o077, 0o007]
 JOB = job_lines(b"abc").decode()
+SIGNER = public_of(((5, 1),), identifier=b"\x66" * 16)
 
 
 def are(*names, mode):
@@ -31,13 +35,17 @@ def made_by_commands(mask):
     ends(sign(), 0, "index 0\n", **how)
     are(STATE, LOCK, NODES, mode=OWN)
     are("text.sig", mode=plain)
+    put("signer.pub", SIGNER)
+    ends(endorse(), 0, endorsed_lines(1, SIGNER), **how)
+    are(STATE, LOCK, NODES, mode=OWN)
+    are("signer.end", mode=plain)
     for words in (BATCH, SERVE):
         holds(run(words, input=JOB, **how).returncode == 0, f"no {words[0]}")
     holds(run(INFO, **how).returncode == 0, "no info")
     ends(VERIFY, 0, "valid\n", **how)
     are(STATE, LOCK, NODES, mode=OWN)
     files = sorted(os.listdir())
-    holds(files == ["key.pub", STATE, LOCK, NODES, "text", "text.sig"], f"the files are {files}")
+    holds(files == ["key.pub", STATE, LOCK, NODES, "signer.end", "signer.pub", "text", "text.sig"], f"the files are {files}")
 
 
 for one in MASKS:
@@ -77,7 +85,8 @@ for command in (keygen(), sign()):
 
 @test
 def files_that_are_there():
-    """What takes a file's place is its owner's alone; what is written into a file leaves its mode."""
+    """What is kept beside a state is its owner's alone, whatever was there; a file that is given away has the mode of
+    the older one."""
     put("key.pub", b"older")
     os.chmod("key.pub", 0o604)
     ends(keygen(), 0, "capacity 32\n", umask=0)

@@ -114,8 +114,11 @@ def signs_between_pipes():
     holds((ran.returncode, ran.stderr) == (0, b"index 0\n"), f"{ran.returncode} {ran.stderr!r}")
     holds(ran.stdout == signature_of(ONE, 0, b"abc"), "the signature is another one")
     put("-", b"abc")
-    ends(sign("-", "-"), 0, "index 1\n")
-    has("-", signature_of(ONE, 1, b"abc"))
+    ends(sign("-", "other"), 0, "index 1\n")
+    has("other", signature_of(ONE, 1, b"abc"))
+    put("text", b"abc")
+    ends(sign("text", "-"), 0, "index 2\n")
+    has("-", signature_of(ONE, 2, b"abc"))
 
 
 @test
@@ -168,3 +171,24 @@ def writes_through_links():
         holds(os.path.islink("link"), "the link was replaced")
         os.remove("link")
         os.remove("keys/key.pub")
+
+
+@test
+def writes_in_place_by_a_name_where_its_whole_path_may_not_be_gone_along():
+    """As from a folder that is the user's, below one that is not."""
+    put("key.state", image(ONE, 0))
+    how = as_who_may_not()
+    state, tool = os.path.abspath("key.state"), os.path.abspath(how.get("program", PROGRAM))
+    os.makedirs("closed/open")
+    if how:
+        os.chown("closed/open", how["user"], how["group"])
+        how["program"] = tool
+    put("closed/open/text", b"abc")
+    os.chdir("closed/open")
+    os.chmod("..", 0)
+    try:
+        ends(sign(out="text.sig", state=state), 0, "index 0\n", **how)
+        has("text.sig", signature_of(ONE, 0, b"abc"))
+    finally:
+        os.chmod("..", 0o700)
+        os.chdir("../..")

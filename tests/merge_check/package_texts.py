@@ -7,7 +7,7 @@ import shutil
 
 from tests.harness import said_by
 
-COMMANDS = ["keygen", "witness", "sign", "batch", "serve", "verify", "info", "public", "resume", "join", "join-public"]
+COMMANDS = ["keygen", "witness", "sign", "batch", "serve", "verify", "info", "inspect", "public", "resume", "endorse", "join", "join-public"]
 PAGES = {command: f"share/man/man1/lms_tool{'-' * bool(command)}{command}.1.gz" for command in ("", *COMMANDS)}
 COMPLETIONS = {"bash": "share/bash-completion/completions/lms_tool", "zsh": "share/zsh/vendor-completions/_lms_tool"}
 
@@ -44,7 +44,7 @@ def pieces_of(help_text):
 def options_in(help_text):
     """The options that a text of help describes, with the names of their values, if they have one."""
     table = help_text.partition("\nOptions:\n")[2].partition("\n\n")[0]
-    return re.findall(r"(?m)^ +(?:-h, )?(--[\w-]+)(?: <(\w+)>)?", table)
+    return re.findall(r"(?m)^ +(?:-\w, )?(--[\w-]+)(?: <(\w+)>)?", table)
 
 
 def has_manual(package, program):
@@ -64,8 +64,8 @@ def has_manual(package, program):
 
 
 def has_completions(package, program):
-    """By the completions for bash each command has the options of its help, and no others, and each file of an
-    option is completed; those for zsh can be read."""
+    """By the completions for bash the program has its commands and options, each command the options of its help, and
+    no others, and each file of an option is completed; those for zsh can be read."""
     for shell, name in COMPLETIONS.items():
         pathlib.Path(f"completions.{shell}").write_bytes(package.bytes[name])
     ask = 'source completions.bash; COMP_WORDS=(lms_tool "$@"); COMP_CWORD=$#; _lms_tool; printf "%s\\n" "${COMPREPLY[@]}"'
@@ -78,7 +78,8 @@ def has_completions(package, program):
                 found = said_by("bash", "-c", ask, "-", command, *words).split()
                 package.holds(found == ["completions.bash"] * (value == "FILE"), f"bash completes {command} {words} to {found}")
     names = said_by("bash", "-c", ask, "-", "").split()
-    package.holds({*COMMANDS, "help"} <= {*names}, f"bash completes the program to {names}")
+    wanted = [*COMMANDS, "help", *dict(options_in(said_by(program, "--help")))]
+    package.holds(sorted(names) == sorted(wanted), f"bash completes the program to {names}")
     if shutil.which("zsh"):
         said_by("zsh", "-n", "completions.zsh")
 

@@ -16,7 +16,7 @@ from typing import NamedTuple
 from tests.harness import TOP, holds, said_by
 from tests.merge_check.package_texts import COMPLETIONS, PAGES, has_changelog, has_completions, has_manual
 
-VERSION = (TOP / "VERSION").read_text(encoding="utf-8").strip()
+VERSION = re.search(r'VERSION: &str = "(.*)"', (TOP / "crates/lms_cli/src/version.rt").read_text(encoding="utf-8"))[1]
 NAME, DEBIAN = f"lms_tool-{VERSION}-x86_64", f"lms-tool_{VERSION}_amd64.deb"
 ARM_NAME, ARM_DEBIAN = f"lms_tool-{VERSION}-aarch64", f"lms-tool_{VERSION}_arm64.deb"
 # The other Debian packages for an architecture: those of the shared library and of what programs are built with.
@@ -47,6 +47,12 @@ DOCUMENTS |= {f"docs/{name}.md": f"{name}.md" for name in ("PROVED", "PROFILE", 
 BUILT_WITH = [f"examples/{name}" for name in ("release.pub", "firmware.bin", "firmware.sig", "c/verify.c", "c/sha256.h")]
 BUILT_WITH += [*(f"examples/{name}" for name in ("c/two_levels.pub", "c/two_levels.sig", "python/lms.py")), "tests/c/bare.c"]
 EXAMPLES = ["examples/serve/client.py", "examples/serve/lms-queue.service"]
+# The examples of both that keep their folders, each with a document, and what of them may be run.
+LOADERS = [f"examples/cortex-m/{name}" for name in ("application.c", "board.c", "board.h", "board.ld", "image.py", "loader.c")]
+LOADERS += [f"examples/u-boot/{name}" for name in ("add_to", "image.its", "mkimage-lms-sign", "payload.S")]
+LOADERS += [f"examples/u-boot/lib-lms/{name}" for name in ("Kconfig", "Makefile", "lms-image.c", "lms-image.h", "lms-sign.c")]
+FOR_PROGRAMS |= {f"examples/{name}/README.md": f"examples/{name}/README.md" for name in ("cortex-m", "u-boot")}
+SCRIPTS = ["examples/u-boot/add_to", "examples/u-boot/mkimage-lms-sign"]
 # What else documents lead to, where the package has it.
 BESIDE = {"examples/web/index.html": "lms_verify.html", "include/lms.h": "../../../include/lms.h"}
 BESIDE |= {f"portable/{name}": f"../../lms-tool/{name}" for name in ("lms_verify.c", "sha256_x86.c")}
@@ -66,10 +72,10 @@ def copy_sources(folder, outputs):
     """A folder with all that `release` reads, with these files as outputs, and nothing else."""
     for part in ("src", "specs", "proofs"):
         os.makedirs(f"{folder}/crates/lms_c/{part}", exist_ok=True)
-    for name in ("docs", "include", "examples/c", "examples/python", "examples/serve", "packaging", "portable", "runtime"):
+    for name in ("docs", "include", *(f"examples/{it}" for it in ("c", "cortex-m", "python", "serve", "u-boot")), "packaging", "portable", "runtime"):
         shutil.copytree(TOP / name, f"{folder}/{name}", ignore=shutil.ignore_patterns("__pycache__"))
     plain = [it.relative_to(TOP) for it in (TOP / "examples").glob("*.*")]
-    sources = ["release", "VERSION", "README.md", "SECURITY.md", "CHANGELOG.md", "crates.txt", "tests/c/bare.c", *PAGE_SOURCES, *plain]
+    sources = ["release", "README.md", "SECURITY.md", "CHANGELOG.md", "crates.txt", "tests/c/bare.c", *PAGE_SOURCES, *plain]
     for name, file in {**{name: TOP / name for name in sources}, **outputs}.items():
         os.makedirs(os.path.dirname(f"{folder}/{name}"), exist_ok=True)
         shutil.copy2(file, f"{folder}/{name}")
@@ -160,17 +166,18 @@ def files_of(package, top, own):
 
 
 def has_modes(package, top, own):
-    """A package has these files and no other, which only root may write, and all may read. Programs
-    alone may be run."""
+    """A package has these files and no other, which only root may write, and all may read. Programs and
+    scripts alone may be run."""
     files = sorted(name for name, it in package.found.items() if not it.isdir())
     wanted = files_of(package, top, own)
     package.holds(files == wanted, f"its files are {files}, not {wanted}")
+    scripts = [f"{package.kind.docs or DOCS}/{it}" for it in SCRIPTS]
     for name, it in package.found.items():
         package.holds((it.uid, it.gid) == (0, 0), f"{name} has another owner")
         if name in (links := links_of(package.kind)):
             package.holds(it.issym() and it.linkname == links[name], f"{name} leads elsewhere")
             continue
-        mode = 0o755 if it.isdir() or name in {LAUNCHER, *package.kind.programs} else 0o644
+        mode = 0o755 if it.isdir() or name in {LAUNCHER, *package.kind.programs, *scripts} else 0o644
         package.holds(it.isfile() or it.isdir(), f"{name} is neither file nor folder")
         package.holds(it.mode == mode, f"{name} has the mode {it.mode:o}, not {mode:o}")
 
@@ -201,16 +208,17 @@ def libraries_of(kind):
     return {f"{kind.folder}/{name}": output for name, output in found.items()}
 
 
-def led(text, source, places):
-    """A document of the repository as a package has it: each link leads to where that has what it names, and one to
-    another file of the repository is its text."""
+def led(text, source, name, places):
+    """A document of the repository as a package has it, by this name: each link leads to where the package has what
+    it names, and one to another file of the repository is its text."""
+    up = "../" * name.count("/")
 
     def link(found):
         target, _, anchor = found[2].partition("#")
-        name = os.path.normpath(os.path.join(os.path.dirname(source), target))
+        there = places.get(os.path.normpath(os.path.join(os.path.dirname(source), target)))
         if not target or target.startswith("https:"):
             return found[0]
-        return f"[{found[1]}]({places[name]}{'#' * bool(anchor)}{anchor})" if name in places else found[1]
+        return f"[{found[1]}]({up}{there}{'#' * bool(anchor)}{anchor})" if there else found[1]
 
     return re.sub(r"\[([^][\n]*)\]\(([^()\n]*)\)", link, text)
 
@@ -218,7 +226,7 @@ def led(text, source, places):
 def documents_of(kind):
     """The documents and the examples of a package, by their names in the repository."""
     documents = {**(DOCUMENTS if kind.programs else {}), **(FOR_PROGRAMS if kind.programs or kind.docs else {})}
-    return documents, [*EXAMPLES * bool(kind.programs), *BUILT_WITH * bool(kind.programs or kind.docs)]
+    return documents, [*EXAMPLES * bool(kind.programs), *(BUILT_WITH + LOADERS) * bool(kind.programs or kind.docs)]
 
 
 def texts_of(kind, top):
@@ -232,10 +240,11 @@ def texts_of(kind, top):
         for name in ["lms", *["lms_c"] * (kind.processor == "x86-64")]:
             texts[f"{kind.folder}/pkgconfig/{name}.pc"] = flags_of(name, kind.folder, top)
     documents, examples = documents_of(kind)
-    docs, shown = kind.docs or DOCS, {name: f"examples/{os.path.basename(name)}" for name in examples}
+    docs = kind.docs or DOCS
+    shown = {name: name if name in LOADERS else f"examples/{os.path.basename(name)}" for name in examples}
     beside = {name: it for name, it in BESIDE.items() if os.path.normpath(f"{docs}/{it}") in texts}
     for source, name in documents.items():
-        text = led((top / source).read_text(encoding="utf-8"), source, {**documents, **shown, **beside})
+        text = led((top / source).read_text(encoding="utf-8"), source, name, {**documents, **shown, **beside})
         texts[f"{docs}/{name}"] = text.encode()
     return texts | {f"{docs}/{name}": (top / source).read_bytes() for source, name in shown.items()}
 
@@ -255,7 +264,7 @@ def has_links(package):
         text = package.bytes[f"{docs}/{name}"].decode()
         for target in re.findall(r"\]\(([^()\s]*)\)", text):
             file, _, anchor = target.partition("#")
-            below = os.path.normpath(f"{docs}/{file or name}")
+            below = os.path.normpath(f"{docs}/{os.path.dirname(name)}/{file}" if file else f"{docs}/{name}")
             package.holds(target.startswith("https:") or below in package.found, f"{name} has a link to {target}, which is not there")
             if anchor:
                 package.holds(anchor in anchors_in(package.bytes[below].decode()), f"{below} has no heading {anchor}, as {name} says")

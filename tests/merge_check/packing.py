@@ -13,7 +13,7 @@ from tests.merge_check.launched import becomes_the_program, starts_by
 from tests.merge_check.package_texts import COMPLETIONS
 from tests.merge_check.packages import (
     ARM, ARM_DEBIAN, ARM_NAME, ARM_OUTPUTS, COMMON, DEBIAN, FAST, LIBRARY, NAME, OUTPUTS, PAGE, PAGE_SOURCES, SECONDS,
-    SHARED, SHARED_OUTPUTS, SHARED_SOURCES, are_right, copy_sources, pack_twice,
+    SHARED, SHARED_OUTPUTS, SHARED_SOURCES, VERSION, are_right, copy_sources, pack_twice,
 )
 from tests.merge_check.shells import SHELLS, completes
 
@@ -21,7 +21,7 @@ SOURCES = ["crates/lms_c/src/file", "crates/lms_c/specs/file", "crates/lms_c/pro
 # The folders of which packages are made, or what is in them.
 FOLDERS = [
     "crates", "crates/lms_c", "crates/lms_c/src", "crates/lms_c/src/out", "crates/lms_c/specs", "crates/lms_c/proofs",
-    "docs", "examples", "examples/c", "examples/python", "examples/serve", "examples/web", "include", "packaging", "portable", "runtime",
+    "docs", "examples", "examples/c", "examples/cortex-m", "examples/python", "examples/serve", "examples/u-boot", "examples/web", "include", "packaging", "portable", "runtime",
     "runtime/aarch64", "runtime/shared", "tests/c",
 ]
 # Files of which no package is made: notes, what was built, and what tests of crates leave.
@@ -37,7 +37,7 @@ COMPILER, NO_COMPILER = {"CC_AARCH64": "sh --of-mine"}, {"CC_AARCH64": "no-compi
 AUTHOR = "Some One <some-one@debian.org>"
 WHO = [word for key, text in zip(("name", "email"), AUTHOR[:-1].split(" <")) for word in ("-c", f"user.{key}={text}")]
 # Files of the commit by which packages are made.
-OWN = ["VERSION", "README.md", "SECURITY.md", "CHANGELOG.md", "packaging/manual.awk", "crates.txt", "lms_c", "lms_tool", "release", "docs/C.md", "include/lms.h"]
+OWN = ["README.md", "SECURITY.md", "CHANGELOG.md", "packaging/manual.awk", "crates.txt", "lms_c", "lms_tool", "release", "docs/C.md", "include/lms.h"]
 # What stands in for `./lms_tool`, `./lms_c` and `examples/web/build`: each notes what it is asked,
 # and makes its outputs of those in ../made. The file `fails` names one that can't.
 MAKER = """\
@@ -67,7 +67,7 @@ def make_outputs():
         holds(False, "the stand-ins need a C compiler, and there is no cc here")
     os.mkdir("made")
     for name in ("common", "fast", "arm"):
-        said_by("cc", "-O1", f'-DNAME="{name}"', TOP / "tests/c/packed.c", "-o", f"made/{name}")
+        said_by("cc", "-O1", f'-DNAME="{name}"', f'-DVERSION="{VERSION}"', TOP / "tests/c/packed.c", "-o", f"made/{name}")
         os.chmod(f"made/{name}", 0o700)
     pathlib.Path("made/library").write_bytes(bytes(range(256)) * 40)
     for output in [*SHARED_OUTPUTS, *ARM_OUTPUTS[1:]]:

@@ -105,6 +105,6 @@ BOARDS = [
     ),
     Board(
         "ARM code", ["arm-none-eabi-gcc", "-march=armv7-a", "-marm", "-mfloat-abi=soft", "-mno-unaligned-access"],
-        ["gcc-arm-none-eabi", "qemu-system-arm"], ["qemu-system-arm", "-M", "virt"], (0x40200000, 4 * MIB), (0x40600000, 4 * MIB),
+        ["gcc-arm-none-eabi", "qemu-system-arm"], ["qemu-system-arm", "-M", "virt", "-nic", "none"], (0x40200000, 4 * MIB), (0x40600000, 4 * MIB),
     ),
 ]

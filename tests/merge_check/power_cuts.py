@@ -1,5 +1,5 @@
-"""Power is lost after each operation of `keygen`, `sign`, `batch`, `serve`, `public`, `join-public`, `witness`
-and `resume` on files, by a model of a weak file system, and the program goes on.
+"""Power is lost after each operation of `keygen`, `sign`, `endorse`, `batch`, `serve`, `public`, `join-public`,
+`witness` and `resume` on files, by a model of a weak file system, and the program goes on.
 
 `record.c`, which is loaded before the program, records what it does to files, folders and streams.
 After each operation that changes something, every state of the files is made that a loss of power
@@ -20,8 +20,9 @@ may leave then (`weak_disk.py`):
 The state's file must be old and whole, or absent before a `keygen` stored it, or new and whole; and
 new once a byte of a public key, of a signature or of standard output was written. A `serve` stores
 one for each group: it must be that of a group, or a newer one, once a byte of the group's answers
-was written. Once `keygen` or `public` has printed its line, or `join-public` has ended, its public
-key must be whole, also in another folder, to which a link may lead; it may be absent or cut before.
+was written. A signature or a public key must be whole, or as it was: absent, or an older one. Once
+`keygen` or `public` has printed its line, or `join-public` has ended, its public key must be whole,
+also in another folder, to which a link may lead.
 From some of the states the program goes on, as if what is left were flushed: `info` prints what the
 state says, or `keygen` makes it where it is absent, and `sign` gives its next index, which was not
 given before, with the right signature. In this `keygen` and this `sign` power is lost again, after
@@ -39,8 +40,8 @@ that differ in the state's file or those beside it. A failure prints up to 20 fa
 
 The last three tests see that faults are found of each run by a model in which flushes of files do
 nothing, and by one in which those of folders do nothing, and that the program does not go on well
-from there, where the run stores a state; and of each run that writes a public key by a model in
-which the flush of that file alone does nothing. With `--ignore files` or `--ignore folders` the
+from there, where the run stores a state; and of each run that gives a file away by a model in which
+the flush of its draft alone does nothing. With `--ignore files` or `--ignore folders` the
 other tests use such a model, and fail.
 
 It does not show what a file system does, nor whether a flush is one, since no machine loses power.
@@ -73,7 +74,7 @@ def asked():
 
 KEYS_TO_JOIN = dict(zip(TO_JOIN[::2], PARTS[::2]))
 PUBLISHED = [("public", "again.pub"), ("join-public", "joined.pub")]
-PLAIN = Key("5/8", ONE, ["keygen", "sign", "sign", 3, [2, 1], *PUBLISHED], files=KEYS_TO_JOIN)
+PLAIN = Key("5/8", ONE, ["keygen", "sign", "sign", "endorse", 3, [2, 1], *PUBLISHED], files=KEYS_TO_JOIN)
 # (Indices 31 and 32 go through two trees.)
 APART = Key(
     "5/4,5/4 in another folder", TWO, ["keygen", "sign", "sign", 29, "sign", "sign", 2, [1, 1, 1]], "keys/key.state",
@@ -86,7 +87,7 @@ CRASHED = Key("5/4,5/4 by a link", TWO, ["sign", "sign", 2, [2, 1]], "keys/state
 })
 CRASHED.numbers[OLD] = 31, 0
 WATCHED = Key(
-    "5/4 beside a witness", ((5, 4),), ["keygen", "witness", "sign", "sign", 3, [2, 1], "resume", "sign"],
+    "5/4 beside a witness", ((5, 4),), ["keygen", "witness", "sign", "sign", "endorse", 3, [2, 1], "resume", "sign"],
     files={"key.link": Link(f"{ELSEWHERE}key.pub".encode())}, place=PLACE, public_key="key.link",
 )
 
@@ -201,10 +202,10 @@ def finds(ignored, word):
                 is_refused(key, *first)
 
 
-def finds_public_keys():
-    """A fault is found of each run that writes a public key where that file alone is not flushed."""
-    for made in (made for key in KEYS.values() for made in key.runs() if made.public_key):
-        first_found(made, made.public_key[0], "torn")
+def finds_given():
+    """A fault is found of each run that gives a file away where its draft alone is not flushed."""
+    for made in (made for key in KEYS.values() for made in key.runs() if made.given):
+        first_found(made, f"{made.given[0]}.draft0", "torn")
 
 
 def is_refused(key, left, least, where):
@@ -244,4 +245,4 @@ add_test("puts back one of two disks", puts_back, WATCHED)
 if not asked().ignore:
     add_test("finds flushes of files that do nothing", finds, "files", "torn")
     add_test("finds flushes of folders that do nothing", finds, "folders", "older")
-    add_test("finds a flush of a public key alone that does nothing", finds_public_keys)
+    add_test("finds a flush of what is given away alone that does nothing", finds_given)

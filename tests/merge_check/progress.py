@@ -140,13 +140,13 @@ def announces_each_level():
 @test
 def wipes_before_a_fault():
     """Where no public key and no signature can be written, and where the state can't."""
-    fault = f"{WIPED}error: cannot write output\n"
-    shows(keygen("5/1", public="none/key.pub"), 6, counts(32) + fault)
+    fault, reason = f"{counts(32)}{WIPED}error: cannot write", "No such file or directory"
+    shows(keygen("5/1", public="none/key.pub"), 6, f"{fault} output\nnote: none/key.pub: {reason}\n")
     begins_at(ONE, 0)
-    shows(sign(out="none/text.sig"), 6, counts(32) + fault)
+    shows(sign(out="none/text.sig"), 6, f"{fault} output\nnote: none/text.sig: {reason}; index 0 is used\n")
     os.remove("key.state")
     os.mkdir("key.state.new")
-    shows(keygen("5/1"), 3, f"{counts(32)}{WIPED}error: cannot write state\n")
+    shows(keygen("5/1"), 3, f"{fault} state\nnote: info tells whether the key is stored; none of its indices is used\n")
 
 
 @test

@@ -11,7 +11,7 @@ from tests.harness import holds
 from tests.merge_check.service import messages_of_groups
 from tests.merge_check.weak_disk import Disk, fault_of, found_in, lay, operations, printed, witness_in
 from tests.program import (
-    ends, fails, has, job_lines, join_public, keygen, preload, public, put, read, resume, run, sign, without_counts, witness,
+    endorse, endorsed_lines, ends, fails, has, job_lines, join_public, keygen, preload, public, put, read, resume, run, sign, without_counts, witness,
 )
 from tests.reference import image, joined, parts_to_join, public_of, signature_of, witness_of
 from tests.seeds import tells
@@ -19,6 +19,8 @@ from tests.seeds import tells
 # What the public keys are of that are joined.
 PARTS = parts_to_join(((5, 1),), ((5, 1),))
 MESSAGE = b"abc"
+# A signer's key that a key endorses, by its name in each folder.
+SIGNER, SIGNER_NAME = public_of(((5, 1),), identifier=b"\x66" * 16), "endorsed.pub"
 # Another folder, for public keys.
 ELSEWHERE = "public/"
 # How many faults of a run are told.
@@ -34,13 +36,14 @@ def given_name(folder, name):
 class Run:
     """A recorded run of the program: the files that it found and what it did; the state before it,
     if there was one, and each one that it stores; the index that is next by each of these; and the name and
-    the bytes of the public key that it writes, if it does. Of a run that stores several the answers to what
-    is stored first are the first of what it prints, up to one of the `ends`, and so on. Where the key has a
-    witness, that says these numbers with these states, or None where there is none yet."""
+    the bytes of the file that it gives away, if it does, which a loss of power after its end leaves where it
+    is a public key. Of a run that stores several the answers to what is stored first are the first of what it
+    prints, up to one of the `ends`, and so on. Where the key has a witness, that says these numbers with these
+    states, or None where there is none yet."""
 
-    def __init__(self, key, name, states, indices, public_key=None, ends_of_answers=(), says=None):
+    def __init__(self, key, name, states, indices, public_key=None, signature=None, ends_of_answers=(), says=None):
         self.key, self.name, self.states, self.indices, self.ends = key, name, states, indices, ends_of_answers
-        self.public_key = public_key
+        self.given, self.is_kept = public_key or signature, public_key is not None
         self.witnesses = [None if it is None else witness_of(it) for it in says or [None] * len(states)]
 
     def record(self, folder, arguments, jobs=b""):
@@ -95,8 +98,8 @@ class Run:
             for left, lost in disk.losses() if moment else ():
                 fault = fault_of(left.get(self.key.state, (0, None))[1], self.states, self.least(disk))
                 fault = fault or self.witness_fault(left, self.least(disk))
-                if self.public_key and (disk.printed or number == len(self.done)):
-                    fault = fault or self.public_fault(left)
+                if self.given:
+                    fault = fault or self.given_fault(left, self.is_kept and (disk.printed or number == len(self.done)))
                 yield left, self.indices[self.least(disk)], fault, lambda: f"{self.key.name}, after {moment}; lost: {disk.said(lost)}"
 
     def witness_fault(self, left, least):
@@ -108,13 +111,14 @@ class Run:
             return "older", "a state that is older than its witness"
         return fault
 
-    def public_fault(self, left):
-        """What is wrong with the public key, if anything, once this run has printed or ended."""
-        name, contents = self.public_key
-        found = left.get(name, (0, None))[1]
-        if found == contents:
+    def given_fault(self, left, is_due):
+        """What is wrong with the file that it gives away, if anything: it is whole, or as it was where it is not due
+        yet."""
+        name, contents = self.given
+        found, older = left.get(name, (0, None))[1], self.found.get(name, (0, None))[1]
+        if found == contents or found == older and not is_due:
             return None
-        return ("older", "no public key") if found is None else ("torn", f"{len(found)} bytes that are not the public key")
+        return ("older", f"{name} as it was") if found == older else ("torn", f"{len(found or b'')} bytes that are not {name}")
 
     def faults(self):
         """Lines on the first faults that are found, where all was flushed before this run."""
@@ -131,7 +135,7 @@ class Key:
 
     def __init__(self, name, levels, steps, state="key.state", option=None, files=None, place=None, public_key="key.pub"):
         self.name, self.levels, self.steps, self.state, self.option = name, levels, steps, state, option or state
-        self.files, self.place, self.public_key = {"text": MESSAGE, **(files or {})}, place, public_key
+        self.files, self.place, self.public_key = {"text": MESSAGE, SIGNER_NAME: SIGNER, **(files or {})}, place, public_key
         # The counter and the openings of each state image.
         self.numbers = {}
 
@@ -195,12 +199,24 @@ class Key:
 
     def signs(self, folder, before):
         """Runs `sign` on a state."""
+        counter, _ = self.numbers[before]
+        return self.uses_an_index(folder, before, sign(state=self.option), MESSAGE, f"index {counter}\n")
+
+    def endorses(self, folder, before):
+        """Runs `endorse` on a state."""
+        counter, _ = self.numbers[before]
+        words = endorse(len(self.levels) + 1, SIGNER_NAME, state=self.option)
+        return self.uses_an_index(folder, before, words, SIGNER[4:], endorsed_lines(counter, SIGNER))
+
+    def uses_an_index(self, folder, before, words, message, lines):
+        """Runs what signs a message by one index of a state, writes the signature by its last argument, and prints
+        these lines."""
         counter, openings = self.numbers[before]
-        indices = [counter, counter + 1]
-        says = self.watched(folder, indices)
-        made = Run(self, f"sign {counter}", [before, self.image(counter + 1, openings + 1)], indices, says=says)
-        holds(made.record(folder, sign(state=self.option)) == b"index %d\n" % counter, f"sign {counter} printed something else")
-        has(f"{folder}/text.sig", signature_of(self.levels, counter, MESSAGE))
+        name, indices, given = f"{words[0]} {counter}", [counter, counter + 1], (words[-1], signature_of(self.levels, counter, message))
+        states, says = [before, self.image(counter + 1, openings + 1)], self.watched(folder, indices)
+        made = Run(self, name, states, indices, signature=given, says=says)
+        holds(made.record(folder, words) == lines.encode(), f"{name} printed something else")
+        has(f"{folder}/{given[0]}", given[1])
         return made
 
     def answers(self, folder, before, command, counts):
@@ -250,6 +266,8 @@ class Key:
                 made.append(self.resumes(folder, made[0].states[-1]))
             elif step == "sign":
                 made.append(self.signs(folder, before))
+            elif step == "endorse":
+                made.append(self.endorses(folder, before))
             else:
                 made.append(self.answers(folder, before, *(("serve", step) if isinstance(step, list) else ("batch", [step]))))
             before = made[-1].states[-1]

@@ -1,11 +1,11 @@
 """The program with each of its requests for memory refused in turn, until a run meets no refusal.
 
 It ends well, or with a fault that says what became of the state, as the state then shows. A public
-key or joined signature that it writes is whole then; after a fault it is whole or absent. A next
+key, endorsement or joined signature that it writes is whole then; after a fault it is whole or absent. A next
 `sign` does well, and no index is given twice. `refuse.c` refuses the request. `machine.c` gives the
 program one processor, so that its requests are the same in each run, and a clock by which it tells of
-all leaves that it has computed: so it is seen how many are computed when a request is refused. `sign`
-asks for all memory before it computes a leaf, and again where kept nodes turn out to be wrong; `keygen`
+all leaves that it has computed: so it is seen how many are computed when a request is refused. `sign` and
+`endorse` ask for all memory before they compute a leaf, and again where kept nodes turn out to be wrong; `keygen`
 asks for that of its state and tree before, and `batch` and `serve` for all of a tree before its leaves. A
 `serve` has answered all groups but the one that it is refused memory for. A witness says what the state does,
 but where an index is burnt that signs nothing."""
@@ -22,14 +22,16 @@ from tests.merge_check.made_up_trees import MadeUpTree
 from tests.merge_check.service import WINDOW, messages_of_groups
 from tests.merge_check.wrong_nodes import misfitting
 from tests.program import (
-    BATCH, INFO, NODES, SERVE, TO_JOIN, WITNESS, index_in, job_lines, join, join_public, keygen, preload, public, put, resume, run, sign, verify,
-    witness,
+    BATCH, INFO, NODES, SERVE, TO_JOIN, WITNESS, endorse, index_in, inspect, job_lines, join, join_public, keygen, preload, public, put, resume, run, sign,
+    verify, witness,
 )
 from tests.reference import (
     IDENTIFIER, SEED, SUBTREE, checked, image, joined, kept, kept_parts, number, parts_to_join, public_of, signature_of, witness_of,
 )
 
 ONE, TWO, TALL = ((5, 1),), ((5, 1),) * 2, ((15, 1), *((5, 1),) * 4)
+# A signer's key.
+SIGNER = public_of(ONE, identifier=b"\x66" * 16)
 # A key of which the second level's trees are as large as what a `serve` keeps.
 WIDE = ((5, 1), (10, 1))
 # The last index of a tree of height 5, and the first one of the second bottom subtree of TALL's top tree.
@@ -62,6 +64,11 @@ def with_another_root():
 def with_signature():
     """And a signature."""
     return {**key_of(TWO), "old.sig": signature_of(TWO, 0, b"abc")}
+
+
+def with_signer():
+    """And a signer's key."""
+    return {**key_of(TWO), "signer.pub": SIGNER}
 
 
 def with_witness():
@@ -233,9 +240,11 @@ def refuses_each(command):
 
 
 COMMANDS = {
-    "keygen": Command(keygen("5/1,5/1", public="new.pub"), TWO, {32: 1}, index=None, uses=0, makes=("new.pub", lambda: public_of(TWO))),
-    "public": Command(public(name="again.pub"), TWO, {32: 1}, uses=0, makes=("again.pub", lambda: public_of(TWO))),
+    "keygen": Command(keygen("5/1,5/1", public="new.pub"), TWO, {}, index=None, uses=0, makes=("new.pub", lambda: public_of(TWO))),
+    "public": Command(public(name="again.pub"), TWO, {}, uses=0, makes=("again.pub", lambda: public_of(TWO))),
     "info": Command(INFO, TWO, {}, uses=0),
+    "inspect": Command(inspect(), TWO, {}, uses=0, files=with_witness),
+    "inspect of a signature": Command(inspect("old.sig"), TWO, {}, uses=0, files=with_signature),
     "verify": Command(verify(signature="old.sig"), TWO, {}, uses=0, files=with_signature),
     "join": Command(join(), TWO, {}, uses=0, files=with_parts, makes=("joined.sig", lambda: joined_parts()[1])),
     "join-public": Command(join_public(), TWO, {}, uses=0, files=with_parts, makes=("joined.pub", lambda: joined_parts()[0])),
@@ -243,6 +252,7 @@ COMMANDS = {
     "sign by one tree": Command(sign(), ONE, {}, index=LAST - 1, burns=True),
     "sign by kept trees": Command(sign(), TWO, {}, files=with_nodes, burns=True),
     "sign beside a witness": Command(sign(), TWO, {}, files=with_witness, says=LAST),
+    "endorse": Command(endorse(len(TWO) + 1, out="text.sig"), TWO, {}, files=with_signer, makes=("text.sig", lambda: signature_of(TWO, LAST, SIGNER[4:]))),
     "batch beside a witness": Command([*BATCH[:-1], "1"], TWO, {32: 4, 64: 3, 96: 5}, uses=JOBS, lines=job_lines(*[b"abc"] * JOBS), files=with_witness, says=LAST),
     "serve beside a witness": Command(SERVE_BY_ONE, ONE, {32}, index=LAST - 2, uses=JOBS, lines=job_lines(*messages_of_groups(*[1] * JOBS)), files=with_lower_witness, says=LAST - 2),
     "witness": Command(witness(LAST, "new.witness"), TWO, {}, uses=0, makes=("new.witness", lambda: witness_of(LAST))),

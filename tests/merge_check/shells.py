@@ -30,7 +30,7 @@ def read_until(terminal, wanted):
 
 def completes(shell, folder, file):
     """Typed with the key Tab, the beginnings of a command, an option and a file become whole, by either name of the
-    program."""
+    program, and so does that of an option of the program itself."""
     if not shutil.which(shell):
         raise Skipped(f"there is no {shell}")
     open("one.state", "wb").close()
@@ -43,8 +43,9 @@ def completes(shell, folder, file):
             os.write(here, f"{first.format(folder=folder, file=file)}; {SAYS.format()}\n".encode())
             read_until(here, "\nready")
             for name in ("lms_tool", "lms-tool"):
-                os.write(here, f"{name} resu\t--sta\ton\t\n".encode())
-                read_until(here, wanted)
+                for line, given in (("resu\t--sta\ton\t", wanted), ("--ver\t", "<--version>")):
+                    os.write(here, f"{name} {line}\n".encode())
+                    read_until(here, given)
         finally:
             running.kill()
             os.close(here)

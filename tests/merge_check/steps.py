@@ -6,10 +6,10 @@ import os
 
 from tests.harness import holds
 from tests.program import (
-    DRAFT, INFO, NODES, PLACE, SERVE, TO_JOIN, WITNESS, ends, job_lines, join, join_public, keygen, preload, public, put, read, resume, run,
-    sign, signs, witness,
+    DRAFT, INFO, NODES, PLACE, SERVE, TO_JOIN, WITNESS, endorse, endorsed_lines, ends, inspect, job_lines, join, join_public, keygen, preload,
+    public, put, read, resume, run, sign, signs, witness,
 )
-from tests.reference import image, joined, kept, parts_to_join, public_of, signature_of, witness_of
+from tests.reference import IDENTIFIER, image, joined, kept, parts_to_join, public_of, signature_of, witness_of
 
 LEVELS = ((5, 1),)
 STATE = "key.state"
@@ -21,18 +21,23 @@ IN_USE, NOT_READ, NOT_WRITTEN, NO_MEMORY = (3, "state in use"), (6, "cannot read
 class Part:
     """Operations that follow one another. Where one fails the program ends with a fault, which is
     another one at the places in `memory` where memory is refused; or it does without the part,
-    where that has no fault. At the places in `cleaned` it removes its draft then. It does without the
-    rest of the part where what it flushes at the place `special` is nothing that can be flushed. Where
-    the program has a draft of a witness by then, it removes that, too. At some places it does other
-    operations `again` before that."""
+    where that has no fault. At the places in `cleaned` it removes its draft then. Where the program has a
+    draft of a witness by then, it removes that, too. At some places it does other operations `again`
+    before that."""
 
-    def __init__(self, steps, fault=None, memory=(), draft=None, cleaned=(), special=None, has_next=False, again=None):
+    def __init__(self, steps, fault=None, memory=(), draft=None, cleaned=(), has_next=False, again=None):
         self.steps, self.fault, self.memory, self.draft, self.cleaned = steps, fault, memory, draft, cleaned
-        self.special, self.has_next, self.again = special, has_next, again or {}
+        self.has_next, self.again = has_next, again or {}
 
     def beside_a_witness(self):
         """The same, once there is a draft of a witness."""
-        return Part(self.steps, self.fault, self.memory, self.draft, self.cleaned, self.special, True)
+        return Part(self.steps, self.fault, self.memory, self.draft, self.cleaned, True)
+
+    def instead(self, place, number):
+        """The operations of this part that follow where the one at a place fails with the error of this number,
+        and the part is done all the same; None where it is not."""
+        del place, number
+        return None
 
     def after(self, place):
         """The operations with which it ends where the one at a place fails."""
@@ -41,15 +46,73 @@ class Part:
 
     def fault_at(self, place, number):
         """The fault where the operation at a place fails with the error of this number, or None."""
-        if number == errno.EINVAL and place == self.special:
+        if self.instead(place, number) is not None:
             return None
         return NO_MEMORY if number == errno.ENOMEM and place in self.memory else self.fault
 
 
-def given(name, folder="."):
-    """The operations by which a file that is given away is written, flushed, and the folder that it is in
-    flushed."""
-    return [f"empty {name}", f"write {name}", f"flush {name}", f"resolve {name}", f"open {folder}", f"flush {folder}"]
+class Planned(Part):
+    """It is found where a file is that is to be written, by way of these operations on links: where that
+    can't be found the file is written in place."""
+
+    def __init__(self, name, folder=".", links=()):
+        steps = [*links, f"resolve {folder}", f"follow {name}"]
+        super().__init__(steps, memory=range(len(steps)))
+
+    def is_lost(self, place):
+        """Whether it isn't known where the file is where the operation at a place fails."""
+        return self.steps[place].startswith("resolve ")
+
+
+class Given(Part):
+    """A file that is given away is written by a draft: one of this name, at that place in that folder, which is
+    flushed or not, over none or over an older one, whose owner and mode it then gets."""
+
+    def __init__(self, name, place=None, folder=".", older=False, flushed=False):
+        self.name, self.place, self.folder, self.flushed, self.like = name, place or name, folder, flushed, older
+        before = [*[f"open {folder}"] * flushed, f"look up {self.place}", *[f"open {self.place}"] * older]
+        steps = [*before, *self.by_draft(0)]
+        memory = range(len(steps)) if flushed else ()
+        placed = len(steps) - len(self.end())
+        super().__init__(steps, NOT_WRITTEN, memory, f"{self.place}.draft0", range(len(before) + 1, placed))
+
+    def looks(self, place):
+        """The operations by which it is seen that what is at a place may be written, and that the name leads there."""
+        return [f"look up {place}", *[f"open {place}", f"read {place}"] * self.like, *self.leads(place)]
+
+    def leads(self, place):
+        """Those by which it is seen that the name leads to a place."""
+        return [f"look up {place}", f"look up {self.name}"]
+
+    def end(self):
+        """The operations once the file has its bytes."""
+        return [*self.leads(self.place), *[f"flush {self.folder}"] * self.flushed]
+
+    def by_draft(self, number):
+        """The operations by which the draft of this number takes its place."""
+        draft = f"{self.place}.draft{number}"
+        like = [f"look up {draft}", f"permit {draft}"] if self.like else []
+        return [f"make {draft}", *like, f"write {draft}", f"flush {draft}", *self.looks(self.place), f"rename {draft} to {self.place}", *self.end()]
+
+    def in_place(self, place):
+        """The operations by which what is at a place is written there."""
+        return [*self.looks(place), f"empty {place}", f"write {place}", f"flush {place}"]
+
+    def instead(self, place, number):
+        """Where no draft can be made, or none may take the older file's place or have its rights, the file is written in
+        place, as where something is mounted there; the next draft is tried where there is one of this name; and what
+        can't be flushed is only written."""
+        what = self.steps[place].split(" ")[0]
+        is_draft = self.steps[place].endswith(self.draft)
+        if what == "make" and number == errno.EEXIST:
+            return self.by_draft(1)
+        if what == "make" and number in (errno.EPERM, errno.EACCES, errno.EROFS):
+            return [*self.in_place(self.place), *self.end()]
+        if is_draft and what in ("look", "permit") or what == "rename" and number in (errno.EBUSY, errno.EPERM, errno.EACCES):
+            return [f"remove {self.draft}", *self.in_place(self.place), *self.end()]
+        if is_draft and what == "flush" and number == errno.EINVAL:
+            return self.steps[place + 1 :]
+        return None
 
 
 def taken(name, length=0):
@@ -78,17 +141,21 @@ def filled(name):
 
 STREAMS = Part(["open /dev/null"], NOT_READ)
 MESSAGE = Part(taken("text"), NOT_READ, range(4))
-LOCKED = Part([f"resolve {STATE}", *LOCK], IN_USE, (0, 1))
-LOCKED_FIRST = Part([f"resolve {STATE}", f"look up {STATE}", *LOCK], IN_USE, (0, 2))
+# (A note names the lock by where a link to the state leads.)
+IS_LINK = [f"look up {STATE}"]
+LOCKED = Part([f"resolve {STATE}", *LOCK], IN_USE, range(3), again=dict.fromkeys(range(3), IS_LINK))
+LOCKED_FIRST = Part([f"resolve {STATE}", f"look up {STATE}", *LOCK], IN_USE, (0, 2, 3), again=dict.fromkeys(range(4), IS_LINK))
 NONE_THERE = Part([f"look up {STATE}"], (3, "state exists"))
 NO_NODES = Part([f"look up {NODES}"])
 NODES_READ = Part([f"look up {NODES}", f"open {NODES}", f"read {NODES}", f"read {NODES}"])
 NO_WITNESS = Part([f"look up {WITNESS}"], (3, "cannot read witness"), again={0: [f"look up {WITNESS}"]})
 STATE_READ = Part([f"open {STATE}", f"read {STATE}", f"read {STATE}"], (3, "cannot read state"), range(3))
+# What `inspect` reads of a state, whose lock it does not take.
+STATE_TAKEN, FOUND = Part(taken(STATE), NOT_READ, range(4)), Part([f"resolve {STATE}"], (3, "cannot read witness"), range(1))
 STORED = Part(STORE, (3, f"cannot write state: {INDEX} to {INDEX} burnt"), draft=NEW, cleaned=range(3, PLACED))
 STORED_FIRST = Part(STORE, (3, "cannot write state"), draft=NEW, cleaned=range(3, PLACED))
 NODES_KEPT = Part(replaced(NODES, DRAFT), draft=DRAFT, cleaned=range(2, 5))
-SIGNATURE = Part(["look up text.sig", "empty text.sig", "write text.sig"], NOT_WRITTEN)
+SIGNATURE_AT, SIGNATURE = Planned("text.sig"), Given("text.sig")
 # (Where nobody knows whether there is a witness, it is asked for.)
 WITNESS_SEEN = Part([f"look up {WITNESS}"])
 WITNESS_READ = Part([f"look up {WITNESS}", f"open {WITNESS}", *[f"read {WITNESS}"] * 2], (3, "cannot read witness"), range(4))
@@ -106,9 +173,12 @@ MAKE += [f"open {FOLDER}", f"flush {FOLDER}", f"look up {WITNESS}", f"link {WITN
 # (Where it is not known whether something has a name, it is taken to be there, and asked where that leads.)
 ASKED = {9: [f"resolve {WITNESS}", f"look up {WITNESS}"]}
 MADE = Part(MAKE, (3, "cannot write witness"), [1, 2, 3, 4, 5, 7, 8, 10, 11], PLACE, range(3, len(MAKE) - 1), again=ASKED)
-PUBLIC_KEY = Part(["look up key.pub", *given("key.pub")], NOT_WRITTEN, range(7), special=3)
-PUBLIC_KEY_AGAIN = Part(["look up key.pub", "open key.pub", "read key.pub", *given("key.pub")], NOT_WRITTEN, range(9), special=5)
+PUBLIC_KEY_AT = Planned("key.pub")
+PUBLIC_KEY, PUBLIC_KEY_AGAIN = Given("key.pub", flushed=True), Given("key.pub", older=True, flushed=True)
 PRINTED = Part(["write standard output"], NOT_WRITTEN)
+SIGNER = public_of(LEVELS, identifier=b"\x66" * 16)
+SIGNER_READ = Part(taken("signer.pub"), NOT_READ, range(4))
+ENDORSED = Part(["write standard output"] * 2, NOT_WRITTEN)
 DESCRIBED = Part(["write standard output"] * 6, NOT_WRITTEN)
 MADE_PRINTED = Part(["write standard output"] * 3, NOT_WRITTEN)
 LINES_READ = Part(["read standard input"], NOT_READ)
@@ -119,8 +189,9 @@ ANSWERED = Part(["write standard output"] * len(ANSWER), NOT_WRITTEN)
 PARTS = dict(zip(TO_JOIN, parts_to_join(LEVELS, LEVELS)))
 JOINED_KEY, JOINED = joined(*PARTS.values())
 READ_TO_JOIN = [Part(taken(name, len(part)), NOT_READ, range(5)) for name, part in PARTS.items()]
-JOINED_FILE = Part(["look up joined.sig", "empty joined.sig", "write joined.sig"], NOT_WRITTEN, range(3))
-JOINED_KEY_FILE = Part(["look up joined.pub", *given("joined.pub")], NOT_WRITTEN, range(7), special=3)
+JOINED_AT, JOINED_FILE = Planned("joined.sig"), Given("joined.sig")
+JOINED_FILE.memory = range(len(JOINED_FILE.steps))
+JOINED_KEY_AT, JOINED_KEY_FILE = Planned("joined.pub"), Given("joined.pub", flushed=True)
 
 
 def steps_in(parts):
@@ -191,15 +262,25 @@ class Command:
         said = f"{self.arguments[0]}, {settings}: {ran.returncode} {ran.stdout!r} {ran.stderr!r}, by the operations {found}, not {steps}"
         holds((ran.returncode, ran.stdout, ran.stderr, found) == (status, output, errors, steps), said)
 
-    def after(self, at, place, fault):
-        """The operations that follow where the one at a place of a part fails, with this fault or with none."""
+    def rest(self, at, in_place):
+        """The operations of the parts after one, where the file that is given away is written in place or not."""
+        lost = lambda part: isinstance(part, Given) and in_place
+        return [step for part in self.parts[at + 1 :] for step in ([*part.in_place(part.name), *part.leads(part.name)] if lost(part) else part.steps)]
+
+    def after(self, at, place, number, fault):
+        """The operations that follow where the one at a place of a part fails with the error of this number, with
+        this fault or with none."""
         part = self.parts[at]
         cleaned = part.after(place)
         if fault:
             return [*cleaned, "write standard error"]
+        if isinstance(part, Planned):
+            return [*part.steps[place + 1 :] * (not part.is_lost(place)), *self.rest(at, part.is_lost(place))]
         if part is NODES_READ:
             return steps_in(BY_TREES[BY_TREES.index(NO_WITNESS) :])
         rest = steps_in(self.parts[at + 1 :])
+        if part.instead(place, number) is not None:
+            return [*part.instead(place, number), *rest]
         if part is DISCARDED and LOOKED_AT in rest:
             # (The draft that is left is no state image, and so it is replaced.)
             rest[rest.index(LOOKED_AT) + 1 : rest.index(LOOKED_AT) + 1] = [f"open {NEXT}", f"read {NEXT}"]
@@ -211,7 +292,7 @@ class Command:
         done = steps_in(self.parts[:at]) + self.parts[at].steps[: place + 1]
         self.begin()
         fault = self.parts[at].fault_at(place, number)
-        self.ends(done + self.after(at, place, fault), fault, FAIL=len(done), LAST=len(done), FAULT=number)
+        self.ends(done + self.after(at, place, number, fault), fault, FAIL=len(done), LAST=len(done), FAULT=number)
         return done[-1], fault
 
     def fails_at(self, at, place, number):
@@ -254,16 +335,21 @@ class Command:
             holds(not os.path.exists(draft), f"the draft {draft} is left")
 
 
-BY_TREES = [STREAMS, MESSAGE, LOCKED, NO_NODES, NO_WITNESS, STATE_READ, STORED, NODES_KEPT, SIGNATURE, PRINTED]
-BY_NODES = [STREAMS, MESSAGE, LOCKED, NODES_READ, NO_WITNESS, STATE_READ, STORED, SIGNATURE, PRINTED]
-FIRST = [STREAMS, LOCKED_FIRST, NONE_THERE, NO_WITNESS, STORED_FIRST, NODES_KEPT, PUBLIC_KEY, PRINTED]
-BESIDE_A_WITNESS = [STREAMS, MESSAGE, LOCKED, NO_NODES, *OPENED, STORED.beside_a_witness(), PLACED_NEXT, NODES_KEPT, SIGNATURE, PRINTED]
+BY_TREES = [STREAMS, SIGNATURE_AT, MESSAGE, LOCKED, NO_NODES, NO_WITNESS, STATE_READ, STORED, NODES_KEPT, SIGNATURE, PRINTED]
+BY_NODES = [STREAMS, SIGNATURE_AT, MESSAGE, LOCKED, NODES_READ, NO_WITNESS, STATE_READ, STORED, SIGNATURE, PRINTED]
+# (An endorsement has the name of a signature here.)
+BY_ENDORSING = [STREAMS, SIGNATURE_AT, SIGNER_READ, *BY_TREES[3:-1], ENDORSED]
+FIRST = [STREAMS, PUBLIC_KEY_AT, LOCKED_FIRST, NONE_THERE, NO_WITNESS, STORED_FIRST, NODES_KEPT, PUBLIC_KEY, PRINTED]
+BESIDE_A_WITNESS = [STREAMS, SIGNATURE_AT, MESSAGE, LOCKED, NO_NODES, *OPENED, STORED.beside_a_witness(), PLACED_NEXT, NODES_KEPT, SIGNATURE, PRINTED]
 NUMBERS = f"levels 5/1\ncounter {INDEX}\ncapacity 32\nleft {32 - INDEX}\nopenings 0\nburnt 0\n"
 KEYGEN = Command(keygen("5/1"), FIRST, "capacity 32\n", (None, 0))
-AGAIN = [STREAMS, LOCKED, STATE_READ, PUBLIC_KEY_AGAIN, PRINTED]
+AGAIN = [STREAMS, LOCKED, STATE_READ, PUBLIC_KEY_AT, PUBLIC_KEY_AGAIN, PRINTED]
 PUBLIC = Command(public(), AGAIN, "capacity 32\n", (INDEX, INDEX), has_nodes=True, older="key.pub")
 SIGN_BY_TREES = Command(sign(), BY_TREES, f"index {INDEX}\n", (INDEX, INDEX + 1))
 SIGN_BY_NODES = Command(sign(), BY_NODES, f"index {INDEX}\n", (INDEX, INDEX + 1), has_nodes=True)
+ENDORSE = Command(
+    endorse(out="text.sig"), BY_ENDORSING, endorsed_lines(INDEX, SIGNER), (INDEX, INDEX + 1), files={"signer.pub": SIGNER}
+)
 DESCRIBE = Command(INFO, [STREAMS, LOCKED, STATE_READ, DESCRIBED], NUMBERS, (INDEX, INDEX), has_nodes=True)
 # The use of an index is stored before its answer is printed, and that is printed before more is read.
 ANSWERING = [LINES_READ, NO_WITNESS, STATE_READ, STORED, ANSWERED]
@@ -281,20 +367,28 @@ BURNT = [f"indices {INDEX} to {INDEX} burnt; right only if the witness is the ne
 RESUMED = [STREAMS, LOCKED, WITNESS_SEEN, WITNESS_READ, STATE_READ, STORED, PRINTED]
 RESUME = Command(resume(INDEX + 1), RESUMED, BURNT, (INDEX, INDEX + 1), says=(INDEX + 1, INDEX + 1))
 LOCKING = {
-    "keygen": KEYGEN, "public": PUBLIC, "sign by trees": SIGN_BY_TREES, "sign by kept trees": SIGN_BY_NODES, "info": DESCRIBE, "serve": SERVICE,
-    "sign beside a witness": SIGN_BESIDE, "serve beside a witness": SERVICE_BESIDE, "witness": WATCH, "resume": RESUME,
+    "keygen": KEYGEN, "public": PUBLIC, "sign by trees": SIGN_BY_TREES, "sign by kept trees": SIGN_BY_NODES, "endorse": ENDORSE,
+    "info": DESCRIBE, "serve": SERVICE, "sign beside a witness": SIGN_BESIDE, "serve beside a witness": SERVICE_BESIDE,
+    "witness": WATCH, "resume": RESUME,
 }
-JOIN = Command(join(), [STREAMS, *READ_TO_JOIN, JOINED_FILE], "", (INDEX, INDEX), files=PARTS)
-JOIN_KEYS = Command(join_public(), [STREAMS, *READ_TO_JOIN[::2], JOINED_KEY_FILE], "", (INDEX, INDEX), files=PARTS)
-COMMANDS = {**LOCKING, "join": JOIN, "join-public": JOIN_KEYS}
+JOIN = Command(join(), [STREAMS, *READ_TO_JOIN, JOINED_AT, JOINED_FILE], "", (INDEX, INDEX), files=PARTS)
+JOIN_KEYS = Command(join_public(), [STREAMS, *READ_TO_JOIN[::2], JOINED_KEY_AT, JOINED_KEY_FILE], "", (INDEX, INDEX), files=PARTS)
+DESCRIPTION = f"state\n{NUMBERS}id {IDENTIFIER.hex()}\nwitness "
+INSPECT = Command(inspect(), [STREAMS, STATE_TAKEN, FOUND, NO_WITNESS, PRINTED], [f"{DESCRIPTION}none\n"], (INDEX, INDEX), has_nodes=True)
+LOOKED = [STREAMS, STATE_TAKEN, FOUND, WITNESS_SEEN, WITNESS_READ, PRINTED]
+INSPECT_BESIDE = Command(inspect(), LOOKED, [f"{DESCRIPTION}{INDEX}\n"], (INDEX, INDEX), says=(INDEX, INDEX))
+COMMANDS = {**LOCKING, "join": JOIN, "join-public": JOIN_KEYS, "inspect": INSPECT, "inspect beside a witness": INSPECT_BESIDE}
 
 
 def elsewhere(name, links):
     """The commands that write a public key, by a name that leads into the folder of the witness, each with that
     key."""
     told = os.path.relpath(name)
-    written = Part([f"look up {told}", *given(told, FOLDER)], NOT_WRITTEN, range(7), special=3)
-    first, again, joining = [*FIRST[:-2], written, PRINTED], [*AGAIN[:-2], written, PRINTED], [STREAMS, *READ_TO_JOIN[::2], written]
+    target = links.get(name, told)
+    at = Planned(target, FOLDER, ["resolve .", f"follow {told}"] if links else ())
+    written = Given(told, target, FOLDER, flushed=True)
+    first = [STREAMS, at, *FIRST[2:-2], written, PRINTED]
+    again, joining = [*AGAIN[:-3], at, written, PRINTED], [STREAMS, *READ_TO_JOIN[::2], at, written]
     return [
         (Command(keygen("5/1", public=name), first, "capacity 32\n", (None, 0), links=links), public_of(LEVELS)),
         (Command(public(name=name), again, "capacity 32\n", (INDEX, INDEX), has_nodes=True, links=links), public_of(LEVELS)),

@@ -204,7 +204,7 @@ def texts_of_help():
 def commands_that_sign_or_read_a_state_and_others_beside_their_help():
     with Trial() as it:
         it.tries_well(0, "capacity 32\n")
-        commands = ["keygen", "info", "public", "sign", "batch", "serve", "witness", "resume", "join", "join-public"]
+        commands = ["keygen", "info", "inspect", "public", "sign", "endorse", "batch", "serve", "witness", "resume", "join", "join-public"]
         for line in (*commands, "sign --help --state", "batch --state --help", "serve --state key.state --workers 2"):
             it.starts(*line.split())
             it.only_ran(*line.split())

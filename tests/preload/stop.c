@@ -188,6 +188,16 @@ char *realpath(const char *restrict path, char *restrict found) {
     return is_failed ? (reported(1, 0), NULL) : answer;
 }
 
+ssize_t readlink(const char *restrict path, char *restrict text, size_t size) {
+    ssize_t (*next)(const char *, char *, size_t) = dlsym(RTLD_NEXT, "readlink");
+    ANSWER("follow", path, next(path, text, size));
+}
+
+int fchmod(int file, mode_t mode) {
+    int (*next)(int, mode_t) = dlsym(RTLD_NEXT, "fchmod");
+    ANSWER("permit", name_of(file), next(file, mode));
+}
+
 int ftruncate(int file, off_t length) {
     int (*next)(int, off_t) = dlsym(RTLD_NEXT, "ftruncate");
     ANSWER("cut", name_of(file), next(file, length));

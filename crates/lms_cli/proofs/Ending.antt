@@ -1,6 +1,6 @@
 -- How a run ends, by the command and by the fault.
 use Rattle.std.proofs.Common.{append-nil, sym, [], Option, ◌⊎◌, ◌≡◌, ◌∙◌, ◌<◌, ◌≤◌, ℕ, List, Result, Ok, Err, ap, subst}
-use Rattle.std.proofs.Common.{inl, inr, length, ⊎_elim, arith}
+use Rattle.std.proofs.Common.{Bool, false, true, inl, inr, length, ⊎_elim, arith}
 use Rattle.std.specs.Prelude.{OnErr, OnOk}
 use Rattle.std.specs.Io.KnownBytes.{Appends}
 use Rattle.lms_blocks.specs.Writing.{AppendsFront}
@@ -16,20 +16,26 @@ use Rattle.lms_key_commands.specs.ResumeLogs.{IsNotResumed, LogsUnburnt, LogsUnr
 use Rattle.lms_key_commands.specs.WitnessLogs.{FailsToMake, LogsUnwitnessed, RefusesWitness, of_making}
 use Rattle.lms_world.specs.declared.fault.WorldFault.{WorldFault}
 use Rattle.lms_world.specs.declared.fault.WorldFault.TheVariants as world
-use Rattle.lms_signature_commands.specs.SignLogs.{LogsSign, LogsSignFailed, LogsUndelivered, Signing}
+use Rattle.lms_signature_commands.specs.SignLogs.{LogsUndelivered}
 use Rattle.lms_signature_commands.specs.Verdicts.{verdict_status}
-use Rattle.lms_join_commands.specs.JoinLogs.{AreUnjoined, FailsToReadParts, JoinNames, JoinParts, LogsJoin}
+use Rattle.lms_cli.proofs.EndorsingFaults.{unendorsed}
+use Rattle.lms_inspect.specs.Found.{status_for}
+use Rattle.lms_inspect.specs.InspectLogs.{LogsUnsaid, LooksInVain}
+use Rattle.lms_inspect.specs.declared.found.Found.{Found}
+use Rattle.lms_inspect.specs.declared.found.Found.TheVariants.{State, Signature, Nothing, Public as PublicKey}
+use Rattle.lms_join_commands.specs.JoinLogs.{AreUnjoined, FailsToReadParts, JoinNames, JoinParts}
 use Rattle.lms_join_commands.specs.JoinLogs.{LogsJoinFailed, LogsJoinKeysFailed}
 use Rattle.lms_cli.specs.Deeds.{deed}
 use Rattle.lms_cli.proofs.HighFaults.{IsHigh, at, at_lock, at_read, at_there, at_two, at_unopened, at_unread, at_unseen}
 use Rattle.lms_cli.proofs.HighFaults.{at_unsigned, at_unwatched, at_write}
 use Rattle.lms_cli.proofs.ServingFaults.{IsUnserved, unserved}
-use Rattle.lms_cli.specs.RunLogs.{LogsFailed, LogsRun}
+use Rattle.lms_cli.specs.RunLogs.{LogsFailed, LogsRun, TellsPlainly}
 use Rattle.lms_cli.specs.Runs.{AsksToSignLines, AsksToRead, AsksToServe, Runs, Setting}
 use Rattle.lms_world.specs.Held.{Follows}
 use Rattle.lms_cli.specs.declared.command.types.Command.{Command}
-use Rattle.lms_cli.specs.declared.command.types.Command.TheVariants.{Batch, Info, Join, JoinPublic, Keygen, Public}
-use Rattle.lms_cli.specs.declared.command.types.Command.TheVariants.{Resume, Serve, Sign, Verify, Witness}
+use Rattle.lms_cli.specs.declared.command.types.Command.TheVariants.{Batch, Endorse, Info, Inspect, Join, JoinPublic}
+use Rattle.lms_cli.specs.declared.command.types.Command.TheVariants.{Keygen}
+use Rattle.lms_cli.specs.declared.command.types.Command.TheVariants.{Public, Resume, Serve, Sign, Verify, Witness}
 use Rattle.lms_texts.specs.declared.fault.SeedFault.{SeedFault}
 use Rattle.lms_texts.specs.declared.fault.SeedFault.TheVariants as no_seed
 use Rattle.lms_commands.specs.declared.fault.Fault.{Fault}
@@ -109,8 +115,25 @@ module _ (fault : Fault) where
   at_keys : (public signer out : List ℕ) (old new : WorldCalls) → LogsJoinKeysFailed public signer out fault old new
       → IsHigh fault
   at_keys public signer out old new (inl is) = at_two fault _ _ old new is
-  at_keys public signer out old new (inr (top, lower, last, _, inl (is, _, _))) = at fault BadPublicKey (omega arith) is
+  at_keys public signer out old new (inr (top, lower, last, _, inl (inl (is, _), _))) =
+      at fault BadPublicKey (omega arith) is
+  at_keys public signer out old new (inr (top, lower, last, _, inl (inr (is, _), _))) =
+      at fault OutOfMemory (omega arith) is
   at_keys public signer out old new (inr (top, lower, last, _, inr (_, refused, _))) = at_write fault refused
+
+  -- why it is not said what a file is
+  at_in_vain : (found : Found) (old new : WorldCalls) → LooksInVain found fault old new → IsHigh fault
+  at_in_vain (State image) old new (inl is) = at_unseen fault old new is
+  at_in_vain (State image) old new (inr (is, _)) = at fault BadWitness (omega arith) is
+  at_in_vain (PublicKey parts) old new never = absurd never
+  at_in_vain (Signature parts) old new never = absurd never
+  at_in_vain Nothing old new never = absurd never
+
+  at_unsaid_file : (file : List ℕ) (old new : WorldCalls) → LogsUnsaid file fault old new → IsHigh fault
+  at_unsaid_file file old new (inl (refused, _)) = at_read fault refused
+  at_unsaid_file file old new (inr (inl (is, _))) = at fault OutOfMemory (omega arith) is
+  at_unsaid_file file old new (inr (inr (inl (is, _)))) = at fault OutOfMemory (omega arith) is
+  at_unsaid_file file old new (inr (inr (inr (held, bytes, _, found, _, is)))) = at_in_vain found _ new is
 
   -- nothing is printed, or lines are served, at a status of 2 at least; or the output fails; or a
   -- batch is partly done
@@ -186,13 +209,18 @@ module _ (fault : Fault) where
         → (deed command).failed fault input rest before printed old new
         → Fails (deed command).may.serves (deed command).may.signs_lines before printed
     failed (Keygen _ _ _ _ _) input rest old new (inl (is, _, same)) = inl (inl same, at_no_key _ _ _ input rest is)
-    failed (Keygen _ _ _ _ _) input rest old new (inr (_, _, inl (refused, _, same))) =
+    failed (Keygen _ _ _ _ _) input rest old new (inr (_, _, inl (is, _, same))) =
+        inl (inl same, at fault OutOfMemory (omega arith) is)
+    failed (Keygen _ _ _ _ _) input rest old new (inr (_, _, inr (inl (refused, _, same)))) =
         inl (inl same, at_lock fault refused)
-    failed (Keygen _ _ _ _ _) input rest old new (inr (key, _, inr (last, is, _))) =
+    failed (Keygen _ _ _ _ _) input rest old new (inr (key, _, inr (inr (last, is, _)))) =
         unmade before printed key _ _ last is
     failed (Info _) input rest old new (inl (refused, _, same)) = inl (inl same, at_lock fault refused)
     failed (Info _) input rest old new (inr (last, inl (is, same), _)) = inl (inl same, at_unopened fault _ last is)
     failed (Info _) input rest old new (inr (_, inr (is, _), _)) = inr (inl is)
+    failed (Inspect _) input rest old new (inl (same, inl (refused, _))) = inl (inl same, at_read fault refused)
+    failed (Inspect _) input rest old new (inl (same, inr is)) = inl (inl same, at_unsaid_file _ old new is)
+    failed (Inspect _) input rest old new (inr (is, _)) = inr (inl is)
     failed (Public _ _) input rest old new (inl (is, same)) =
         inl (inl same, at_unread_state before printed _ old new is)
     failed (Public _ _) input rest old new (inr (read, last, _, inl (is, _, same))) =
@@ -201,11 +229,17 @@ module _ (fault : Fault) where
         unpublished before printed read.key _ last new is
     failed (Sign _ _ _ _) input rest old new (inl (is, _, same, _)) =
         inl (inl same, at fault BadRandom (omega arith) is)
-    failed (Sign _ _ _ _) input rest old new (inr (inl (refused, _, same, _))) = inl (inl same, at_read fault refused)
-    failed (Sign _ _ _ _) input rest old new (inr (inr (inl (_, refused, _, same, _)))) =
+    failed (Sign _ _ _ _) input rest old new (inr (inl (is, _, same, _))) =
+        inl (inl same, at fault OutOfMemory (omega arith) is)
+    failed (Sign _ _ _ _) input rest old new (inr (inr (inl (refused, _, same, _)))) =
+        inl (inl same, at_read fault refused)
+    failed (Sign _ _ _ _) input rest old new (inr (inr (inr (inl (_, refused, _, same, _))))) =
         inl (inl same, at_lock fault refused)
-    failed (Sign _ _ _ _) input rest old new (inr (inr (inr (c, text, last, _, is, _)))) =
+    failed (Sign _ _ _ _) input rest old new (inr (inr (inr (inr (c, text, last, _, is, _))))) =
         undelivered before printed c text _ _ last is
+    failed (Endorse _ _ _ _ _) input rest old new is =
+        ⊎_elim (λ high. inl (inl high.0, high.1)) (λ at_end. inr (inl at_end))
+        (unendorsed fault before printed _ old new is)
     failed (Batch _ _) input rest old new (inl (is, _, same, _, _)) =
         inl (inl same, at fault BadWorkers (omega arith) is)
     failed (Batch _ _) input rest old new (inr (inl (refused, _, same, _, _))) = inl (inl same, at_lock fault refused)
@@ -257,6 +291,12 @@ answers : (verdict : Verdict) → status_number (verdict_status verdict) < 2
 answers Valid = omega arith
 answers Invalid = omega arith
 
+found_low : (found : Found) → status_number (status_for found) < 2
+found_low (State image) = omega arith
+found_low (PublicKey parts) = omega arith
+found_low (Signature parts) = omega arith
+found_low Nothing = omega arith
+
 too_low : (end is : Status) → end ≡ is → status_number is < 2 → 2 ≤ status_number end → ⊥
 too_low end is same low high =
     let both : 2 ≤ status_number is = subst (λ (s : Status). 2 ≤ status_number s) same high in
@@ -266,8 +306,11 @@ pub obeyed_low : (command : Command) (end : Status) (input rest : Option (List �
     (old new : WorldCalls) → 2 ≤ status_number end → (deed command).done end input rest before printed old new → ⊥
 obeyed_low (Keygen _ _ _ _ _) end input rest before printed old new high is = too_low end _ is.0 (omega arith) high
 obeyed_low (Info _) end input rest before printed old new high is = too_low end _ is.0 (omega arith) high
+obeyed_low (Inspect _) end input rest before printed old new high (last, inspects, is, line, calls) =
+    too_low end _ is (found_low inspects.found) high
 obeyed_low (Public _ _) end input rest before printed old new high is = too_low end _ is.0 (omega arith) high
 obeyed_low (Sign _ _ _ _) end input rest before printed old new high is = too_low end _ is.0 (omega arith) high
+obeyed_low (Endorse _ _ _ _ _) end input rest before printed old new high is = too_low end _ is.0 (omega arith) high
 obeyed_low (Batch _ _) end input rest before printed old new high is = too_low end _ is.0 (omega arith) high
 obeyed_low (Serve _ _) end input rest before printed old new high is = too_low end _ is.0 (omega arith) high
 obeyed_low (Witness _ _ _) end input rest before printed old new high is = too_low end _ is.0 (omega arith) high
@@ -298,15 +341,18 @@ silent_at words end input rest before printed eb ea old new (inr (fault, end_is,
     by_fails (inr (inr (_, negative))) = absurd (too_low end Negative (end_is ∙ negative) (omega arith) high)
 
 -- so a run is what its contract says, by its log
-pub runs : {I E : Type 0} (old new : Setting I E) (words : List Text) (end : Status)
+pub runs : {I E : Type 0} (looked_on : Bool) (old new : Setting I E) (words : List Text) (end : Status)
     → LogsRun words end old.remaining new.remaining old.output new.output old.error_text new.error_text
     old.calls new.calls
     → Follows old.memory old.calls new.memory new.calls
-    → (status_number end < 2 → (new.errors ≡ old.errors) ⊎ ((end ≡ Negative) × AsksToSignLines words))
-    → (new.input ≡ old.input) ⊎ AsksToRead words → Runs old new words end
-runs old new words end logged follows quiet unread = record {
+    → (looked_on ≡ false → TellsPlainly end old.error_text new.error_text)
+    → (status_number end < 2
+    → (new.errors ≡ old.errors) ⊎ ((end ≡ Negative) × (AsksToSignLines words ⊎ (looked_on ≡ true))))
+    → (new.input ≡ old.input) ⊎ AsksToRead words → Runs looked_on old new words end
+runs looked_on old new words end logged follows plain quiet unread = record {
   logged = logged;
   follows = follows;
+  plain = plain;
   quiet = quiet;
   silent = silent_at words end _ _ _ _ _ _ _ _ logged;
   unread = unread;
@@ -319,52 +365,3 @@ pub any_front : {T E : Type 0} (r : Result T E) (before after : Option (List ℕ
 any_front (Ok x) before after text all front =
     record { front = text; rest = []; whole = sym (append-nil text); appended = all }
 any_front (Err e) before after text all front = front
-
-abbrev signing : List ℕ → List ℕ → List ℕ → List ℕ → Signing
-signing random message state out = record { randomizer = random; message = message; state = state; out = out }
-
--- the calls of a message's signing, by texts that are equal
-pub signed_as : {random c message m state s out o : List ℕ} {before printed : List ℕ} {old new : WorldCalls}
-    → random ≡ c → message ≡ m → state ≡ s → out ≡ o
-    → LogsSign (signing random message state out) before printed old new
-    → LogsSign (signing c m s o) before printed old new
-signed_as {random} {c} {message} {m} {state} {s} {out} {o} {before} {printed} {old} {new} random_is message_is
-    state_is out_is is =
-    subst (λ (asked : Signing). LogsSign asked before printed old new)
-    (λ i. signing (random_is i) (message_is i) (state_is i) (out_is i)) is
-
--- the same, where it fails
-pub failed_as : {random c message m state s out o : List ℕ} {before printed : List ℕ} {fault : Fault}
-    {old new : WorldCalls} → random ≡ c → message ≡ m → state ≡ s → out ≡ o
-    → LogsSignFailed (signing random message state out) before printed fault old new
-    → LogsSignFailed (signing c m s o) before printed fault old new
-failed_as {random} {c} {message} {m} {state} {s} {out} {o} {before} {printed} {fault} {old} {new} random_is message_is
-    state_is out_is is =
-    subst (λ (asked : Signing). LogsSignFailed asked before printed fault old new)
-    (λ i. signing (random_is i) (message_is i) (state_is i) (out_is i)) is
-
-abbrev names : List ℕ → List ℕ → List ℕ → List ℕ → List ℕ → JoinNames
-names public endorsement signer signature out = record {
-  public = public;
-  endorsement = endorsement;
-  signer = signer;
-  signature = signature;
-  out = out;
-}
-
--- the same names, text by text
-pub same_names : {public p endorsement e signer k signature s out o : List ℕ} → public ≡ p
-    → endorsement ≡ e → signer ≡ k
-    → signature ≡ s → out ≡ o → names public endorsement signer signature out ≡ names p e k s o
-same_names public_is endorsement_is signer_is signature_is out_is = λ i.
-    names (public_is i) (endorsement_is i) (signer_is i) (signature_is i) (out_is i)
-
--- the calls of `join`, by texts that are equal
-pub joined_as : {one two : JoinNames} {old new : WorldCalls} → one ≡ two → LogsJoin one old new → LogsJoin two old new
-joined_as {one} {two} {old} {new} same is = subst (λ (n : JoinNames). LogsJoin n old new) same is
-
--- the same, where it fails
-pub not_joined_as : {one two : JoinNames} {fault : Fault} {old new : WorldCalls} → one ≡ two
-    → LogsJoinFailed one fault old new → LogsJoinFailed two fault old new
-not_joined_as {one} {two} {fault} {old} {new} same is =
-    subst (λ (n : JoinNames). LogsJoinFailed n fault old new) same is

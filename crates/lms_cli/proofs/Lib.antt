@@ -1,6 +1,8 @@
 pub mod Building
 pub mod CommandLine
 pub mod Ending
+pub mod SameTexts
+pub mod Noting
 pub mod HighFaults
 pub mod ServingFaults
 pub mod Turning
@@ -8,4 +10,6 @@ pub mod FullRows
 pub mod Parsing
 pub mod Stops
 pub mod FilesStaying
+pub mod FailingInMemory
 pub mod ChangesInMemory
+pub mod EndorsingFaults

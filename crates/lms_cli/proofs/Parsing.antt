@@ -23,7 +23,7 @@ use Rattle.clap.specs.declared.parser.matches.SubCommand.{SubCommand}
 use Rattle.std.specs.Box.{box_value}
 use Rattle.clap.proofs.WalkLemmas.{first_value-rows}
 use Rattle.lms_cli.specs.Application.{Subcommand, subcommand_called, subcommand_called_in, lms_app}
-use Rattle.lms_cli.specs.Commands.{AreWordsOf, FaultAt, FaultOf, HasOptions, IsMadeOf}
+use Rattle.lms_cli.specs.Commands.{AreWordsOf, FaultAt, FaultOf, HasOptions, IsMadeOf, IsShown}
 use Rattle.lms_cli.specs.declared.command.types.Command.{Command}
 use Rattle.lms_cli.specs.declared.fault.CommandFault.{CommandFault}
 use Rattle.lms_cli.specs.declared.fault.CommandFault.TheVariants.{Help, Usage, OutOfMemory}
@@ -54,7 +54,8 @@ matches_of_program a words m is_app matches = subst (λ (b : App). HasMatchesOf 
 
 -- memory ran out, and so the fault says
 pub only_memory : (k : ErrorKind) (fault : CommandFault) → FaultOf k fault → k ≡ kind.OutOfMemory → fault ≡ OutOfMemory
-only_memory k (Help text) is memory = cc
+only_memory k (Help text) (inl is) memory = cc
+only_memory k (Help text) (inr is) memory = cc
 only_memory k (Usage text) is memory = absurd (is.1 memory)
 only_memory k OutOfMemory is memory = refl
 
@@ -62,12 +63,14 @@ only_memory k OutOfMemory is memory = refl
 pub fault_is_there : (words : List Text) (e : Error) (fault : CommandFault) → FaultOf (kind_of e) fault
     → HasKind (fault_of lms_app words) e
     → (takes lms_app words ≡ true → kind_of e ≡ kind.OutOfMemory) → FaultAt words fault
-fault_is_there words e (Help text) is (inl memory) taken = cc
+fault_is_there words e (Help text) (inl is) (inl memory) taken = cc
+fault_is_there words e (Help text) (inr is) (inl memory) taken = cc
 fault_is_there words e (Help text) is (inr among) taken =
-    (λ takes. absurd (not_both (taken takes)), subst (λ k. IsAmong k (fault_of lms_app words)) is among)
+    (λ takes. no_memory is (taken takes), (kind_of e, among, is))
   where
-    not_both : kind_of e ≡ kind.OutOfMemory → ⊥
-    not_both memory = cc
+    no_memory : IsShown (kind_of e) → kind_of e ≡ kind.OutOfMemory → ⊥
+    no_memory (inl help) memory = cc
+    no_memory (inr version) memory = cc
 fault_is_there words e (Usage text) is (inl memory) taken = absurd (is.1 memory)
 fault_is_there words e (Usage text) is (inr among) taken = (λ takes. is.1 (taken takes), (kind_of e, among, is.0))
 fault_is_there words e OutOfMemory is has taken = tt

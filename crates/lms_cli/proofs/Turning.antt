@@ -23,14 +23,17 @@ use Rattle.lms_signature_commands.proofs.SigningTurns.{jobs_failed_turn, jobs_tu
 use Rattle.lms_commands.proofs.Turns.{idle_as}
 use Rattle.lms_key_commands.proofs.KeyTurns.{info_failed_turn, info_turn, keygen_failed_turn, keygen_turn}
 use Rattle.lms_signature_commands.proofs.VerifyTurns.{verify_failed_turn, verify_turn}
+use Rattle.lms_endorse.proofs.EndorseTurns.{endorse_failed_turn, endorse_turn}
+use Rattle.lms_inspect.proofs.InspectTurns.{inspect_failed_turn, inspect_turn}
 use Rattle.lms_join_commands.proofs.JoinTurns.{join_failed_turn, join_keys_failed_turn, join_keys_turn, join_turn}
 use Rattle.lms_cli.specs.Commands.{AreTakenAs, AsksForHelp}
 use Rattle.lms_cli.specs.Deeds.{deed}
 use Rattle.lms_cli.specs.RunLogs.{LogsRun}
 use Rattle.lms_cli.specs.RunTurns.{ProgramRun, TakesTurns, TakeTurns, all_turns}
 use Rattle.lms_cli.specs.declared.command.types.Command.{Command}
-use Rattle.lms_cli.specs.declared.command.types.Command.TheVariants.{Batch, Info, Join, JoinPublic, Keygen, Public}
-use Rattle.lms_cli.specs.declared.command.types.Command.TheVariants.{Resume, Serve, Sign, Verify, Witness}
+use Rattle.lms_cli.specs.declared.command.types.Command.TheVariants.{Batch, Endorse, Info, Inspect, Join, JoinPublic}
+use Rattle.lms_cli.specs.declared.command.types.Command.TheVariants.{Keygen}
+use Rattle.lms_cli.specs.declared.command.types.Command.TheVariants.{Public, Resume, Serve, Sign, Verify, Witness}
 
 -- a command in its turns
 record Obeyed (command : Command) (whole : WorldCalls) (before printed : List ℕ) : Type 0 where
@@ -80,11 +83,16 @@ obeyed (Keygen levels seed id state public) end input rest before printed whole 
 obeyed (Info state) end input rest before printed whole (done, is) =
     let turn = info_turn _ before printed whole is in
     once (Info state) whole before printed (turn.0, [], turn.1, (refl, turn.2))
+obeyed (Inspect file) end input rest before printed whole is =
+    let turn = inspect_turn _ end before printed whole is in
+    once (Inspect file) whole before printed (turn.0, [], turn.1, (refl, turn.2))
 obeyed (Public state public) end input rest before printed whole (done, is) =
     let turn = public_turn _ _ before printed whole is in
     once (Public state public) whole before printed (turn.0, [], turn.1, (refl, turn.2))
 obeyed (Sign state random message out) end input rest before printed whole (done, is) =
     once (Sign state random message out) whole before printed (sign_turn _ before printed whole is)
+obeyed (Endorse state random signer joined out) end input rest before printed whole (done, is) =
+    once (Endorse state random signer joined out) whole before printed (endorse_turn _ before printed whole is)
 obeyed (Batch state workers) end input rest before printed whole (done, is) =
     once (Batch state workers) whole before printed (jobs_turn _ _ input rest before printed whole is)
 obeyed (Serve state workers) end input rest before printed whole (done, is) =
@@ -118,11 +126,17 @@ failed (Keygen levels seed id state public) fault input rest before printed whol
 failed (Info state) fault input rest before printed whole is =
     let turn = info_failed_turn _ before printed fault whole is in
     once (Info state) whole before printed (turn.0, [], turn.1, (refl, turn.2))
+failed (Inspect file) fault input rest before printed whole is =
+    let turn = inspect_failed_turn _ fault before printed whole is in
+    once (Inspect file) whole before printed (turn.0, [], turn.1, (refl, turn.2))
 failed (Public state public) fault input rest before printed whole is =
     let turn = public_failed_turn _ _ before printed fault whole is in
     once (Public state public) whole before printed (turn.0, [], turn.1, (refl, turn.2))
 failed (Sign state random message out) fault input rest before printed whole is =
     once (Sign state random message out) whole before printed (sign_failed_turn _ before printed fault whole is)
+failed (Endorse state random signer joined out) fault input rest before printed whole is =
+    once (Endorse state random signer joined out) whole before printed
+    (endorse_failed_turn _ before printed fault whole is)
 failed (Batch state workers) fault input rest before printed whole is =
     once (Batch state workers) whole before printed (jobs_failed_turn _ _ input rest before printed fault whole is)
 failed (Serve state workers) fault input rest before printed whole is =

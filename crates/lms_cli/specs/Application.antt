@@ -53,11 +53,13 @@ subcommand_called_in among name = find (λ s. bytes_eq s.name name) among
 abbrev pub subcommand_called : Text → Option Subcommand
 subcommand_called = subcommand_called_in subcommands
 
--- the program with no subcommand yet, and the requirement that there be one
+-- the program with no subcommand yet, a version, and the requirement that there be a subcommand
 abbrev pub bare_app : App
 bare_app = let start =
     new_app
-    (codes "lms_tool") in record start { top = record start.top { subcommand_required = true } }
+    (codes "lms_tool") in record start {
+      top = record start.top { has_version = true; subcommand_required = true };
+    }
 
 -- the whole program
 abbrev pub lms_app : App

@@ -1,16 +1,17 @@
 -- What the command is that clap's definition makes of the arguments, and which faults it may have.
-use Rattle.std.specs.Prelude.{◌≡◌, ◌≢◌, true, List, [], ◌∷◌, Option, Some, None, IsSome, map, string_bytes}
+use Rattle.std.specs.Prelude.{◌≡◌, ◌≢◌, ◌⊎◌, true, List, [], ◌∷◌, Option, Some, None, IsSome, map, string_bytes}
 use Rattle.std.specs.List.{AllByRecursion}
 use Rattle.clap.specs.Words.{Kinds, IsAmong, Row, Text, first_of, first_value, subcommand_of, fault_of, takes}
 use Rattle.clap.specs.declared.error.kind.ErrorKind.{ErrorKind}
 use Rattle.clap.specs.declared.error.kind.ErrorKind.TheVariants as kind
 use Rattle.clap.specs.declared.parser.matches.Found.{Found}
 use Rattle.lms_cli.specs.Application.{Subcommand, described, lms_app}
-use Rattle.lms_cli.specs.declared.command.table.TheConstants.{BATCH, INFO, JOIN, JOIN_PUBLIC, KEYGEN, PUBLIC, RESUME}
-use Rattle.lms_cli.specs.declared.command.table.TheConstants.{SERVE, SIGN, VERIFY, WITNESS}
+use Rattle.lms_cli.specs.declared.command.table.TheConstants.{BATCH, ENDORSE, INFO, INSPECT, JOIN, JOIN_PUBLIC, KEYGEN}
+use Rattle.lms_cli.specs.declared.command.table.TheConstants.{PUBLIC, RESUME, SERVE, SIGN, VERIFY, WITNESS}
 use Rattle.lms_cli.specs.declared.command.types.Command.{Command}
-use Rattle.lms_cli.specs.declared.command.types.Command.TheVariants.{Batch, Info, Join, JoinPublic, Keygen, Public}
-use Rattle.lms_cli.specs.declared.command.types.Command.TheVariants.{Resume, Serve, Sign, Verify, Witness}
+use Rattle.lms_cli.specs.declared.command.types.Command.TheVariants.{Batch, Endorse, Info, Inspect, Join, JoinPublic}
+use Rattle.lms_cli.specs.declared.command.types.Command.TheVariants.{Keygen}
+use Rattle.lms_cli.specs.declared.command.types.Command.TheVariants.{Public, Resume, Serve, Sign, Verify, Witness}
 use Rattle.lms_cli.specs.declared.fault.CommandFault.{CommandFault}
 use Rattle.lms_cli.specs.declared.fault.CommandFault.TheVariants.{Help, Usage, OutOfMemory}
 
@@ -29,9 +30,12 @@ abbrev pub spelling : Command → Subcommand × List Text
 spelling (Keygen levels seed id state public) =
     (described KEYGEN, map string_bytes (levels ∷ seed ∷ id ∷ state ∷ public ∷ []))
 spelling (Info state) = (described INFO, map string_bytes (state ∷ []))
+spelling (Inspect file) = (described INSPECT, map string_bytes (file ∷ []))
 spelling (Public state public) = (described PUBLIC, map string_bytes (state ∷ public ∷ []))
 spelling (Sign state random message out) =
     (described SIGN, map string_bytes (state ∷ random ∷ message ∷ out ∷ []))
+spelling (Endorse state random signer joined out) =
+    (described ENDORSE, map string_bytes (state ∷ random ∷ signer ∷ joined ∷ out ∷ []))
 spelling (Batch state workers) = (described BATCH, map string_bytes (state ∷ workers ∷ []))
 spelling (Serve state workers) = (described SERVE, map string_bytes (state ∷ workers ∷ []))
 spelling (Witness state on counter) =
@@ -63,19 +67,24 @@ abbrev pub HasOptions : Option Subcommand → Found → Type 0
 HasOptions None found = ⊥
 HasOptions (Some s) found = AllByRecursion (λ option. IsSome (first_value found option)) s.options
 
--- one of the kinds asks for something else than help
+-- the kinds of what asks for help or the version
+abbrev pub IsShown : ErrorKind → Type 0
+IsShown k = (k ≡ kind.DisplayHelp) ⊎ (k ≡ kind.DisplayVersion)
+
+-- one of the kinds asks for something else than help or the version
 abbrev pub HasMistake : Kinds → Type 0
-HasMistake kinds = (k : ErrorKind) × IsAmong k kinds × (k ≢ kind.DisplayHelp)
+HasMistake kinds = (k : ErrorKind) × IsAmong k kinds × ¬ IsShown k
 
 -- what an error of this kind may become; memory may run out at any
 abbrev pub FaultOf : ErrorKind → CommandFault → Type 0
-FaultOf k (Help text) = k ≡ kind.DisplayHelp
-FaultOf k (Usage text) = (k ≢ kind.DisplayHelp) × (k ≢ kind.OutOfMemory)
+FaultOf k (Help text) = IsShown k
+FaultOf k (Usage text) = (¬ IsShown k) × (k ≢ kind.OutOfMemory)
 FaultOf k OutOfMemory = Unit {0}
 
--- clap's definition doesn't take the arguments, and has help to show there
+-- clap's definition doesn't take the arguments, and has help or the version to show there
 abbrev pub AsksForHelp : List Text → Type 0
-AsksForHelp words = (takes lms_app words ≢ true) × IsAmong kind.DisplayHelp (fault_of lms_app words)
+AsksForHelp words = (takes lms_app words ≢ true)
+    × ((k : ErrorKind) × IsAmong k (fault_of lms_app words) × IsShown k)
 
 -- clap's definition doesn't take the arguments, and has a mistake to report there
 abbrev pub IsMistaken : List Text → Type 0

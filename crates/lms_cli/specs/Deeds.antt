@@ -25,12 +25,17 @@ use Rattle.lms_signature_commands.specs.Verdicts.{verdict_status}
 use Rattle.lms_signature_commands.specs.VerifyLogs.{LogsVerify, LogsVerifyFailed}
 use Rattle.lms_signature_commands.specs.VerifyTurns.{HandsVerdict}
 use Rattle.lms_signature_commands.specs.declared.verdict.Verdict.{Verdict}
+use Rattle.lms_endorse.specs.EndorseLogs.{Endorsing, LogsEndorse, LogsEndorseFailed}
+use Rattle.lms_endorse.specs.EndorseTurns.{AreEndorsed}
+use Rattle.lms_inspect.specs.InspectLogs.{LogsInspect, LogsInspectFailed}
+use Rattle.lms_inspect.specs.InspectTurns.{HandsDescription}
 use Rattle.lms_join_commands.specs.Joined.{HandsJoined, HandsJoinedKey}
 use Rattle.lms_join_commands.specs.JoinLogs.{JoinNames, LogsJoin, LogsJoinFailed, LogsJoinKeys, LogsJoinKeysFailed}
 use Rattle.lms_cli.specs.Commands.{AreTakenAs}
 use Rattle.lms_cli.specs.declared.command.types.Command.{Command}
-use Rattle.lms_cli.specs.declared.command.types.Command.TheVariants.{Batch, Info, Join, JoinPublic, Keygen, Public}
-use Rattle.lms_cli.specs.declared.command.types.Command.TheVariants.{Resume, Serve, Sign, Verify, Witness}
+use Rattle.lms_cli.specs.declared.command.types.Command.TheVariants.{Batch, Endorse, Info, Inspect, Join, JoinPublic}
+use Rattle.lms_cli.specs.declared.command.types.Command.TheVariants.{Keygen}
+use Rattle.lms_cli.specs.declared.command.types.Command.TheVariants.{Public, Resume, Serve, Sign, Verify, Witness}
 
 -- what is known of the input before and after, what was printed before and after, and the calls
 -- before and after
@@ -85,6 +90,16 @@ signing random message state out = record {
   out = string_bytes out;
 }
 
+-- what `endorse` is asked for
+abbrev pub endorsing : String Global → String Global → String Global → String Global → String Global → Endorsing
+endorsing state random signer joined out = record {
+  randomizer = string_bytes random;
+  joined = string_bytes joined;
+  signer = string_bytes signer;
+  state = string_bytes state;
+  out = string_bytes out;
+}
+
 -- the files that `join` is asked to read and write
 abbrev pub join_names : String Global → String Global → String Global → String Global
     → String Global → JoinNames
@@ -96,8 +111,8 @@ join_names public endorsement signer signature out = record {
   out = string_bytes out;
 }
 
--- what each command does. `sign` writes signatures to its file, `batch` and `serve` print their lines, and no other
--- command has any of its own; what `join` writes repeats one that was read
+-- what each command does. `sign` and `endorse` write signatures to their file, `batch` and `serve` print their lines,
+-- and no other command has any of its own; what `join` writes repeats one that was read
 abbrev pub deed : Command → Deed
 deed (Keygen levels seed id state public) = record {
   done = λ end input rest before printed old new. (end ≡ Done)
@@ -127,6 +142,14 @@ deed (Info state) = record {
   hands = unsigned HandsState;
   may = record no_rights { locks = Unit {0} };
 }
+deed (Inspect file) = record {
+  done = λ end input rest before printed old new.
+      LogsInspect (string_bytes file) end before printed old new;
+  failed = λ fault input rest before printed old new.
+      LogsInspectFailed (string_bytes file) fault before printed old new;
+  hands = unsigned HandsDescription;
+  may = no_rights;
+}
 deed (Public state public) = record {
   done = λ end input rest before printed old new. (end ≡ Done)
       × LogsPublic (string_bytes state) (string_bytes public) before printed old new;
@@ -141,6 +164,20 @@ deed (Sign state random message out) = record {
   failed = λ fault input rest before printed old new.
       LogsSignFailed (signing random message state out) before printed fault old new;
   hands = AreDelivered;
+  may = record no_rights {
+    writes = λ name. name ≡ string_bytes out;
+    stores = Unit {0};
+    keeps = Unit {0};
+    watches = Unit {0};
+    locks = Unit {0};
+  };
+}
+deed (Endorse state random signer joined out) = record {
+  done = λ end input rest before printed old new. (end ≡ Done)
+      × LogsEndorse (endorsing state random signer joined out) before printed old new;
+  failed = λ fault input rest before printed old new.
+      LogsEndorseFailed (endorsing state random signer joined out) before printed fault old new;
+  hands = AreEndorsed;
   may = record no_rights {
     writes = λ name. name ≡ string_bytes out;
     stores = Unit {0};

@@ -2,12 +2,13 @@
 use Rattle.std.specs.Prelude.{◌≡◌, ◌⊎◌, ◌++◌, ℕ, List, Option, Some, string_bytes}
 use Rattle.clap.specs.Words.{Text}
 use Rattle.lms_blocks.specs.Writing.{AppendsFront}
+use Rattle.lms_world.specs.Notes.{IsNote}
 use Rattle.lms_commands.specs.Faults.{fault_line, status_of}
 use Rattle.lms_commands.specs.Logs.{WorldCalls}
 use Rattle.lms_commands.specs.declared.fault.Fault.{Fault}
 use Rattle.lms_commands.specs.declared.fault.Fault.TheVariants.{OutOfMemory, WriteOutput}
 use Rattle.lms_commands.specs.declared.status.Status.{Status}
-use Rattle.lms_commands.specs.declared.status.Status.TheVariants.{Done, Usage}
+use Rattle.lms_commands.specs.declared.status.Status.TheVariants.{Done, Negative, Usage}
 use Rattle.lms_cli.specs.Commands.{AreTakenAs, AsksForHelp, IsMistaken}
 use Rattle.lms_cli.specs.Deeds.{deed}
 use Rattle.lms_cli.specs.declared.command.types.Command.{Command}
@@ -42,12 +43,31 @@ abbrev pub TellsUsage : Status → Option (List ℕ) → Option (List ℕ) → T
 TellsUsage end before after =
     (after ≡ before) ⊎ ((end ≡ Usage) × ((text : ClapText) × AppendsFront before after (string_bytes text.text)))
 
+-- a note is printed, or a beginning of it
+abbrev pub IsNoted : Option (List ℕ) → Option (List ℕ) → Type 0
+IsNoted before after = (note : List ℕ) × IsNote note × AppendsFront before after note
+
+-- at a fault its line is printed, and at most a note after it, or a beginning of both
+abbrev pub TellsFault : Fault → Option (List ℕ) → Option (List ℕ) → Type 0
+TellsFault fault before after =
+    (note : List ℕ) × IsNote note × AppendsFront before after (fault_line fault ++ note)
+
+-- without a fault, a text of clap's, or at `Negative` a note
+abbrev pub TellsAnswer : Status → Option (List ℕ) → Option (List ℕ) → Type 0
+TellsAnswer end before after = TellsUsage end before after ⊎ ((end ≡ Negative) × IsNoted before after)
+
+-- where nobody looks on there are no notes
+abbrev pub TellsPlainly : Status → Option (List ℕ) → Option (List ℕ) → Type 0
+TellsPlainly end before after =
+    TellsUsage end before after
+    ⊎ ((fault : Fault) × (end ≡ status_of fault) × AppendsFront before after (fault_line fault))
+
 -- all calls of a run that ends so; at a fault, what standard error is known to have taken grows by
--- that fault's line or a beginning of it, and by nothing else
+-- that fault's line, and at most a note after it, or a beginning of both, and by nothing else
 abbrev pub LogsRun : List Text → Status → Option (List ℕ) → Option (List ℕ) → List ℕ → List ℕ
     → Option (List ℕ) → Option (List ℕ) → WorldCalls → WorldCalls → Type 0
 LogsRun words end input rest before printed errors_before errors_after old new =
-    (LogsAnswered words end input rest before printed old new × TellsUsage end errors_before errors_after)
+    (LogsAnswered words end input rest before printed old new × TellsAnswer end errors_before errors_after)
     ⊎ ((fault : Fault) × (end ≡ status_of fault)
-    × AppendsFront errors_before errors_after (fault_line fault)
+    × TellsFault fault errors_before errors_after
     × LogsFailed words fault input rest before printed old new)

@@ -1,6 +1,6 @@
 -- What a run of the program comes to, from the arguments, the files and the states to the bytes
 -- printed.
-use Rattle.std.specs.Prelude.{ℕ, ◌≡◌, ◌≤◌, ◌<◌, ◌⊎◌, List, Option}
+use Rattle.std.specs.Prelude.{ℕ, ◌≡◌, ◌≤◌, ◌<◌, ◌⊎◌, Bool, false, true, List, Option}
 use Rattle.clap.specs.Words.{Text}
 use Rattle.lms_commands.specs.Faults.{status_number}
 use Rattle.lms_commands.specs.Logs.{WorldCalls}
@@ -8,7 +8,7 @@ use Rattle.lms_commands.specs.declared.status.Status.{Status}
 use Rattle.lms_commands.specs.declared.status.Status.TheVariants as status
 use Rattle.lms_world.specs.Held.{Follows, Memory}
 use Rattle.lms_cli.specs.Deeds.{IsAsked}
-use Rattle.lms_cli.specs.RunLogs.{LogsRun}
+use Rattle.lms_cli.specs.RunLogs.{LogsRun, TellsPlainly}
 
 -- the arguments ask for `serve`
 abbrev pub AsksToServe : List Text → Type 0
@@ -48,14 +48,16 @@ setting memory calls input remaining output errors error_text =
       error_text = error_text;
     }
 
--- what a run of the program is: how it ends, all calls that it makes, and what stays as it was
-pub record Runs {I E : Type 0} (old new : Setting I E) (words : List Text)
+-- what a run of the program is, where somebody looks on or not: how it ends, all calls that it makes, and what stays
+-- as it was
+pub record Runs {I E : Type 0} (looked_on : Bool) (old new : Setting I E) (words : List Text)
     (end : Status) : Type 0 where
   pub logged : LogsRun words end old.remaining new.remaining old.output new.output
       old.error_text new.error_text old.calls new.calls
   pub follows : Follows old.memory old.calls new.memory new.calls
+  pub plain : looked_on ≡ false → TellsPlainly end old.error_text new.error_text
   pub quiet : status_number end < 2 → (new.errors ≡ old.errors)
-      ⊎ ((end ≡ status.Negative) × AsksToSignLines words)
+      ⊎ ((end ≡ status.Negative) × (AsksToSignLines words ⊎ (looked_on ≡ true)))
   pub silent : 2 ≤ status_number end → status_number end < 6
       → (new.output ≡ old.output) ⊎ AsksToServe words
   pub unread : (new.input ≡ old.input) ⊎ AsksToRead words

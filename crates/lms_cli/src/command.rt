@@ -12,6 +12,7 @@ mod table;
 mod types;
 
 pub use crate::fault::{ClapText, CommandFault};
+use crate::version::VERSION;
 use clap::error::ErrorKind;
 use clap::{Arg, ArgMatches, Error};
 use std::alloc::{AllocError, Global};
@@ -21,8 +22,8 @@ pub use types::Command;
 
 /// The command that the command-line arguments ask for; the first of them is the program's name.
 ///
-/// `Help` where they ask for help and `Usage` where they are no command, both with clap's text, and
-/// `OutOfMemory` where memory ran out.
+/// `Help` where they ask for help or for the version and `Usage` where they are no command, both with
+/// clap's text, and `OutOfMemory` where memory ran out.
 pub fn command<S: AsStr>(alloc: Global, words: &[S]) -> Result<Command, CommandFault>
     ensures reads { IfOk result (AreWordsOf (map S.text words.now)) }
     ensures taken { IfErr result (λ e.
@@ -67,6 +68,7 @@ fn bare_application<'a>(alloc: Global) -> clap::Command<'a>
 {
     clap::Command::new(alloc, "lms_tool")
         .about("Makes keys, signs and verifies with HSS/LMS (RFC 8554)")
+        .version(VERSION)
         .subcommand_required(true)
 }
 
@@ -114,6 +116,9 @@ fn read(alloc: Global, name: &str, options: &ArgMatches<'_>) -> Result<Command, 
         "info" => Ok(Command::Info {
             state: option_text(alloc, options, "state")?,
         }),
+        "inspect" => Ok(Command::Inspect {
+            file: option_text(alloc, options, "file")?,
+        }),
         "public" => Ok(Command::Public {
             state: option_text(alloc, options, "state")?,
             public: option_text(alloc, options, "public")?,
@@ -122,6 +127,13 @@ fn read(alloc: Global, name: &str, options: &ArgMatches<'_>) -> Result<Command, 
             state: option_text(alloc, options, "state")?,
             random: option_text(alloc, options, "random")?,
             message: option_text(alloc, options, "message")?,
+            out: option_text(alloc, options, "out")?,
+        }),
+        "endorse" => Ok(Command::Endorse {
+            state: option_text(alloc, options, "state")?,
+            random: option_text(alloc, options, "random")?,
+            signer: option_text(alloc, options, "signer")?,
+            joined: option_text(alloc, options, "joined")?,
             out: option_text(alloc, options, "out")?,
         }),
         "batch" => Ok(Command::Batch {
@@ -171,14 +183,15 @@ fn option_text(alloc: Global, options: &ArgMatches<'_>, name: &str) -> Result<St
     String::from_str(alloc, options.get_str(name).unwrap())
 }
 
-/// The fault that clap's error is: `Help` where it shows help, `OutOfMemory` where memory ran out,
-/// also for its text, and else `Usage`.
+/// The fault that clap's error is: `Help` where it shows help or the version, `OutOfMemory` where
+/// memory ran out, also for its text, and else `Usage`.
 fn fault_from(alloc: Global, error: &Error) -> CommandFault
     ensures { FaultOf (kind_of error.now) result }
 {
     match (error.kind(), ClapText::of(alloc, error)) {
         (ErrorKind::OutOfMemory, _) | (_, Err(_)) => CommandFault::OutOfMemory,
         (ErrorKind::DisplayHelp, Ok(text)) => CommandFault::Help { text },
+        (ErrorKind::DisplayVersion, Ok(text)) => CommandFault::Help { text },
         (_, Ok(text)) => CommandFault::Usage { text },
     }
 }

@@ -28,7 +28,7 @@ impl ClapText {
 /// Why the arguments give no command.
 #[derive(Debug, Drop)]
 pub enum CommandFault {
-    /// Help was asked for, and this is its text.
+    /// Help or the version was asked for, and this is its text.
     Help { text: ClapText },
     /// The arguments are no command of the program, and this text says why.
     Usage { text: ClapText },

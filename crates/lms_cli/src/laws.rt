@@ -6,9 +6,9 @@ ghost use Rattle.lms_cli.specs.RunTurns.{NoIndexLeavesTwice};
 /// with the calls that the contract of `run` describes: each takes a turn at both, and `serve` one
 /// after another; where a run is cut off, the turns before are whole, and those after are not begun. A
 /// turn has two parts. In the first both are found and written, and nothing leaves; in the second
-/// something may leave, and neither is written. What `sign` writes to files and what `batch`
-/// and `serve` print are signatures, each by an index of its own whose use was stored for certain in
-/// the first part of its turn, and said for certain by the witness, where there is one.
+/// something may leave, and neither is written. What `sign` and `endorse` write to files and what
+/// `batch` and `serve` print are signatures, each by an index of its own whose use was stored for
+/// certain in the first part of its turn, and said for certain by the witness, where there is one.
 ///
 /// Where these turns carry along what state and witness should be, no two signatures that left are
 /// by one index of a key: each is by a later index than those of its key before. A signature left

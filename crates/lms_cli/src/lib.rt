@@ -6,4 +6,6 @@
 pub mod command;
 mod fault;
 pub mod laws;
+mod notes;
 pub mod run;
+mod version;

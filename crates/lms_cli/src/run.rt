@@ -9,9 +9,12 @@ ghost use Rattle.lms_cli.specs.RunLogs.{LogsAnswered, LogsFailed, TellsUsage};
 ghost use Rattle.lms_cli.specs.Runs.{AsksToRead, Runs, setting};
 
 use crate::command::{ClapText, Command, CommandFault, command};
+use crate::notes::{remark, tell};
 use lms_blocks::{WriteFault, write_bytes};
 use lms_commands::{Fault, Resources, Status, print_fault};
+use lms_endorse::{EndorseRequest, endorse_key};
 use lms_hss::Progress;
+use lms_inspect::inspect_file;
 use lms_join_commands::{JoinRequest, join_public_keys, join_signature};
 use lms_key_commands::{describe, key_from, make_key, publish_key, resume_state, watch_state};
 use lms_signature_commands::{SignRequest, serve_jobs, sign_file, sign_jobs, verify_files};
@@ -24,14 +27,15 @@ use std::thread::Threads;
 /// The whole program, over its command-line arguments (`words`, the program's name first), its
 /// files and its three streams. Answers how it ends; the exit status is that answer's code.
 ///
-/// A fault is one line on `errors`, `error: ` and its text. Help is printed to `output` and a
-/// mistake in the arguments to `errors`, both in clap's wording. Nothing but `keygen`, `sign`,
-/// `batch`, `serve` and `resume` changes states. Of the files only one is changed: by `keygen` and
-/// `public` the one that `--public` names, by `sign`, `join` and `join-public` the one of `--out`.
-/// `witness` alone makes a witness, and `sign`, `batch` and `serve` alone replace one. `keygen` and
-/// `sign` alone keep nodes of trees beside the state. `input` is read by `batch` and `serve`, and
-/// by `keygen` where its seed is `-`. `resources.progress` gets how far `keygen`, `public`, `sign`,
-/// `batch` and `serve` are while they compute trees.
+/// A fault is one line on `errors`, `error: ` and its text. Where somebody looks on, one more line
+/// may follow it, or the verdict `invalid`: `note: ` and what stands behind it. Help is printed to
+/// `output` and a mistake in the arguments to `errors`, both in clap's wording. Nothing but
+/// `keygen`, `sign`, `endorse`, `batch`, `serve` and `resume` changes states. Of the files only one is
+/// changed: by `keygen` and `public` the one that `--public` names, by `sign`, `endorse`, `join` and
+/// `join-public` the one of `--out`. `witness` alone makes a witness, and `sign`, `endorse`, `batch` and
+/// `serve` alone replace one. `keygen`, `sign` and `endorse` alone keep nodes of trees beside the state.
+/// `input` is read by `batch` and `serve`, and by `keygen` where its seed is `-`. `resources.progress`
+/// gets how far `keygen`, `public`, `sign`, `endorse`, `batch` and `serve` are while they compute trees.
 pub fn run<S: AsStr, W: World, I: Read, O: Write, E: Write>(
     resources: &Resources<impl Threads + Wait + Sync, impl Progress>,
     words: &[S],
@@ -40,7 +44,7 @@ pub fn run<S: AsStr, W: World, I: Read, O: Write, E: Write>(
     output: &mut Printer<O>,
     errors: &mut E,
 ) -> Status
-    ensures { Runs
+    ensures { Runs resources.now.looked_on
         (setting (W.memory world.old) (W.events world.old) input.old
         (I.remaining input.old) output.old errors.old (E.contents errors.old))
         (setting (W.memory world.new) (W.events world.new) input.new
@@ -48,8 +52,18 @@ pub fn run<S: AsStr, W: World, I: Read, O: Write, E: Write>(
         (map S.text words.now) result }
 {
     match answer(resources, words, world, input, output, errors) {
-        Ok(status) => status,
-        Err(fault) => report(fault, errors),
+        Ok(status) => {
+            remark(resources.looked_on, status, world, errors);
+            status
+        }
+        Err(fault) => tell(
+            resources.alloc,
+            resources.looked_on,
+            words,
+            world,
+            fault,
+            errors,
+        ),
     }
 }
 
@@ -145,6 +159,7 @@ fn obey<W: World, I: Read, O: Write>(
             describe(resources.alloc, world, &state, output)?;
             Ok(Status::Done)
         }
+        Command::Inspect { file } => inspect_file(resources.alloc, world, &file, output),
         Command::Public { state, public } => {
             publish_key(resources, world, &state, &public, output)?;
             Ok(Status::Done)
@@ -162,6 +177,23 @@ fn obey<W: World, I: Read, O: Write>(
                 out: &out,
             };
             sign_file(resources, world, &request, output)?;
+            Ok(Status::Done)
+        }
+        Command::Endorse {
+            state,
+            random,
+            signer,
+            joined,
+            out,
+        } => {
+            let request = EndorseRequest {
+                state: &state,
+                random: &random,
+                signer: &signer,
+                joined: &joined,
+                out: &out,
+            };
+            endorse_key(resources, world, &request, output)?;
             Ok(Status::Done)
         }
         Command::Batch { state, workers } => {

@@ -22,7 +22,8 @@ use std::{error, fmt};
 /// Why the program ends with a fault.
 #[derive(Clone, Copy, Debug, PartialEq, Eq)]
 pub enum Fault {
-    /// The text for the levels is not a list such as `10/8,5/4`.
+    /// The text for the levels is not a list such as `10/8,5/4`; or that for how many levels joined keys
+    /// have is no number from 2 to 8.
     BadLevels,
     /// There are more than 8 levels.
     TooManyLevels,
@@ -38,12 +39,13 @@ pub enum Fault {
     BadWorkers,
     /// The text for the counter is no number below 2^64 in decimal.
     BadCounter,
-    /// A file is no HSS public key of known typecodes, or two keys have more than 8 levels together.
+    /// A file is no HSS public key of known typecodes, or two keys have more than 8 levels together;
+    /// or a key may not endorse another, since both have another number of levels together than was
+    /// asked for, or one identifier.
     BadPublicKey,
     /// The endorsement is not accepted for the signer's key under the top key.
     BadEndorsement,
-    /// The signature has no count of signed keys, or another than signatures by the signer's key
-    /// have.
+    /// The signature is no signature by the signer's key, as far as that shows without its message.
     BadSignature,
     /// This line of the input, counted from 1, is the first that is no job line.
     BadJob { line: u64 },

@@ -1,13 +1,14 @@
 //! What every command does with files and states.
 ghost use Rattle.std.specs.Prelude.{[], ◌∷◌, ◌≡◌, ℕ, List, None, IfErr, IfOk, IfSome, OnOk};
 ghost use Rattle.lms_world.specs.Events.{Read, Opened, Written, Locked, opening_of, read_of};
+ghost use Rattle.lms_world.specs.Events.{output_name};
 ghost use Rattle.lms_world.specs.Held.{Does, Follows};
 ghost use Rattle.lms_commands.specs.Logs.{IsLockRefused, IsReadRefused, IsWriteRefused, LogsUnopened, OpensState, caused, locked_so, state_in, state_of, write_cause, written_so};
 
 use crate::fault::Fault;
 use lms_book::{Book, StateStore};
 use lms_image::Image;
-use lms_world::{Contents, LockFault, Taker, World, WorldFault};
+use lms_world::{Contents, LockFault, Output, Taker, World, WorldFault};
 use std::alloc::Global;
 
 /// The bytes of a file. `ReadInput` where it can't be read, `OutOfMemory` where memory for it was
@@ -52,36 +53,31 @@ pub fn hand_over<C: Contents, T: Taker>(contents: C, taker: &mut T) -> Result<()
     }
 }
 
-/// Makes these the bytes of a file, and changes no other. `WriteOutput` where it can't be written,
-/// `OutOfMemory` where memory for that was refused.
-pub fn write_file<W: World>(world: &mut W, name: &str, bytes: &[u8]) -> Result<(), Fault>
+/// Makes these the bytes of a file, and changes no other. `WriteOutput` where it can't be written, or
+/// was read before; `OutOfMemory` where the system lacks memory.
+pub fn write_file<W: World>(world: &mut W, output: Output, bytes: &[u8]) -> Result<(), Fault>
     ensures logged { W.events world.new
-        ≡ Written name.now bytes.now (written_so result) ∷ W.events world.old }
+        ≡ Written (output_name output) bytes.now (written_so result) ∷ W.events world.old }
     ensures refused { IfErr result IsWriteRefused }
-    ensures acts { Does (Written name.now bytes.now (written_so result))
+    ensures acts { Does (Written (output_name output) bytes.now (written_so result))
         (W.memory world.old) (W.memory world.new) }
 {
-    match world.write(name, bytes) {
+    match world.write(output, bytes) {
         Ok(()) => Ok(()),
         Err(cause) => Err(unwritten(cause)),
     }
 }
 
-/// As `write_file`, and flushes the file, unless it is one that has no flush, as a pipe.
-/// `WriteOutput` also where the flush fails. No contract sees a flush.
-pub fn write_flushed<W: World>(
-    alloc: Global,
-    world: &mut W,
-    name: &str,
-    bytes: &[u8],
-) -> Result<(), Fault>
+/// As `write_file`, and flushes the file and its folder, unless it is one that has no flush, as a
+/// pipe. `WriteOutput` also where the flush fails. No contract sees a flush.
+pub fn write_flushed<W: World>(world: &mut W, output: Output, bytes: &[u8]) -> Result<(), Fault>
     ensures logged { W.events world.new
-        ≡ Written name.now bytes.now (written_so result) ∷ W.events world.old }
+        ≡ Written (output_name output) bytes.now (written_so result) ∷ W.events world.old }
     ensures refused { IfErr result IsWriteRefused }
-    ensures acts { Does (Written name.now bytes.now (written_so result))
+    ensures acts { Does (Written (output_name output) bytes.now (written_so result))
         (W.memory world.old) (W.memory world.new) }
 {
-    match world.write_flushed(alloc, name, bytes) {
+    match world.write_flushed(output, bytes) {
         Ok(()) => Ok(()),
         Err(cause) => Err(unwritten(cause)),
     }

@@ -11,7 +11,6 @@ use lms_book::{LastRead, ReadFault, StateStore, StoreFault, StoredBytes};
 use lms_params::OutOfMemory;
 use std::alloc::Global;
 use std::fs::OpenFile;
-use std::io::ErrorKind;
 use std::marker::Model;
 use std::rt::Files;
 use std::{fs, io};
@@ -28,6 +27,7 @@ pub struct FileStore<'a, R: Files> {
     writes: Record,
     given: LastRead,
     failures: u64,
+    refusal: Option<i32>,
 }
 
 impl<'a, R: Files> Model for FileStore<'a, R> {
@@ -65,11 +65,17 @@ impl<'a, R: Files> FileStore<'a, R> {
             writes: Record::new(),
             given: LastRead::none(),
             failures: 0,
+            refusal: None,
         })
     }
 
-    /// All bytes of the state's file. An error where they can't be read, or memory for them is
-    /// refused.
+    /// The path of the state's file, and why the system refused the last read that failed, if it did.
+    pub fn refusal(&self) -> Option<(&str, io::Error)> {
+        let reason = io::Error::from_raw_os_error(self.refusal?);
+        Some((self.state.as_str(), reason))
+    }
+
+    /// All bytes of the state's file. An error where they, or memory for them, can't be had.
     fn fetch(&self, alloc: Global) -> io::Result<Vec<u8>>
         ensures { IfOk result (λ text. AreLeft R.File R.File.remaining text.items) }
     {
@@ -128,10 +134,12 @@ impl<R: Files + Sync> StateStore for FileStore<'_, R> {
         match self.fetch(alloc) {
             Ok(text) if self.writes.knows(&text) => {
                 self.give(&text);
+                self.refusal = None;
                 Ok(text)
             }
-            Err(error) if error.kind() == ErrorKind::OutOfMemory => Err(ReadFault::OutOfMemory),
-            _ => {
+            Err(error) if error.kind() == io::ErrorKind::OutOfMemory => Err(ReadFault::OutOfMemory),
+            other => {
+                self.refusal = other.err().and_then(|error| error.raw_os_error());
                 self.fail();
                 Err(ReadFault::Device)
             }

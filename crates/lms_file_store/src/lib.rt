@@ -14,18 +14,22 @@
 
 mod drafts;
 mod fault;
+mod file_id;
 mod file_store;
 mod locking;
 mod nodes;
 mod outputs;
 mod paths;
+mod places;
 mod reading;
 mod record;
 mod witness;
 
 pub use crate::fault::LockFault;
+pub use crate::file_id::FileId;
 pub use crate::file_store::FileStore;
 pub use crate::locking::{StateLock, TryLock, lock};
 pub use crate::outputs::{write_flushed, write_output};
-pub use crate::witness::{MOST_WITNESS, WitnessDraft, make_witness};
+pub use crate::places::{Output, Place, plan_output};
+pub use crate::witness::{MOST_WITNESS, WitnessDraft, look_at_witness, make_witness};
 pub use lms_params::OutOfMemory;

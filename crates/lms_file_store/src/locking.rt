@@ -1,11 +1,10 @@
 //! The lock on a store's file.
-ghost use Rattle.std.specs.Prelude.{◌≡◌, IfOk, IsTrue, string_bytes};
+ghost use Rattle.std.specs.Prelude.{◌≡◌, IfOk, OnOk, string_bytes};
 
-use crate::fault::LockFault;
-use crate::paths::{OWNER_ONLY, exists, resolve, sibling};
+use crate::paths::{LOCK, OWNER_ONLY, exists, resolve, sibling};
 use std::alloc::Global;
 use std::fs::{File, OpenOptions};
-use std::io::ErrorKind;
+use std::io;
 use std::os::unix::fs::OpenOptionsExt;
 use std::rt::Files;
 
@@ -14,17 +13,17 @@ pub trait TryLock {
     /// The lock is acquired.
     ghost is_locked: { Self → Type 0 };
 
-    /// Tries to lock the whole file, without waiting. True only where it is locked now, which it
-    /// stays until it is dropped.
-    fn try_lock(&self) -> bool
-        ensures { IsTrue result → is_locked self.now };
+    /// Tries to lock the whole file, without waiting. `Ok` only where it is locked now, which it stays
+    /// until it is dropped; an error of the kind `WouldBlock` where another has the lock.
+    fn try_lock(&self) -> io::Result<()>
+        ensures { OnOk result (is_locked self.now) };
 }
 
 impl TryLock for File {
     ghost is_locked = { λ _. Unit {0} };
 
-    fn try_lock(&self) -> bool {
-        File::try_lock(self).is_ok()
+    fn try_lock(&self) -> io::Result<()> {
+        Ok(File::try_lock(self)?)
     }
 }
 
@@ -52,35 +51,27 @@ impl<F> StateLock<F> {
 }
 
 /// Locks the state of this name, without waiting, against other programs that call this, until the
-/// lock is dropped. `Unreachable` where the state's name can't be resolved or the lock's file can't
-/// be opened, `InUse` where that file can't be locked, `OutOfMemory` where memory for its path, or
-/// to open it, is refused.
+/// lock is dropped.
+///
+/// An error where the state's name can't be resolved, where the lock's file can't be opened or
+/// locked, and where memory for its path is refused: of the kind `WouldBlock` where another holds the
+/// lock. What each means says `LockFault::of`.
 ///
 /// The locked file is `NAME.lock` beside the state, where NAME is that of the state's file after
 /// symbolic links. It stays there and must not be removed: two programs could then hold a lock
 /// each, one on the old file and one on a new one.
-pub fn lock<R: Files>(files: &R, alloc: Global, name: &str) -> Result<StateLock<R::File>, LockFault>
+pub fn lock<R: Files>(files: &R, alloc: Global, name: &str) -> io::Result<StateLock<R::File>>
 where
     R::File: TryLock,
     ensures { IfOk result (λ lock. R.File.is_locked lock.file) }
 {
-    let path = match resolve(files, alloc, name) {
-        Ok(path) => path,
-        Err(error) if error.kind() == ErrorKind::OutOfMemory => return Err(LockFault::OutOfMemory),
-        Err(_) => return Err(LockFault::Unreachable),
-    };
-    let Ok(beside) = sibling(alloc, path.as_str(), ".lock") else {
-        return Err(LockFault::OutOfMemory);
-    };
-    let opened = OpenOptions::new()
+    let path = resolve(files, alloc, name)?;
+    let beside = sibling(alloc, path.as_str(), LOCK)?;
+    let file = OpenOptions::new()
         .write(true)
         .create(true)
         .mode(OWNER_ONLY)
-        .open(files, beside.as_str());
-    match opened {
-        Ok(file) if file.try_lock() => Ok(StateLock { path, file }),
-        Ok(_) => Err(LockFault::InUse),
-        Err(error) if error.kind() == ErrorKind::OutOfMemory => Err(LockFault::OutOfMemory),
-        Err(_) => Err(LockFault::Unreachable),
-    }
+        .open(files, beside.as_str())?;
+    file.try_lock()?;
+    Ok(StateLock { path, file })
 }

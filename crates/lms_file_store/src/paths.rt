@@ -17,6 +17,12 @@ pub(crate) const NODES: &str = ".nodes";
 /// How the name of the draft of kept nodes ends, after that of the state.
 pub(crate) const NODES_DRAFT: &str = ".nodes.new";
 
+/// How the name of a state's lock ends, after that of the state.
+pub(crate) const LOCK: &str = ".lock";
+
+/// How the name of a witness ends, after that of the state.
+pub(crate) const WITNESS: &str = ".witness";
+
 /// Reading and writing for the owner alone, since the state holds the secret seed.
 pub(crate) const OWNER_ONLY: u32 = 0o600;
 

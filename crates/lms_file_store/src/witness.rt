@@ -6,12 +6,14 @@ ghost use Rattle.lms_file_store.specs.FileStores.{AreLeft, AreWritten, AreWritte
 
 use crate::drafts::{fill_and_close, make_draft};
 use crate::locking::StateLock;
-use crate::outputs::leads_to_image;
-use crate::paths::{DRAFT, NODES, NODES_DRAFT, OWNER_ONLY, exists, folder_of, resolve, sibling};
+use crate::outputs::{leads_to_image, refusal};
+use crate::paths::{
+    DRAFT, NODES, NODES_DRAFT, OWNER_ONLY, WITNESS, exists, folder_of, resolve, sibling,
+};
 use crate::reading::read_at_most;
 use std::alloc::Global;
 use std::fs::{OpenFile, OpenOptions};
-use std::io::{ErrorKind, Seek, Write};
+use std::io::{Seek, Write};
 use std::os::unix::fs::OpenOptionsExt;
 use std::rt::Files;
 use std::{fs, io};
@@ -19,8 +21,8 @@ use std::{fs, io};
 /// The most bytes of a witness.
 pub const MOST_WITNESS: usize = 128;
 
-/// How the name of the file ends, after that of the state.
-const WITNESS: &str = ".witness";
+/// Why a file is no witness.
+const NO_WITNESS: &str = "no plain file of at most 128 bytes";
 
 /// What a draft has before it is written.
 const BLANK: [u8; MOST_WITNESS] = [b' '; MOST_WITNESS];
@@ -46,19 +48,7 @@ impl<F> StateLock<F> {
         ensures left { IfOk result (λ found.
             IfSome found (λ text. AreLeft R.File R.File.remaining text.items)) }
     {
-        let name = sibling(alloc, self.path(), WITNESS)?;
-        if !exists(files, name.as_str()) {
-            return Ok(None);
-        }
-        let found = fs::metadata(files, name.as_str())?;
-        if !found.is_file() || found.len() > MOST_WITNESS as u64 {
-            return Err(io::Error::from(ErrorKind::InvalidData));
-        }
-        let file = fs::open(files, name.as_str())?;
-        match read_at_most(alloc, file, MOST_WITNESS)? {
-            Some(text) => Ok(Some(text)),
-            None => Err(io::Error::from(ErrorKind::InvalidData)),
-        }
+        witness_beside(files, alloc, self.path())
     }
 
     /// Makes a new file `NAME.new`, NAME being what the witness's name leads to, which only the
@@ -79,7 +69,7 @@ impl<F> StateLock<F> {
         let path = resolve(files, alloc, name.as_str())?;
         let draft = sibling(alloc, path.as_str(), DRAFT)?;
         if leads_to_image(files, draft.as_str())? {
-            return Err(io::Error::from(ErrorKind::AlreadyExists));
+            return Err(refusal("a state has the name of its draft"));
         }
         let folder = fs::open(files, folder_of(path.as_str()))?;
         let file = make_draft(files, draft.as_str())?;
@@ -91,6 +81,43 @@ impl<F> StateLock<F> {
         };
         let has_room = drafted.make_room();
         drafted.or_removed(files, has_room)
+    }
+}
+
+/// The bytes of the witness of the state of this name, as `StateLock::read_witness`, without its lock:
+/// another program may have that, and replace both. An error also where nobody knows where the name
+/// leads.
+pub fn look_at_witness<R: Files>(
+    files: &R,
+    alloc: Global,
+    name: &str,
+) -> io::Result<Option<Vec<u8>>>
+    ensures at_most { IfOk result (λ found. IfSome found (λ text. length text.items ≤ 128)) }
+    ensures left { IfOk result (λ found.
+        IfSome found (λ text. AreLeft R.File R.File.remaining text.items)) }
+{
+    let state = resolve(files, alloc, name)?;
+    witness_beside(files, alloc, state.as_str())
+}
+
+/// As `StateLock::read_witness`, beside the state of this path.
+fn witness_beside<R: Files>(files: &R, alloc: Global, state: &str) -> io::Result<Option<Vec<u8>>>
+    ensures at_most { IfOk result (λ found. IfSome found (λ text. length text.items ≤ 128)) }
+    ensures left { IfOk result (λ found.
+        IfSome found (λ text. AreLeft R.File R.File.remaining text.items)) }
+{
+    let name = sibling(alloc, state, WITNESS)?;
+    if !exists(files, name.as_str()) {
+        return Ok(None);
+    }
+    let found = fs::metadata(files, name.as_str())?;
+    if !found.is_file() || found.len() > MOST_WITNESS as u64 {
+        return Err(refusal(NO_WITNESS));
+    }
+    let file = fs::open(files, name.as_str())?;
+    match read_at_most(alloc, file, MOST_WITNESS)? {
+        Some(text) => Ok(Some(text)),
+        None => Err(refusal(NO_WITNESS)),
     }
 }
 
@@ -114,7 +141,7 @@ pub fn make_witness<R: Files>(
 {
     let name = sibling(alloc, lock.path(), WITNESS)?;
     if exists(files, name.as_str()) {
-        return Err(io::Error::from(ErrorKind::AlreadyExists));
+        return Err(refusal("the state has a witness"));
     }
     let beside = fs::open(files, folder_of(name.as_str()))?;
     let file = OpenOptions::new()
@@ -153,13 +180,13 @@ fn linked<R: Files>(
     fill_and_close(file, text)?;
     let place = resolve(files, alloc, path)?;
     if is_written_over(files, alloc, state, place.as_str())? {
-        return Err(io::Error::from(ErrorKind::AlreadyExists));
+        return Err(refusal("the program writes it, or something has the name of its draft"));
     }
     fs::open(files, folder_of(place.as_str()))?.sync_all()?;
     if !exists(files, name) {
         files.symlink(place.as_str(), name)?;
     } else if resolve(files, alloc, name)?.as_str() != place.as_str() {
-        return Err(io::Error::from(ErrorKind::AlreadyExists));
+        return Err(refusal("the name beside the state leads elsewhere"));
     }
     Ok(place)
 }

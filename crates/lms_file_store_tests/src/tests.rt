@@ -11,6 +11,7 @@ use self::disk::{
 use lms_book::{ReadFault, StateStore, StoreFault};
 use lms_file_store::{FileStore, StateLock, lock};
 use std::fs::File;
+use std::io::ErrorKind;
 use std::test::Fail;
 
 /// A store in a file, for tests.
@@ -34,6 +35,14 @@ impl Tried<'_> {
         match self.store.read(self.rt.alloc()) {
             Ok(_) => false,
             Err(fault) => fault == ReadFault::Device,
+        }
+    }
+
+    /// Whether the system refused to read this file, the last time with this kind of error.
+    fn was_refused(&self, name: &str, kind: ErrorKind) -> bool {
+        match self.store.refusal() {
+            Some((path, reason)) => path.ends_with(name) && reason.kind() == kind,
+            None => false,
         }
     }
 
@@ -96,7 +105,8 @@ fn what_is_stored_is_read(rt: HostRuntime) -> Result<(), Fail> {
     let name = "file_store_reads/state";
     assert!(rt; begins(&rt, "file_store_reads"));
     let mut store = store_in(&rt, name)?;
-    assert!(rt; store.reads_none());
+    assert!(rt; store.store.refusal().is_none());
+    assert!(rt; store.reads_none() && store.was_refused(name, ErrorKind::NotFound));
     assert!(rt; store.keeps(name, b"a"));
     assert!(rt; store.keeps(name, b""));
     assert!(rt; store.keeps(name, &[7; 180]));
@@ -125,6 +135,7 @@ fn a_folder_is_no_state(rt: HostRuntime) -> Result<(), Fail> {
     assert!(rt; begins(&rt, "file_store_folder") && makes_folder(&rt, "file_store_folder/state"));
     let mut store = store_in(&rt, "file_store_folder/state")?;
     assert!(rt; store.refuses(b"b") && store.reads_none());
+    assert!(rt; store.was_refused("file_store_folder/state", ErrorKind::IsADirectory));
     assert!(rt; is_missing(&rt, "file_store_folder/state.new"));
     assert!(rt; clears(&rt, "file_store_folder"));
     assert!(rt; store.refuses(b"b") && store.reads_none());

@@ -1,42 +1,49 @@
 -- What the fields of an endorsement say of the keys and the signature that contracts see.
-use Rattle.std.proofs.Common.{ℕ, ◌≡◌, ◌+◌, ◌-◌, ◌^◌, ◌<◌, ◌≤◌, ◌↔◌, List, ◌++◌, length, refl, sym, ◌∙◌, ap, arith, inl}
-use Rattle.std.proofs.Common.{inr, subst}
+use Rattle.std.proofs.Common.{ℕ, ◌≡◌, ◌+◌, ◌-◌, ◌^◌, ◌<◌, ◌≤◌, ◌↔◌, List, ◌++◌, length, refl, sym, ◌∙◌, ap, arith}
+use Rattle.std.proofs.Common.{subst}
 use Rattle.lms_spec.specs.Bytes.{u32str}
 use Rattle.lms_spec.specs.Hss.{HssAccepts}
+use Rattle.lms_verification.specs.Heads.{lms_head}
 use Rattle.lms_hss.proofs.TopKeys.{accepts-by-numbers}
+use Rattle.lms_hss.specs.Verifying.{HasTaken}
+use Rattle.lms_hss.specs.declared.verification.Verifier.{Verifier}
 use Rattle.lms_join.specs.Joined.{count_of, after_count, joined_public, joined_signature}
-use Rattle.lms_join.specs.Endorsements.{EndorsementParts, HoldsEndorsement, endorsement_of, HasCountUnder}
-use Rattle.lms_join.specs.Endorsements.{LacksCountUnder}
+use Rattle.lms_join.specs.Endorsements.{EndorsementParts, HasMessageHead, HoldsEndorsement, endorsement_of}
 use Rattle.lms_join.proofs.Through.{cut-of-accepted}
 use Rattle.lms_join.proofs.Joins.{count-is, rest-is, joined-public-parts, joined-signature-parts, joined-exactly}
 
--- a signature with this number at its front has it as its count
-pub has-count : (n : ℕ) (public_key signature rest : List ℕ) → n < 2 ^ 32 → signature ≡ u32str n ++ rest
-    → n ≡ count_of public_key - 1 → HasCountUnder public_key signature
-has-count n public_key signature rest fits e same =
-    let long : 4 ≤ length (u32str n ++ rest) = omega arith in
-    record {
-      long_enough = subst (λ (text : List ℕ). 4 ≤ length text) (sym e) long;
-      count = count-is n signature rest fits e ∙ same;
-    }
+-- a signature with a message head is cut at its count
+pub cut-by-head : (n : ℕ) (public_key signature rest : List ℕ) → n < 2 ^ 32 → signature ≡ u32str n ++ rest
+    → HasMessageHead public_key signature → signature ≡ u32str (count_of public_key - 1) ++ rest
+cut-by-head n public_key signature rest fits e (head, is) =
+    let bottom = is.bottom in
+    let most = bottom.eight_at_most in
+    let levels : count_of public_key ≡ bottom.levels =
+    count-is bottom.levels public_key bottom.top_key (omega arith) bottom.key_parts in
+    let count : count_of signature ≡ bottom.levels - 1 =
+    count-is (bottom.levels - 1) signature bottom.signatures (omega arith) bottom.signature_parts in
+    let number : count_of signature ≡ n = count-is n signature rest fits e in
+    e ∙ ap (λ m. u32str m ++ rest) (sym number ∙ count ∙ ap (λ m. m - 1) (sym levels))
 
--- a signature that is accepted has the right count
-pub count-of-accepted : (public_key message signature : List ℕ) → HssAccepts public_key message signature
-    → HasCountUnder public_key signature
-count-of-accepted public_key message signature a =
-    let most = a.eight_at_most in
-    let levels : count_of public_key ≡ a.levels = count-is a.levels public_key a.top_key (omega arith) a.key_parts in
-    has-count (a.levels - 1) public_key signature a.signatures (omega arith) a.signature_parts
-    (ap (λ n. n - 1) (sym levels))
+-- and it is long enough for one
+pub long-by-head : (public_key signature : List ℕ) → HasMessageHead public_key signature → 4 ≤ length signature
+long-by-head public_key signature (head, is) =
+    let count = u32str (is.bottom.levels - 1) in
+    let long : 4 ≤ length (count ++ is.bottom.signatures) = omega arith in
+    subst (λ (text : List ℕ). 4 ≤ length text) (sym is.bottom.signature_parts) long
 
--- so none is accepted that lacks it
-pub never-accepted : (public_key signature message : List ℕ) → LacksCountUnder public_key signature
-    → ¬ HssAccepts public_key message signature
-never-accepted public_key signature message (inl short) a =
-    let has = count-of-accepted public_key message signature a in
-    absurd (omega (arith, short, has.long_enough))
-never-accepted public_key signature message (inr other) a =
-    other (count-of-accepted public_key message signature a).count
+-- a verifier that has begun knows the message head
+pub head-of-begun : (v : Verifier) (public_key signature taken : List ℕ) → HasTaken v public_key signature taken
+    → HasMessageHead public_key signature
+head-of-begun v public_key signature taken is = (
+  lms_head is.bottom_key is.bottom_signature,
+  record {
+    bottom_key = is.bottom_key;
+    bottom_signature = is.bottom_signature;
+    bottom = is.bottom;
+    head_is = refl;
+  },
+)
 
 -- the number of levels of the signer's key
 pub signer-count : (top_levels signer_levels : ℕ) (top_key signatures signer_key : List ℕ) (parts : EndorsementParts)

@@ -1,9 +1,10 @@
 -- What an endorsement holds, and which signatures are joined with it.
-use Rattle.std.specs.Prelude.{ℕ, ◌≡◌, ◌≢◌, ◌⊎◌, ◌+◌, ◌-◌, ◌<◌, ◌≤◌, List, ◌++◌, length}
+use Rattle.std.specs.Prelude.{ℕ, ◌≡◌, ◌+◌, ◌-◌, ◌≤◌, List, ◌++◌, length}
 use Rattle.lms_spec.specs.Bytes.{u32str}
 use Rattle.lms_spec.specs.Parameters.{lms_public_key_length}
 use Rattle.lms_spec.specs.Hss.{most_levels, AcceptsThrough, HssAccepts}
-use Rattle.lms_join.specs.Joined.{count_of, after_count}
+use Rattle.lms_hss.specs.Bottoms.{IsMessageHead}
+use Rattle.lms_join.specs.Joined.{after_count}
 use Rattle.lms_join.specs.Keys.{AreJoinable}
 
 -- a top public key, its signature of a signer's LMS public key, and the signer's public key
@@ -34,14 +35,7 @@ endorsement_of top_levels signer_levels top_key signatures signer_key = record {
   signer_public = u32str signer_levels ++ signer_key;
 }
 
--- the signature is long enough for a count of signed keys, and its count is the one that every
--- signature under the public key has (6.2)
-pub record HasCountUnder (public_key signature : List ℕ) : Type 0 where
-  pub long_enough : 4 ≤ length signature
-  pub count : count_of signature ≡ count_of public_key - 1
-
--- the signature is too short for a count of signed keys, or its count is another than every
--- signature under the public key has
-abbrev pub LacksCountUnder : List ℕ → List ℕ → Type 0
-LacksCountUnder public_key signature =
-    (length signature < 4) ⊎ (count_of signature ≢ count_of public_key - 1)
+-- the public key and the signature have a message head: the bottom level is reached, through keys
+-- that are each accepted by the one above, and the signature there is cut as its key says
+abbrev pub HasMessageHead : List ℕ → List ℕ → Type 0
+HasMessageHead public_key signature = (head : List ℕ) × IsMessageHead public_key signature head

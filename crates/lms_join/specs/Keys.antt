@@ -1,5 +1,5 @@
 -- HSS public keys of known typecodes, and which two can be joined.
-use Rattle.std.specs.Prelude.{ℕ, ◌≡◌, ◌+◌, ◌≤◌, List, ◌++◌}
+use Rattle.std.specs.Prelude.{ℕ, ◌≡◌, ◌+◌, ◌≤◌, List, ◌++◌, take, drop}
 use Rattle.lms_spec.specs.Bytes.{u32str}
 use Rattle.lms_spec.specs.Hss.{most_levels}
 use Rattle.lms_verification.specs.Parts.{HasSignaturesOf}
@@ -12,6 +12,10 @@ pub record IsHssPublicKey (levels : ℕ) (lms_key public_key : List ℕ) : Type 
   pub parts : public_key ≡ u32str levels ++ lms_key
   pub signature_length : ℕ
   pub known : HasSignaturesOf signature_length lms_key
+
+-- the identifier in an LMS public key, after its two typecodes (5.3)
+abbrev pub id_of : List ℕ → List ℕ
+id_of lms_key = take 16 (drop 8 lms_key)
 
 -- two HSS public keys of known typecodes whose levels are together at most eight
 pub record AreJoinable (top_public signer_public : List ℕ) : Type 0 where

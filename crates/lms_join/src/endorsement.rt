@@ -3,12 +3,12 @@ ghost use Rattle.std.specs.Prelude.{ℕ, ◌≡◌, ◌↔◌, ◌-◌, ◌++◌
 ghost use Rattle.lms_spec.specs.Bytes.{u32str};
 ghost use Rattle.lms_spec.specs.Hss.{HssAccepts};
 ghost use Rattle.lms_join.specs.Joined.{count_of, joined_public, joined_signature};
-ghost use Rattle.lms_join.specs.Endorsements.{IsEndorsed, HasCountUnder, LacksCountUnder};
+ghost use Rattle.lms_join.specs.Endorsements.{HasMessageHead, IsEndorsed};
 ghost use Rattle.lms_join.specs.Faults.{IsRefused};
 
 use crate::fault::EndorsementFault;
 use crate::keys::Keys;
-use lms_hss::{ChainEnds, HSS_KEY_LEN, LMS_KEY_LEN, OutOfMemory, verify_with};
+use lms_hss::{ChainEnds, HSS_KEY_LEN, LMS_KEY_LEN, OutOfMemory, Verifier, verify_with};
 use lms_params::split_u32;
 use std::alloc::Global;
 use std::marker::Model;
@@ -75,10 +75,17 @@ impl<'a> Endorsement<'a> {
 
     /// The joined signature of the endorsement and a signature by the signer's key, which may have
     /// any length (RFC 8554, 6.2): it is accepted for just the messages for which the signer's is.
-    /// `None` exactly where the signer's has fewer than four bytes, or counts another number of
-    /// signed keys in them than signatures by the signer's key have: it is accepted for no message
-    /// then. `OutOfMemory` where the count is right, and memory is refused.
-    pub fn join(&self, alloc: Global, signature: &[u8]) -> Result<Option<Vec<u8>>, OutOfMemory>
+    /// Chains are taken to their ends by `ends`. `None` exactly where the signer's key and the
+    /// signature have no message head, since the signature is malformed or one of its signed keys is
+    /// not accepted: it is accepted for no message then. `OutOfMemory` where they have one, and
+    /// memory is refused. A signature by another key of the signer's typecodes has one, too, where the
+    /// signer's has one level.
+    pub fn join<C: ChainEnds>(
+        &self,
+        alloc: Global,
+        signature: &[u8],
+        ends: C,
+    ) -> Result<Option<Vec<u8>>, OutOfMemory>
         ensures text { IfOk result (λ answer. IfSome answer (λ text. text.items
             ≡ joined_signature self.now.top_public self.now.endorsement
             self.now.signer_public signature.now)) }
@@ -86,15 +93,15 @@ impl<'a> Endorsement<'a> {
             → (HssAccepts
             (joined_public self.now.top_public self.now.signer_public) message text.items
             ↔ HssAccepts self.now.signer_public message signature.now))) }
-        ensures count { IfOk result (λ answer. IfSome answer (λ _.
-            HasCountUnder self.now.signer_public signature.now)) }
+        ensures head { IfOk result (λ answer. IfSome answer (λ _.
+            HasMessageHead self.now.signer_public signature.now)) }
         ensures none { IfOk result (λ answer. IfNone answer
-            (LacksCountUnder self.now.signer_public signature.now)) }
+            (¬ HasMessageHead self.now.signer_public signature.now)) }
         ensures never { IfOk result (λ answer. IfNone answer ((message : List ℕ)
             → ¬ HssAccepts self.now.signer_public message signature.now)) }
-        ensures memory { IfErr result (λ _. HasCountUnder self.now.signer_public signature.now) }
+        ensures memory { IfErr result (λ _. HasMessageHead self.now.signer_public signature.now) }
     {
-        let Some(signatures) = self.signatures_in(signature) else {
+        let Some(signatures) = self.signatures_in(signature, ends) else {
             return Ok(None);
         };
         let Keys { top, signer } = self.keys;
@@ -109,19 +116,20 @@ impl<'a> Endorsement<'a> {
         Ok(Some(text))
     }
 
-    /// What is after the count of signed keys in a signature by the signer's key. `None` exactly
-    /// where there are fewer than four bytes, or the count is not that of signatures by that key.
-    fn signatures_in<'s>(&self, signature: &'s [u8]) -> Option<&'s [u8]>
+    /// What is after the count of signed keys in a signature by the signer's key, which verifies them.
+    /// `None` exactly where the signer's key and the signature have no message head.
+    fn signatures_in<'s, C: ChainEnds>(&self, signature: &'s [u8], ends: C) -> Option<&'s [u8]>
         ensures some { IfSome result (λ rest. signature.now
             ≡ u32str (count_of self.now.signer_public - 1) ++ rest.now) }
-        ensures count { IfSome result (λ _.
-            HasCountUnder self.now.signer_public signature.now) }
-        ensures none { IfNone result (LacksCountUnder self.now.signer_public signature.now) }
+        ensures head { IfSome result (λ _.
+            HasMessageHead self.now.signer_public signature.now) }
+        ensures none { IfNone result (¬ HasMessageHead self.now.signer_public signature.now) }
+        ensures never { IfNone result ((message : List ℕ)
+            → ¬ HssAccepts self.now.signer_public message signature.now) }
     {
-        let (signed_keys, signatures) = split_u32(signature)?;
-        if signed_keys != self.keys.signer.levels - 1 {
-            return None;
-        }
+        let public = self.keys.signer.public();
+        let _verifier = Verifier::begin(&public, signature, ends)?;
+        let (_, signatures) = split_u32(signature)?;
         Some(signatures)
     }
 }

@@ -4,7 +4,7 @@ ghost use Rattle.lms_spec.specs.Bytes.{u32str};
 ghost use Rattle.lms_spec.specs.Hss.{most_levels};
 ghost use Rattle.lms_verification.specs.Parts.{HasSignaturesOf};
 ghost use Rattle.lms_join.specs.Joined.{joined_public as joined_public_of};
-ghost use Rattle.lms_join.specs.Keys.{IsHssPublicKey, AreJoinable};
+ghost use Rattle.lms_join.specs.Keys.{IsHssPublicKey, AreJoinable, id_of};
 
 use lms_hss::{HSS_KEY_LEN, LMS_KEY_LEN, MOST_LEVELS, public_key_bytes};
 use lms_params::split_u32;
@@ -59,15 +59,15 @@ impl<'a> Keys<'a> {
 
 /// An HSS public key: how many levels it has, and the LMS public key of its top tree (6.1).
 #[derive(Clone, Copy)]
-pub(crate) struct Key<'a> {
-    pub(crate) levels: u32,
-    pub(crate) lms_key: &'a [u8; LMS_KEY_LEN],
+pub struct Key<'a> {
+    pub levels: u32,
+    pub lms_key: &'a [u8; LMS_KEY_LEN],
 }
 
 impl<'a> Key<'a> {
-    /// Cuts a public key. `None` exactly where it has no known typecodes, not 60 bytes, or not one
-    /// to eight levels.
-    fn parse(public: &'a [u8]) -> Option<Self>
+    /// Cuts a public key. `None` exactly where it has other than 60 bytes, typecodes that are not
+    /// known, or other than one to eight levels.
+    pub fn parse(public: &'a [u8]) -> Option<Self>
         ensures some { IfSome result (λ key.
             IsHssPublicKey key.levels key.lms_key.now public.now) }
         ensures none { IfNone result ((levels : ℕ) (lms_key : List ℕ)
@@ -80,6 +80,23 @@ impl<'a> Key<'a> {
         let _length = signature_len_under(rest)?;
         let lms_key = rest.as_array::<LMS_KEY_LEN>()?;
         Some(Key { levels, lms_key })
+    }
+
+    /// The identifier I of the top tree (5.3).
+    pub fn id(&self) -> [u8; 16]
+        ensures { result ≡ id_of self.now.lms_key.now }
+    {
+        let lms_key = self.lms_key;
+        let mut id = [0; 16];
+        id.copy_from_slice(&lms_key[8..24]);
+        id
+    }
+
+    /// The public key (6.1).
+    pub(crate) fn public(&self) -> [u8; HSS_KEY_LEN]
+        ensures { result ≡ u32str self.now.levels ++ self.now.lms_key.now }
+    {
+        public_key_bytes(self.levels, self.lms_key)
     }
 }
 

@@ -11,4 +11,4 @@ pub mod laws;
 
 pub use crate::endorsement::Endorsement;
 pub use crate::fault::EndorsementFault;
-pub use crate::keys::join_public;
+pub use crate::keys::{Key, join_public};

@@ -148,7 +148,13 @@ fails_to_join_keys_in_memory public signer out fault old new earlier now (inl (r
       same_held old new is.files is.state is.may_fail is.in_use is.nodes is.nodes_fault is.witness,
     )
 fails_to_join_keys_in_memory public signer out fault old new earlier now
-    (inr (top_public, signer_public, last, reads, inl (at, apart, none))) follows =
+    (inr (top_public, signer_public, last, reads, inl (inr (at, joinable), none))) follows =
+    let first = Read signer (Ok signer_public) ∷ Read public (Ok top_public) ∷ [] in
+    let added : Adds earlier now = record { calls = first; are = none ∙ reads } in
+    let is = told old new added follows in
+    (inl at, same_held old new is.files is.state is.may_fail is.in_use is.nodes is.nodes_fault is.witness)
+fails_to_join_keys_in_memory public signer out fault old new earlier now
+    (inr (top_public, signer_public, last, reads, inl (inl (at, apart), none))) follows =
     let first = Read signer (Ok signer_public) ∷ Read public (Ok top_public) ∷ [] in
     let added : Adds earlier now = record { calls = first; are = none ∙ reads } in
     let is = told old new added follows in (

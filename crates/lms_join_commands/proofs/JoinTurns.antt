@@ -88,7 +88,7 @@ module _ (public signer out : Bytes) (before printed : List ℕ) (same : printed
       → Ends HandsJoinedKey whole before printed
   join_keys_failed_turn fault whole (inl (refused, inl calls)) = no_key whole _ calls refl refl refl
   join_keys_failed_turn fault whole (inl (refused, inr (one, calls))) = no_key whole _ calls refl refl refl
-  join_keys_failed_turn fault whole (inr (top_public, signer_public, last, reads, inl (at, apart, none))) =
+  join_keys_failed_turn fault whole (inr (top_public, signer_public, last, reads, inl (why, none))) =
       no_key whole _ (none ∙ reads) refl refl refl
   join_keys_failed_turn fault whole (inr (top_public, signer_public, last, reads, inr (joinable, refused, calls))) =
       writes_key top_public signer_public (Err (write_cause fault)) last whole reads joinable calls

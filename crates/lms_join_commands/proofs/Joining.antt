@@ -2,7 +2,7 @@
 use Rattle.std.proofs.Common.{◌≡◌, ◌∙◌, ◌∷◌, ◌↔◌, ℕ, List, Result, Ok, Err, ap, inr, subst₂}
 use Rattle.std.specs.Prelude.{IfErr, OnOk}
 use Rattle.lms_spec.specs.Hss.{HssAccepts}
-use Rattle.lms_join.specs.Endorsements.{EndorsementParts, HasCountUnder, IsEndorsed}
+use Rattle.lms_join.specs.Endorsements.{EndorsementParts, HasMessageHead, IsEndorsed}
 use Rattle.lms_join.specs.Joined.{joined_public, joined_signature}
 use Rattle.lms_join.specs.Keys.{AreJoinable}
 use Rattle.lms_world.specs.Names.{Bytes}
@@ -89,7 +89,7 @@ Endorsed it = IsEndorsed it.top_public it.endorsement it.signer_public
 -- what is joined with a signature
 pub record IsJoinedWith (it : EndorsementParts) (signature joined : List ℕ) : Type 0 where
   pub endorsed : Endorsed it
-  pub count : HasCountUnder it.signer_public signature
+  pub head : HasMessageHead it.signer_public signature
   pub bytes : joined ≡ joined_signature it.top_public it.endorsement it.signer_public signature
   pub accepted : (message : List ℕ)
       → (HssAccepts (joined_public it.top_public it.signer_public) message joined
@@ -100,7 +100,7 @@ pub joins_parts : (parts : JoinParts) (it : EndorsementParts) (signature joined 
     → IsJoinedWith it signature joined → JoinsParts parts joined
 joins_parts parts it signature joined it_is signature_is is =
     let here = subst₂ (λ (e : EndorsementParts) (s : List ℕ). IsJoinedWith e s joined) it_is signature_is is in
-    record { endorsed = here.endorsed; count = here.count; bytes = here.bytes; accepted = here.accepted }
+    record { endorsed = here.endorsed; head = here.head; bytes = here.bytes; accepted = here.accepted }
 
 -- and what is said of the signer's key and the signature
 pub judged : (Says : List ℕ → List ℕ → Type 0) (parts : JoinParts) (it : EndorsementParts) (signature : List ℕ)

@@ -4,7 +4,7 @@ use Rattle.std.specs.Prelude.{ℕ, ◌≡◌, ◌⊎◌, ◌↔◌, List, [], �
 use Rattle.lms_spec.specs.Hss.{HssAccepts}
 use Rattle.lms_join.specs.Joined.{after_count, joined_public, joined_signature}
 use Rattle.lms_join.specs.Keys.{AreJoinable}
-use Rattle.lms_join.specs.Endorsements.{HasCountUnder, IsEndorsed, LacksCountUnder}
+use Rattle.lms_join.specs.Endorsements.{HasMessageHead, IsEndorsed}
 use Rattle.lms_world.specs.Names.{Bytes}
 use Rattle.lms_world.specs.Events.{Read, Written, after}
 use Rattle.lms_commands.specs.Logs.{IsReadRefused, IsWriteRefused, WorldCalls, read_cause, write_cause}
@@ -43,7 +43,7 @@ pub record JoinParts : Type 0 where
 -- joined public key, for just the messages for which the signer's signature is
 pub record JoinsParts (parts : JoinParts) (joined : List ℕ) : Type 0 where
   pub endorsed : IsEndorsed parts.public parts.endorsement parts.signer
-  pub count : HasCountUnder parts.signer parts.signature
+  pub head : HasMessageHead parts.signer parts.signature
   pub bytes : joined
       ≡ joined_signature parts.public parts.endorsement parts.signer parts.signature
   pub accepted : (message : List ℕ)
@@ -62,8 +62,8 @@ abbrev pub AreUnjoined : JoinParts → Fault → Type 0
 AreUnjoined parts fault =
     AreUnendorsed parts.public parts.endorsement parts.signer fault
     ⊎ (IsEndorsed parts.public parts.endorsement parts.signer
-    × (((fault ≡ BadSignature) × LacksCountUnder parts.signer parts.signature)
-    ⊎ ((fault ≡ OutOfMemory) × HasCountUnder parts.signer parts.signature)))
+    × (((fault ≡ BadSignature) × ¬ HasMessageHead parts.signer parts.signature)
+    ⊎ ((fault ≡ OutOfMemory) × HasMessageHead parts.signer parts.signature)))
 
 -- all four are read
 abbrev pub ReadsParts : JoinNames → JoinParts → WorldCalls → WorldCalls → Type 0
@@ -97,6 +97,12 @@ LogsJoinFailed names fault old new =
     ⊎ ((joined : List ℕ) × JoinsParts parts joined × IsWriteRefused fault
     × (new ≡ after (Written names.out joined (Err (write_cause fault)) ∷ []) last))))
 
+-- why two public keys are not joined: they can't be, or memory is refused for what the file of the joined one needs
+abbrev pub AreUnjoinedKeys : List ℕ → List ℕ → Fault → Type 0
+AreUnjoinedKeys top_public signer_public fault =
+    ((fault ≡ BadPublicKey) × ¬ AreJoinable top_public signer_public)
+    ⊎ ((fault ≡ OutOfMemory) × AreJoinable top_public signer_public)
+
 -- all calls of `join-public`: two files are read, and then the joined public key is written, once
 abbrev pub LogsJoinKeys : Bytes → Bytes → Bytes → WorldCalls → WorldCalls → Type 0
 LogsJoinKeys public signer out old new =
@@ -111,7 +117,7 @@ LogsJoinKeysFailed public signer out fault old new =
     FailsToReadTwo public signer fault old new
     ⊎ ((top_public signer_public : List ℕ) × (last : WorldCalls)
     × ReadsTwo public signer top_public signer_public old last
-    × (((fault ≡ BadPublicKey) × (¬ AreJoinable top_public signer_public) × (new ≡ last))
+    × ((AreUnjoinedKeys top_public signer_public fault × (new ≡ last))
     ⊎ (AreJoinable top_public signer_public × IsWriteRefused fault
     × (new ≡ after
     (Written out (joined_public top_public signer_public) (Err (write_cause fault)) ∷ []) last))))

@@ -6,6 +6,7 @@ ghost use Rattle.lms_join_commands.specs.JoinLogs.{AreUnendorsed, AreUnjoined, F
 ghost use Rattle.lms_join_commands.specs.Requests.{names_of, parts_of};
 
 use crate::files::read_two;
+use crate::why::explain_keys;
 use lms_commands::{Fault, write_file};
 use lms_hss::ByEights;
 use lms_join::{Endorsement, EndorsementFault};
@@ -29,8 +30,8 @@ pub struct JoinRequest<'a> {
 ///
 /// Faults, in this order: `ReadInput` where a file can't be read; `BadPublicKey` where the two keys
 /// can't be joined, `BadEndorsement` where the top key did not sign the signer's, `BadSignature`
-/// where the signature counts another number of signed keys than the signer's key has; `WriteOutput`
-/// where the file can't be written. `OutOfMemory` where memory for what is read, joined or written
+/// where the signer's key and the signature have no message head; `WriteOutput` where the file can't
+/// be written. `OutOfMemory` where memory for what is read, joined or written
 /// is refused.
 pub fn join_signature<W: World>(
     alloc: Global,
@@ -45,8 +46,10 @@ pub fn join_signature<W: World>(
         (W.memory world.new) (W.events world.new) }
 {
     let parts = read_parts(alloc, world, request)?;
+    explain_keys(world, &parts.public, &parts.signer);
     let joined = join_parts(alloc, &parts)?;
-    write_file(world, request.out, &joined)
+    let out = world.plan_output(alloc, request.out)?;
+    write_file(world, out, &joined)
 }
 
 /// What is joined.
@@ -77,15 +80,16 @@ fn read_parts<W: World>(alloc: Global, world: &mut W, request: &JoinRequest) -> 
     })
 }
 
-/// The joined signature. Faults, in this order: those of `endorsement_in`; `BadSignature` where the
-/// signature counts another number of signed keys than the signer's key has, or is too short for a
-/// count; `OutOfMemory` where memory for the joined signature is refused.
+/// The joined signature. Faults, in this order: those of `endorsement_in`; `BadSignature` exactly
+/// where the signer's key and the signature have no message head, since the signature is malformed or
+/// one of its signed keys is not accepted; `OutOfMemory` where memory for the joined signature is
+/// refused.
 fn join_parts(alloc: Global, parts: &Parts) -> Result<Vec<u8>, Fault>
     ensures joins { IfOk result (λ joined. JoinsParts (parts_of parts.now) joined.items) }
     ensures unjoined { IfErr result (λ fault. AreUnjoined (parts_of parts.now) fault) }
 {
     let endorsement = endorsement_in(&parts.public, &parts.endorsement, &parts.signer)?;
-    let joined = endorsement.join(alloc, &parts.signature)?;
+    let joined = endorsement.join(alloc, &parts.signature, ByEights)?;
     match joined {
         Some(text) => Ok(text),
         None => Err(Fault::BadSignature),

@@ -7,6 +7,7 @@ ghost use Rattle.lms_world.specs.Held.{Follows};
 ghost use Rattle.lms_join_commands.specs.JoinLogs.{LogsJoinKeys, LogsJoinKeysFailed};
 
 use crate::files::read_two;
+use crate::why::explain_keys;
 use lms_commands::{Fault, write_flushed};
 use lms_hss::HSS_KEY_LEN;
 use lms_world::World;
@@ -33,8 +34,10 @@ pub fn join_public_keys<W: World>(
         (W.memory world.new) (W.events world.new) }
 {
     let (top_public, signer_public) = read_two(alloc, world, public, signer)?;
+    explain_keys(world, &top_public, &signer_public);
     let key = joined_key(&top_public, &signer_public)?;
-    write_flushed(alloc, world, out, &key)
+    let file = world.plan_output(alloc, out)?;
+    write_flushed(world, file, &key)
 }
 
 /// The public key of joined signatures. `BadPublicKey` exactly where the two can't be joined.

@@ -6,6 +6,7 @@ mod files;
 mod join;
 mod join_public;
 pub mod laws;
+mod why;
 
 pub use crate::join::{JoinRequest, join_signature};
 pub use crate::join_public::join_public_keys;

@@ -57,7 +57,7 @@ fn joined(
 ) -> Result<Texts, Fail> {
     let endorsement = Endorsement::new(&top.public, &top.signature, signer, ByEights)?;
     let text = endorsement
-        .join(rt.alloc(), signature)?
+        .join(rt.alloc(), signature, ByEights)?
         .ok_or("a signature by the signer's key")?;
     Ok(Texts {
         public: endorsement.public(),
@@ -243,18 +243,54 @@ fn refuses_signatures_of_other_keys(rt: HostRuntime) -> Result<(), Fail> {
     let top = endorsed(&rt, &[QUICK], &signer.public)?;
     let two_levels = signed(&rt, &[QUICK; 2], 0x44, 3, b"abc")?;
     let other = signed(&rt, &[QUICK], 0x45, 3, b"abc")?;
-    let endorsement = Endorsement::new(&top.public, &top.signature, &signer.public, ByEights)?;
-    assert!(rt;
-        endorsement
-            .join(rt.alloc(), &two_levels.signature)?
-            .is_none()
-    );
-    assert!(rt; endorsement.join(rt.alloc(), &[0, 0, 0])?.is_none());
-    let text = endorsement
-        .join(rt.alloc(), &other.signature)?
-        .ok_or("a count of signed keys")?;
-    assert!(rt; !verify(&endorsement.public(), b"abc", &text));
+    assert!(rt; !is_joined(&rt, &top, &signer.public, &two_levels.signature)?);
+    assert!(rt; !is_joined(&rt, &top, &signer.public, &[0, 0, 0])?);
+    let text = joined(&rt, &top, &signer.public, &other.signature)?;
+    assert!(rt; !verify(&text.public, b"abc", &text.signature));
     Ok(())
+}
+
+/// Whether a signature is joined with a top key's endorsement of a signer's key.
+fn is_joined(
+    rt: &impl AllocGlobal,
+    top: &Texts,
+    signer: &[u8],
+    signature: &[u8],
+) -> Result<bool, Fail> {
+    let endorsement = Endorsement::new(&top.public, &top.signature, signer, ByEights)?;
+    let text = endorsement.join(rt.alloc(), signature, ByEights)?;
+    Ok(text.is_some())
+}
+
+/// A signature of two levels is not joined where it is cut, where its key is another's and where a
+/// byte of the signature of its lower key is changed; one whose message is another is.
+#[test]
+fn refuses_signatures_that_are_not_begun(rt: HostRuntime) -> Result<(), Fail> {
+    let signer = signed(&rt, &[QUICK; 2], 0x44, 3, b"abc")?;
+    let other = signed(&rt, &[QUICK; 2], 0x45, 3, b"abc")?;
+    let top = endorsed(&rt, &[QUICK], &signer.public)?;
+    assert!(rt; is_joined(&rt, &top, &signer.public, &signer.signature)?);
+    assert!(rt; !is_joined(&rt, &top, &signer.public, &other.signature)?);
+    let shorter = signer.signature.len().saturating_sub(1);
+    let cut = signer.signature.get(..shorter).unwrap_or(&[]);
+    assert!(rt; !is_joined(&rt, &top, &signer.public, cut)?);
+    assert!(rt; !is_joined_changed(&rt, &top, &signer, 100)?);
+    assert!(rt; is_joined_changed(&rt, &top, &signer, shorter)?);
+    Ok(())
+}
+
+/// Whether the signature is joined with the lowest bit of this byte changed.
+fn is_joined_changed(
+    rt: &impl AllocGlobal,
+    top: &Texts,
+    signer: &Texts,
+    at: usize,
+) -> Result<bool, Fail> {
+    let mut changed = Vec::from_slice(rt.alloc(), &signer.signature)?;
+    if let Some(byte) = changed.get_mut(at) {
+        *byte ^= 1;
+    }
+    is_joined(rt, top, &signer.public, &changed)
 }
 
 #[test]

@@ -149,9 +149,11 @@ keygen_turn key state public before printed whole (last, publishes, line, calls)
 pub keygen_failed_turn : (key : KeyOfCode) (state public : Bytes) (before printed : List ℕ) (fault : Fault)
     (whole : WorldCalls)
     → LogsKeygenFailed key state public before printed fault [] whole → Ends HandsKeyAtMost whole before printed
-keygen_failed_turn key state public before printed fault whole (inl (refused, calls, same)) =
+keygen_failed_turn key state public before printed fault whole (inl (at, calls, same)) =
     (StoresNothing, idle_as whole _ calls refl refl, inl (ap written_in calls, same))
-keygen_failed_turn key state public before printed fault whole (inr (last, never, calls)) =
+keygen_failed_turn key state public before printed fault whole (inr (inl (refused, calls, same))) =
+    (StoresNothing, idle_as whole _ calls refl refl, inl (ap written_in calls, same))
+keygen_failed_turn key state public before printed fault whole (inr (inr (last, never, calls))) =
     let is = unmade (Locked state Acquired ∷ []) refl refl refl refl key public before printed last fault never in (
       is.0,
       one_more whole Unlocked refl calls is.1,

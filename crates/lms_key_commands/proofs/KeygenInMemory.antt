@@ -19,7 +19,8 @@ use Rattle.lms_commands.specs.Logs.{LogsUnopened, PutsBack, WorldCalls, write_ca
 use Rattle.lms_commands.specs.declared.fault.Fault.{Fault}
 use Rattle.lms_commands.specs.declared.fault.Fault.TheVariants.{OutOfMemory}
 use Rattle.lms_commands.proofs.AtState.{AreStill, left_by, not_locked, unopened}
-use Rattle.lms_commands.proofs.Telling.{Adds, IsRefused, KeepsOnly, Told, and_kept, and_then, keeps_only, same_held}
+use Rattle.lms_commands.proofs.Telling.{Adds, IsRefused, KeepsOnly, Told, and_kept, and_then, keeps_only}
+use Rattle.lms_commands.proofs.Telling.{nothing_done, same_held}
 use Rattle.lms_commands.proofs.Telling.{told, unlocked, until_printing, written_file}
 use Rattle.lms_key_commands.proofs.WitnessInMemory.{there}
 
@@ -147,8 +148,11 @@ makes_key_in_memory key state public before printed old new earlier now (last, p
 
 pub fails_to_make_key_in_memory : FailsToMakeKeyInMemory
 fails_to_make_key_in_memory key state public before printed fault old new earlier now
-    (inl (refused, calls, same)) follows =
+    (inl (at, calls, same)) follows =
+    inl (inl at, nothing_done old new calls follows)
+fails_to_make_key_in_memory key state public before printed fault old new earlier now
+    (inr (inl (refused, calls, same))) follows =
     inl (not_locked fault state earlier now old new refused calls follows)
 fails_to_make_key_in_memory key state public before printed fault old new earlier now
-    (inr (last, never, calls)) follows =
+    (inr (inr (last, never, calls))) follows =
     unmade key state public calls old new follows before printed fault never

@@ -90,11 +90,13 @@ LogsKeygen key state public before printed old new =
     × (printed ≡ before ++ capacity_line key)
     × (new ≡ after (Unlocked ∷ []) last)
 
--- the same, where it fails
+-- the same, where it fails: no call is made, since memory is refused for what the file of the public key needs; or the
+-- state is not locked, or no key is made under the lock
 abbrev pub LogsKeygenFailed : KeyOfCode → Bytes → Bytes → List ℕ → List ℕ → Fault → WorldCalls
     → WorldCalls → Type 0
 LogsKeygenFailed key state public before printed fault old new =
-    (IsLockRefused fault × (new ≡ after (Locked state (lock_answer fault) ∷ []) old) × (printed ≡ before))
+    ((fault ≡ OutOfMemory) × (new ≡ old) × (printed ≡ before))
+    ⊎ ((IsLockRefused fault × (new ≡ after (Locked state (lock_answer fault) ∷ []) old) × (printed ≡ before))
     ⊎ ((last : WorldCalls)
     × LogsUnmade key public before printed fault (after (Locked state Acquired ∷ []) old) last
-    × (new ≡ after (Unlocked ∷ []) last))
+    × (new ≡ after (Unlocked ∷ []) last)))

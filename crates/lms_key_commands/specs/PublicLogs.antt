@@ -40,8 +40,8 @@ LogsPublic state public before printed old new =
     (read : KeyState) × (last : WorldCalls) × ReadsKey state read old last
     × PublishesOf read.key public before printed last new
 
--- the same, where it fails: the key is not read, memory is refused for its top tree, or it is not
--- published
+-- the same, where it fails: the key is not read, memory is refused for what its file needs or for its top tree, or it
+-- is not published
 abbrev pub LogsPublicFailed : Bytes → Bytes → List ℕ → List ℕ → Fault → WorldCalls → WorldCalls
     → Type 0
 LogsPublicFailed state public before printed fault old new =

@@ -6,6 +6,7 @@ ghost use Rattle.lms_key_commands.specs.Keygen.{IsKeyOf, IsNoKey, IsTaken};
 ghost use Rattle.lms_texts.specs.Seeds.{on_input};
 ghost use Rattle.lms_commands.specs.Logs.{FailsToPublish, Publishes};
 ghost use Rattle.lms_key_commands.specs.KeygenLogs.{AreGenuineTrees, capacity_line, LeavesUnstored, LogsKeygen, LogsKeygenFailed, LogsUnmade, LogsUnstored, PublishesKey, StoresKey};
+ghost use Rattle.lms_world.specs.Events.{output_name};
 ghost use Rattle.lms_world.specs.Held.{Follows};
 
 use crate::watch::see_none;
@@ -16,7 +17,7 @@ use lms_image::{Image, encode_image};
 use lms_kept::KeptTrees;
 use lms_params::HASH_LEN;
 use lms_texts::{print_capacity, read_bytes, read_levels, read_seed};
-use lms_world::{Printer, World};
+use lms_world::{Output, Printer, World};
 use std::alloc::Global;
 use std::io::{Read, Write};
 use std::thread::Threads;
@@ -67,9 +68,9 @@ fn key_of(levels: Levels, seed: [u8; HASH_LEN], id: [u8; 16]) -> HssKey
 /// state is there, `WitnessExists` where a witness is beside it and `ReadWitness` where that can't
 /// be read, `WriteState` where the state may not have been stored, and `WriteOutput` where the
 /// public key can't be written or the capacity not printed: the state is the new key's then.
-/// `OutOfMemory` may come before the state is written, which stays as it was, or while the public
-/// key is written, and then the state is the new key's. No file is written before the state is
-/// stored, and the lock is held to the end. A new key has no witness.
+/// `OutOfMemory` may come before the state is written, which stays as it was, or where the system
+/// lacks memory to write the public key, and then the state is the new key's. No file is written
+/// before the state is stored, and the lock is held to the end. A new key has no witness.
 ///
 /// The top tree's nodes are kept beside the state, once that is stored, for the first signature.
 /// Where that can't be done, that is no fault.
@@ -90,8 +91,9 @@ pub fn make_key<W: World, O: Write>(
     ensures follows { Follows (W.memory world.old) (W.events world.old)
         (W.memory world.new) (W.events world.new) }
 {
+    let file = world.plan_output(resources.alloc, public)?;
     let lock = lock_state(resources.alloc, world, state)?;
-    let made = make_locked(resources, world, &lock, key, public, output);
+    let made = make_locked(resources, world, &lock, key, file, output);
     world.unlock(lock);
     made
 }
@@ -102,13 +104,13 @@ fn make_locked<W: World, O: Write>(
     world: &mut W,
     lock: &W::Lock,
     key: HssKey,
-    public: &str,
+    file: Output,
     output: &mut Printer<O>,
 ) -> Result<(), Fault>
-    ensures logged { OnOk result (PublishesKey key public.now output.old
+    ensures logged { OnOk result (PublishesKey key (output_name file) output.old
         (W.events world.old) (W.events world.new) × (output.new ≡ output.old ++ capacity_line key)) }
     ensures log_failed { IfErr result (λ fault. LogsUnmade
-        key public.now output.old output.new fault (W.events world.old) (W.events world.new)) }
+        key (output_name file) output.old output.new fault (W.events world.old) (W.events world.new)) }
     ensures follows { Follows (W.memory world.old) (W.events world.old)
         (W.memory world.new) (W.events world.new) }
 {
@@ -119,28 +121,27 @@ fn make_locked<W: World, O: Write>(
     let trees = store_key(resources, world, lock, key)?;
     keep_trees(resources.alloc, world, lock, &trees);
     let text = trees.public();
-    publish(resources.alloc, world, public, &text, &key, output)
+    publish(world, file, &text, &key, output)
 }
 
 /// Writes a key's public key to a file, flushes that, and then prints the key's capacity.
-/// `OutOfMemory` where memory for the file was refused, `WriteOutput` where it can't be written or
-/// flushed, or the capacity not printed.
+/// `OutOfMemory` where the system lacks memory to write the file, `WriteOutput` where it can't be
+/// written or flushed, or the capacity not printed.
 pub(crate) fn publish<W: World, O: Write>(
-    alloc: Global,
     world: &mut W,
-    name: &str,
+    file: Output,
     public_key: &[u8],
     key: &HssKey,
     output: &mut Printer<O>,
 ) -> Result<(), Fault>
-    ensures published { OnOk result (Publishes name.now public_key.now (capacity_line key.now)
+    ensures published { OnOk result (Publishes (output_name file) public_key.now (capacity_line key.now)
         output.old output.new (W.events world.old) (W.events world.new)) }
-    ensures failed { IfErr result (λ fault. FailsToPublish name.now public_key.now
+    ensures failed { IfErr result (λ fault. FailsToPublish (output_name file) public_key.now
         (capacity_line key.now) output.old output.new fault (W.events world.old) (W.events world.new)) }
     ensures follows { Follows (W.memory world.old) (W.events world.old)
         (W.memory world.new) (W.events world.new) }
 {
-    write_flushed(alloc, world, name, public_key)?;
+    write_flushed(world, file, public_key)?;
     world.begin_printing(output);
     Ok(print_capacity(output, key.capacity())?)
 }

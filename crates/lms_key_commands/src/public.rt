@@ -20,8 +20,8 @@ use std::thread::Threads;
 ///
 /// In this order: `StateInUse` where the state's lock is not available, `ReadState` where the state
 /// can't be read, `BadState` where it is no image, and `WriteOutput` where the public key can't be
-/// written or the capacity not printed. `OutOfMemory` may come anywhere before the public key is
-/// written, or while it is. The state stays as it was.
+/// written or the capacity not printed. `OutOfMemory` may come anywhere before the tree is computed,
+/// or where the system lacks memory to write the file. The state stays as it was.
 ///
 /// `resources.progress` gets how many leaves of the top tree are computed.
 pub fn publish_key<W: World, O: Write>(
@@ -39,8 +39,9 @@ pub fn publish_key<W: World, O: Write>(
         (W.memory world.new) (W.events world.new) }
 {
     let key = read_key(resources.alloc, world, state)?;
+    let file = world.plan_output(resources.alloc, public)?;
     let text = key.public_key_watched(resources.rt, resources.alloc, resources.progress)?;
-    publish(resources.alloc, world, public, &text, &key, output)
+    publish(world, file, &text, &key, output)
 }
 
 /// The key of a state, read under its lock, which is handed back. Faults as

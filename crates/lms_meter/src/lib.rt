@@ -1,8 +1,12 @@
-//! How far a run that computes trees is, printed to standard error.
+//! How far a run that computes trees is, and what one that reads a terminal waits for, printed to
+//! standard error.
 #![tactic(auto)]
+
+mod asking;
 
 ghost use Rattle.std.specs.Prelude.{◌≡◌};
 
+pub use crate::asking::Asking;
 use lms_tree::Progress;
 use std::io;
 use std::io::{Print, Read, Write};

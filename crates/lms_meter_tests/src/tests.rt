@@ -1,5 +1,5 @@
 //! What is printed of how far a run is, by a clock that is set.
-use lms_meter::{Meter, Wiping};
+use lms_meter::{Asking, Meter, Wiping};
 use lms_tree::Progress;
 use std::fmt::Display;
 use std::io::{Print, Read, Write};
@@ -167,6 +167,23 @@ fn on_a_terminal_a_line_goes_before_a_read(rt: HostRuntime) -> Result<(), Fail> 
     assert!(rt; input.read(&mut block)? == 4);
     assert!(rt; &block[..4] == b"more".as_slice());
     assert!(rt; errors.is("\r\x1b[K4 of 4 leaves\r\x1b[K"));
+    Ok(())
+}
+
+#[test]
+fn an_input_is_asked_for_once(rt: HostRuntime) -> Result<(), Fail> {
+    let errors = Kept::new(&rt);
+    let mut input = Asking::new(&errors, Some("waits for more"), b"more".as_slice());
+    assert!(rt; errors.is(""));
+    let mut block = [0; 3];
+    assert!(rt; input.read(&mut block)? == 3 && block == *b"mor");
+    assert!(rt; errors.is("waits for more\n"));
+    assert!(rt; input.read(&mut block)? == 1 && input.read(&mut block)? == 0);
+    let mut unasked = Asking::new(&errors, None, b"more".as_slice());
+    assert!(rt; unasked.read(&mut block)? == 3);
+    assert!(rt; errors.is("waits for more\n"));
+    let mut refused = Asking::new(&Closed, Some("waits"), b"more".as_slice());
+    assert!(rt; refused.read(&mut block)? == 3);
     Ok(())
 }
 

@@ -39,16 +39,19 @@ module _ (watch : Watch) (before after_it : BookState) (view : StoreView) (old o
       → GivesOne before after_it → index ≡ counter before
       → noted ≡ notes 1 watch before.key.i before.base (Ok tt) ++ back → LogsKeeping trees noted new
       → IsSignedByText nodes before.key index random message signature trees
-      → LogsSigned nodes random message index signature old new
-  log_signed nodes random message index signature trees noted new gives at noted_is keeps signed = record {
-    state = state_of before;
-    to_keep = trees;
-    until_stored = noted;
-    next = at ∙ is_fresh.used;
-    stores = (by, back, uses_one gives, noted_is);
-    keeps = keeps;
-    signed = signed;
-  }
+      → (signs : LogsSigned nodes random message index signature old new) × (signs.state ≡ state_of before)
+  log_signed nodes random message index signature trees noted new gives at noted_is keeps signed = (
+    record {
+      state = state_of before;
+      to_keep = trees;
+      until_stored = noted;
+      next = at ∙ is_fresh.used;
+      stores = (by, back, uses_one gives, noted_is);
+      keeps = keeps;
+      signed = signed;
+    },
+    refl,
+  )
 
   -- it was not
   pub log_unnoted : (fault : Fault) (new : WorldCalls) → GivesOne before after_it

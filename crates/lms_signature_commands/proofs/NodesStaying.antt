@@ -10,7 +10,7 @@ use Rattle.lms_commands.specs.InMemory.{KeepsNodes, KeepsRight}
 use Rattle.lms_signature_commands.specs.SignInMemory.{NodesStayRight, UsesIndex}
 
 -- the nodes that were read are right, where what is kept is
-are_right : (nodes : Option Way) (text held : Option (List ℕ)) (key : KeyOfCode) → AreNodesOf text key nodes
+pub are_right : (nodes : Option Way) (text held : Option (List ℕ)) (key : KeyOfCode) → AreNodesOf text key nodes
     → IfSome text (λ bytes. held ≡ Some bytes)
     → KeepsRight held key → AreRight nodes
 are_right None text held key of were right = tt
@@ -20,7 +20,7 @@ are_right (Some way) text held key of were right =
 same_text : (a b : List ℕ) → Some a ≡ Some b → a ≡ b
 same_text a b is = cc is
 
-stay : (nodes : Option (List ℕ)) (random message : List ℕ) (index : ℕ) (signature : List ℕ) (old new : Held)
+pub stay : (nodes : Option (List ℕ)) (random message : List ℕ) (index : ℕ) (signature : List ℕ) (old new : Held)
     → (uses : UsesIndex nodes random message index signature old new) → IfSome nodes (λ bytes. old.nodes ≡ Some bytes)
     → KeepsRight old.nodes uses.state.key → KeepsNodes uses.trees old.nodes new.nodes
     → KeepsRight new.nodes uses.state.key

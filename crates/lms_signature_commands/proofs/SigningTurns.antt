@@ -40,11 +40,11 @@ Delivers before printed whole = (turn : Turn) × (signatures : List Signature) �
 
 module _ (old : WorldCalls) (quiet : list_any hands_out old ≡ false) (none : kept_calls old ≡ [])
     (unseen : found_in old ≡ []) (no_file : written_in old ≡ []) where
-  abbrev signature_of : {random message : List ℕ} {out : Bytes} {answer : Writing} {new : WorldCalls}
+  abbrev pub signature_of : {random message : List ℕ} {out : Bytes} {answer : Writing} {new : WorldCalls}
       → WritesSignature random message out answer old new → Signature
   signature_of writes = record { key = writes.signs.state.key; index = writes.index; bytes = writes.signature }
 
-  writes_one : (random message : List ℕ) (out : Bytes) (answer : Writing) (new : WorldCalls)
+  pub writes_one : (random message : List ℕ) (out : Bytes) (answer : Writing) (new : WorldCalls)
       (writes : WritesSignature random message out answer old new)
       → (turn : Turn) × IsTurn turn (signature_of writes ∷ []) new × AreWritten (signature_of writes ∷ []) new
   writes_one random message out written new writes =
@@ -73,7 +73,7 @@ module _ (old : WorldCalls) (quiet : list_any hands_out old ≡ false) (none : k
         (ap written_in delivers.prints ∙ written.2, inr (signature_of delivers.writes, refl, line)),
       )
 
-  not_signed : (new : WorldCalls) (nodes : Option (List ℕ)) (fault : Fault)
+  pub not_signed : (new : WorldCalls) (nodes : Option (List ℕ)) (fault : Fault)
       → LogsNotSigned fault (NodesRead nodes ∷ old) new → Quietly (NodesRead nodes ∷ old) new
   not_signed new nodes fault (inl never) =
       (StoresNothing, unwatched (NodesRead nodes ∷ old) quiet none unseen new fault never)
@@ -113,13 +113,15 @@ pub sign_failed_turn : (asked : Signing) (before printed : List ℕ) (fault : Fa
     → LogsSignFailed asked before printed fault [] whole → Delivers before printed whole
 sign_failed_turn asked before printed fault whole (inl (bad, calls, same, no_hex)) =
     nothing_delivered before printed whole _ calls refl refl refl same
-sign_failed_turn asked before printed fault whole (inr (inl (refused, calls, same, hex))) =
+sign_failed_turn asked before printed fault whole (inr (inl (at, calls, same, hex))) =
+    nothing_delivered before printed whole _ calls refl refl refl same
+sign_failed_turn asked before printed fault whole (inr (inr (inl (refused, calls, same, hex)))) =
     nothing_delivered before printed whole _ calls refl refl refl same
 sign_failed_turn asked before printed fault whole
-    (inr (inr (inl (text, refused, calls, same, hex)))) =
+    (inr (inr (inr (inl (text, refused, calls, same, hex))))) =
     nothing_delivered before printed whole _ calls refl refl refl same
 sign_failed_turn asked before printed fault whole
-    (inr (inr (inr (c, text, last, decoded, never, calls)))) =
+    (inr (inr (inr (inr (c, text, last, decoded, never, calls))))) =
     unlocked before printed last whole calls
     (undelivered (until_locked asked text []) refl refl refl refl c text asked.out before printed fault last never)
 

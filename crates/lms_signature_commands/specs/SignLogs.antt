@@ -14,7 +14,7 @@ use Rattle.lms_commands.specs.Watching.{LogsUnwatched, UnsignedWatched, UsesWatc
 use Rattle.lms_texts.specs.Options.{IsHexOf}
 use Rattle.lms_spec.specs.HashLength.{hash_length}
 use Rattle.lms_commands.specs.declared.fault.Fault.{Fault}
-use Rattle.lms_commands.specs.declared.fault.Fault.TheVariants.{BadRandom, WriteOutput}
+use Rattle.lms_commands.specs.declared.fault.Fault.TheVariants.{BadRandom, OutOfMemory, WriteOutput}
 use Rattle.lms_signature_commands.specs.declared.sign.SignRequest.{SignRequest}
 
 -- the use of a state's next index is stored for certain, and said by its witness, where it has one,
@@ -111,6 +111,11 @@ abbrev pub HasNoRandomizer : Signing → List ℕ → List ℕ → Fault → Wor
 HasNoRandomizer asked before printed fault old new =
     (fault ≡ BadRandom) × (new ≡ old) × (printed ≡ before) × ¬ IsHexOf hash_length asked.randomizer
 
+-- memory is refused for what the file of the signature needs, and no call is made
+abbrev pub PlansNoFile : Signing → List ℕ → List ℕ → Fault → WorldCalls → WorldCalls → Type 0
+PlansNoFile asked before printed fault old new =
+    (fault ≡ OutOfMemory) × (new ≡ old) × (printed ≡ before) × IsHexOf hash_length asked.randomizer
+
 -- the message is not read
 abbrev pub ReadsNoMessage : Signing → List ℕ → List ℕ → Fault → WorldCalls → WorldCalls → Type 0
 ReadsNoMessage asked before printed fault old new =
@@ -135,6 +140,7 @@ DeliversNone asked before printed fault old new =
 abbrev pub LogsSignFailed : Signing → List ℕ → List ℕ → Fault → WorldCalls → WorldCalls → Type 0
 LogsSignFailed asked before printed fault old new =
     HasNoRandomizer asked before printed fault old new
+    ⊎ (PlansNoFile asked before printed fault old new
     ⊎ (ReadsNoMessage asked before printed fault old new
     ⊎ (LocksNoState asked before printed fault old new
-    ⊎ DeliversNone asked before printed fault old new))
+    ⊎ DeliversNone asked before printed fault old new)))

@@ -10,9 +10,10 @@ mod serve;
 mod sign;
 mod verdict;
 mod verify;
+mod why;
 
 pub use crate::batch::sign_jobs;
 pub use crate::serve::serve_jobs;
-pub use crate::sign::{SignRequest, sign_file};
+pub use crate::sign::{SignRequest, randomizer_from, sign_file, sign_opened};
 pub use crate::verdict::Verdict;
 pub use crate::verify::verify_files;

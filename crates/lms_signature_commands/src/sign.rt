@@ -1,27 +1,29 @@
 //! `sign`: a message signed with the next index of a key's state.
-ghost use Rattle.std.specs.Prelude.{◌++◌, ◌≡◌, IfErr, IfOk, OnOk, codes, option_map};
+ghost use Rattle.std.specs.Prelude.{[], ◌++◌, ◌≡◌, IfErr, IfOk, OnOk, codes, option_map};
 ghost use Rattle.lms_spec.specs.HashLength.{hash_length};
 ghost use Rattle.lms_kept.specs.Signed.{IsSignedByText};
 ghost use Rattle.lms_book.specs.Books.{counter};
 ghost use Rattle.lms_signature_commands.specs.Signing.{of_signing};
 ghost use Rattle.lms_texts.specs.Descriptions.{number_line};
 ghost use Rattle.lms_texts.specs.Options.{IsHexOf};
-ghost use Rattle.lms_commands.specs.Logs.{FailsToPublish, LogsKeeping, Publishes};
+ghost use Rattle.lms_commands.specs.Logs.{FailsToPublish, LogsKeeping, Publishes, WorldCalls, state_of};
+ghost use Rattle.lms_commands.specs.Watching.{OpensWatched, UnsignedWatched, watch_of};
 ghost use Rattle.lms_signature_commands.specs.SignLogs.{index_line, DeliversSignature, IsRandomizer, LogsNotSigned, LogsSign, LogsSignFailed, LogsSigned, LogsUndelivered, asked_of};
+ghost use Rattle.lms_world.specs.Events.{output_name};
 ghost use Rattle.lms_world.specs.Held.{Follows};
 ghost use Rattle.lms_signature_commands.specs.Signing.{GivesOne, SignsNothing};
 
 use lms_batch::Job;
 use lms_book::{Book, BookFault, StateStore};
 use lms_commands::{
-    Fault, Resources, discard, image_read, keep_trees, kept_text, lock_state, note, open_watched,
-    read_file, write_file,
+    Fault, Resources, Witness, discard, image_read, keep_trees, kept_text, lock_state, note,
+    open_watched, read_file, write_file,
 };
 use lms_hss::Progress;
 use lms_kept::{KeptSignature, sign_lease};
 use lms_params::{HASH_LEN, OutOfMemory};
 use lms_texts::{print_index, read_bytes};
-use lms_world::{Printer, World};
+use lms_world::{Output, Printer, World};
 use std::alloc::Global;
 use std::io::Write;
 use std::thread::Threads;
@@ -87,13 +89,14 @@ pub fn sign_file<W: World, O: Write>(
         (W.memory world.new) (W.events world.new) }
 {
     let randomizer = randomizer_from(request.random)?;
+    let out = world.plan_output(resources.alloc, request.out)?;
     let message = read_file(resources.alloc, world, request.message)?;
     let job = Job {
         c: randomizer,
         message,
     };
     let lock = lock_state(resources.alloc, world, request.state)?;
-    let done = sign_locked(resources, world, &lock, &job, request.out, output);
+    let done = sign_locked(resources, world, &lock, &job, out, output);
     world.unlock(lock);
     done
 }
@@ -104,14 +107,14 @@ fn sign_locked<W: World, O: Write>(
     world: &mut W,
     lock: &W::Lock,
     job: &Job,
-    out: &str,
+    out: Output,
     output: &mut Printer<O>,
 ) -> Result<(), Fault>
     ensures logged { OnOk result ((delivers : DeliversSignature
-        job.now.c job.now.message.items out.now output.old (W.events world.old) (W.events world.new))
+        job.now.c job.now.message.items (output_name out) output.old (W.events world.old) (W.events world.new))
         × (output.new ≡ output.old ++ index_line delivers.writes)) }
     ensures log_failed { IfErr result (λ fault. LogsUndelivered job.now.c job.now.message.items
-        out.now output.old output.new fault (W.events world.old) (W.events world.new)) }
+        (output_name out) output.old output.new fault (W.events world.old) (W.events world.new)) }
     ensures follows { Follows (W.memory world.old) (W.events world.old)
         (W.memory world.new) (W.events world.new) }
 {
@@ -121,7 +124,7 @@ fn sign_locked<W: World, O: Write>(
 }
 
 /// The randomizer of a text of 64 hexadecimal digits, else `BadRandom`.
-fn randomizer_from(text: &str) -> Result<[u8; HASH_LEN], Fault>
+pub fn randomizer_from(text: &str) -> Result<[u8; HASH_LEN], Fault>
     ensures read { IfOk result (IsRandomizer text.now) }
     ensures refused { IfErr result (λ fault.
         (fault ≡ Fault.BadRandom) × ¬ IsHexOf hash_length text.now) }
@@ -130,19 +133,19 @@ fn randomizer_from(text: &str) -> Result<[u8; HASH_LEN], Fault>
 }
 
 /// Writes a signature to a file, and then prints its index. `WriteOutput` where either can't be
-/// done, also where memory for the file was refused, since the index is used.
+/// done, also where the system lacks memory to write the file, since the index is used.
 fn deliver<W: World, O: Write>(
     world: &mut W,
-    out: &str,
+    out: Output,
     signed: &KeptSignature,
     output: &mut Printer<O>,
 ) -> Result<(), Fault>
     ensures published { OnOk result (Publishes
-        out.now signed.now.signature.items (number_line (codes "index") signed.now.index)
+        (output_name out) signed.now.signature.items (number_line (codes "index") signed.now.index)
         output.old output.new (W.events world.old) (W.events world.new)) }
     ensures failed { IfErr result (λ fault. (fault ≡ Fault.WriteOutput)
         × ((cause : Fault) × FailsToPublish
-        out.now signed.now.signature.items (number_line (codes "index") signed.now.index)
+        (output_name out) signed.now.signature.items (number_line (codes "index") signed.now.index)
         output.old output.new cause (W.events world.old) (W.events world.new))) }
     ensures follows { Follows (W.memory world.old) (W.events world.old)
         (W.memory world.new) (W.events world.new) }
@@ -152,7 +155,10 @@ fn deliver<W: World, O: Write>(
             world.begin_printing(output);
             Ok(print_index(output, signed.index)?)
         }
-        Err(_) => Err(Fault::WriteOutput),
+        Err(_) => {
+            world.explain(format_args!("; index {} is used", signed.index));
+            Err(Fault::WriteOutput)
+        }
     }
 }
 
@@ -175,7 +181,40 @@ fn sign_stored<W: World>(
     ensures follows { Follows (W.memory world.old) (W.events world.old)
         (W.memory world.new) (W.events world.new) }
 {
-    let (mut book, witness) = open_watched(resources.alloc, world, lock)?;
+    let (book, witness) = open_watched(resources.alloc, world, lock)?;
+    sign_opened(resources, world, lock, (book, witness), job, kept)
+}
+
+/// Signs a message with the next index of a book that was just opened with its witness, by
+/// `open_watched`, as `sign_file` does: by what was `kept` of the key's trees where that signs what is
+/// accepted. Then the book's store is put back, the witness replaced, and the trees that signed kept
+/// where they are others.
+///
+/// Faults, in this order: `Exhausted`; `WriteStateBurnt` where the use of the index may not have been
+/// stored; once it was, `OutOfMemoryBurnt`, and `WriteWitnessBurnt` where the witness may not say so.
+/// `OutOfMemory` may come before `WriteStateBurnt`.
+pub fn sign_opened<W: World>(
+    resources: &Resources<impl Threads + Sync, impl Progress>,
+    world: &mut W,
+    lock: &W::Lock,
+    opened: (Book<W::Store>, Option<Witness<W::Draft>>),
+    job: &Job,
+    kept: Option<&[u8]>,
+) -> Result<KeptSignature, Fault>
+    requires fresh { opened.0.history ≡ [] }
+    ensures logged { (before : WorldCalls)
+        → OpensWatched (watch_of opened.1) opened.0 before (W.events world.old)
+        → IfOk result (λ signed. (signs : LogsSigned (option_map (λ text. text.now) kept.entry)
+        job.now.c job.now.message.items signed.index signed.signature.items before
+        (W.events world.new)) × (signs.state ≡ state_of opened.0)) }
+    ensures log_failed { (before : WorldCalls)
+        → OpensWatched (watch_of opened.1) opened.0 before (W.events world.old)
+        → IfErr result (λ fault.
+        UnsignedWatched 1 fault (state_of opened.0) before (W.events world.new)) }
+    ensures follows { Follows (W.memory world.old) (W.events world.old)
+        (W.memory world.new) (W.events world.new) }
+{
+    let (mut book, witness) = opened;
     let read = image_read(&book);
     let signed = sign_reserved(resources, &mut book, job, kept);
     world.put_back(lock, book.close());

@@ -7,6 +7,7 @@ ghost use Rattle.lms_signature_commands.specs.VerifyLogs.{LogsVerify, LogsVerify
 ghost use Rattle.lms_world.specs.Held.{Follows};
 
 use crate::verdict::{Verdict, print_verdict};
+use crate::why::explain_verdict;
 use lms_commands::{Fault, hand_over, open_file, read_file};
 use lms_hss::{ByEights, Verifier};
 use lms_world::{Printer, Taker, World};
@@ -41,6 +42,7 @@ pub fn verify_files<W: World, O: Write>(
     let verdict = judge.finish();
     world.begin_printing(output);
     print_verdict(output, verdict)?;
+    explain_verdict(world, verdict, &public, &signature);
     Ok(verdict)
 }
 

@@ -1,13 +1,16 @@
 //! The command-line program.
 #![tactic(auto)]
 
+mod hint;
 mod streams;
 
+use crate::hint::hint_for;
 use crate::streams::hold_closed_streams;
 use lms_cli::run::{report, run};
 use lms_commands::{Fault, Resources};
-use lms_meter::{Meter, Wiping};
-use lms_world::{DiskWorld, Printer};
+use lms_disk::DiskWorld;
+use lms_meter::{Asking, Meter, Wiping};
+use lms_world::Printer;
 use std::env;
 use std::io::{ErrorKind, IsTerminal};
 use std::process::ExitCode;
@@ -17,25 +20,31 @@ fn main(rt: HostRuntime) -> ExitCode {
     let mut errors = rt.stderr();
     let held = hold_closed_streams(&rt);
     let meter_output = rt.stderr();
-    let meter = Meter::new(&rt, &meter_output, meter_output.is_terminal());
+    let is_shown = meter_output.is_terminal();
+    let meter = Meter::new(&rt, &meter_output, is_shown);
     let arguments = if held.is_ok() {
         arguments(&rt)
     } else {
         Err(Fault::ReadInput)
     };
     let status = match arguments {
-        Ok(arguments) => run(
-            &Resources {
-                rt: &rt,
-                alloc: rt.alloc(),
-                progress: &meter,
-            },
-            arguments.as_slice(),
-            &mut DiskWorld::new(&rt),
-            &mut Wiping::new(&meter, rt.reader()),
-            &mut Printer::new(Wiping::new(&meter, rt.stdout())),
-            &mut Wiping::new(&meter, rt.stderr()),
-        ),
+        Ok(arguments) => {
+            let is_typed = is_shown && rt.stdin().is_terminal();
+            let hint = if is_typed { hint_for(&arguments) } else { None };
+            run(
+                &Resources {
+                    rt: &rt,
+                    alloc: rt.alloc(),
+                    progress: &meter,
+                    looked_on: is_shown,
+                },
+                arguments.as_slice(),
+                &mut DiskWorld::new(rt.alloc(), &rt),
+                &mut Wiping::new(&meter, Asking::new(&meter_output, hint, rt.reader())),
+                &mut Printer::new(Wiping::new(&meter, rt.stdout())),
+                &mut Wiping::new(&meter, rt.stderr()),
+            )
+        }
         Err(fault) => report(fault, &mut errors),
     };
     drop(held);

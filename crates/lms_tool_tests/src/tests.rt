@@ -1,6 +1,7 @@
 mod arguments;
 mod batch;
 mod batch_faults;
+mod endorsements;
 mod kept;
 mod lines;
 mod memory;
@@ -14,7 +15,7 @@ use lms_cli::run::run;
 use lms_commands::Resources;
 use lms_hss::Unwatched;
 use lms_slow::vectors::ONE_5_8;
-use lms_world::{MemoryWorld, Printer, World, WorldFault};
+use lms_world::{MemoryWorld, OutOfMemory, Printer, World, WorldFault};
 use std::alloc::Global;
 use std::io::{Read, Write};
 use std::sync::Wait;
@@ -79,6 +80,7 @@ fn status_of<W: World, I: Read, O: Write, E: Write>(
             rt,
             alloc: rt.alloc(),
             progress: &Unwatched,
+            looked_on: false,
         },
         arguments,
         world,
@@ -151,10 +153,23 @@ fn fails_with(
     ends(rt, arguments, world, status, "", line)
 }
 
+/// Makes these the bytes of a file.
+fn write<W: World>(
+    alloc: Global,
+    world: &mut W,
+    name: &str,
+    bytes: &[u8],
+) -> Result<(), WorldFault> {
+    match world.plan_output(alloc, name) {
+        Ok(output) => world.write(output, bytes),
+        Err(OutOfMemory) => Err(WorldFault::OutOfMemory),
+    }
+}
+
 /// Writes the bytes of a text of hexadecimal digits.
 fn write_hex(alloc: Global, world: &mut MemoryWorld, name: &str, digits: &str) -> Result<(), Fail> {
     let bytes = hex::decode(alloc, digits)?;
-    world.write(name, &bytes)?;
+    write(alloc, world, name, &bytes)?;
     Ok(())
 }
 
@@ -162,7 +177,7 @@ fn write_hex(alloc: Global, world: &mut MemoryWorld, name: &str, digits: &str) -
 fn signed(alloc: Global) -> Result<MemoryWorld, Fail> {
     let mut world = MemoryWorld::new(alloc);
     write_hex(alloc, &mut world, "key.pub", ONE_5_8.public)?;
-    world.write("text", ONE_5_8.message.as_bytes())?;
+    write(alloc, &mut world, "text", ONE_5_8.message.as_bytes())?;
     write_hex(alloc, &mut world, "text.sig", ONE_5_8.signature)?;
     Ok(world)
 }

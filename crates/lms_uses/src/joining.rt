@@ -43,8 +43,7 @@ pub fn endorse<S: StateStore>(
 }
 
 /// Joins a signature by a signer's key with a top key's endorsement of that key. `None` where it is
-/// too short for a count of signed keys, or counts another number than the signer's signatures do:
-/// it is valid for no message then. An error where the keys can't be joined, where the endorsement
+/// malformed, or one of its signed keys is not accepted: it is valid for no message then. An error where the keys can't be joined, where the endorsement
 /// is not valid, and where memory is refused.
 pub fn join(
     alloc: Global,
@@ -62,7 +61,7 @@ pub fn join(
         signer,
         ByEights,
     )?;
-    match endorsement.join(alloc, signature)? {
+    match endorsement.join(alloc, signature, ByEights)? {
         Some(signature) => Ok(Some(Joined {
             public: endorsement.public(),
             signature,

@@ -4,6 +4,7 @@ use Rattle.std.specs.Prelude.{String, string_bytes}
 use Rattle.std.specs.Global.{Global, Vec}
 use Rattle.lms_book.specs.Stops.{StoreView}
 use Rattle.lms_file_store.specs.declared.fault.LockFault.{LockFault}
+use Rattle.lms_file_store.specs.declared.places.Output.{Output}
 use Rattle.lms_file_store.specs.declared.fault.LockFault.TheVariants as fault
 use Rattle.lms_world.specs.Names.{Bytes}
 use Rattle.lms_world.specs.declared.fault.WorldFault.{WorldFault}
@@ -57,6 +58,10 @@ pub data Event : Type 0 where
 abbrev pub after : List Event → List Event → List Event
 after [] log = log
 after (event ∷ later) log = after later (event ∷ log)
+
+-- the name of the file that an output is to be written to
+abbrev pub output_name : Output → Bytes
+output_name output = string_bytes output.name
 
 -- what a read comes to
 abbrev pub read_of : {E : Type 0} → Result (Vec ℕ) E → Result (List ℕ) E

@@ -1,20 +1,21 @@
-//! The log of a world, as contracts see it, and what is logged. At run time nothing is kept of it.
+//! The log of a world, as contracts see it, and what a world logs. At run time nothing is kept of it.
 ghost use Rattle.std.specs.Prelude.{Some, Ok};
 ghost use Rattle.std.specs.Borrow.{ftrue};
 ghost use Rattle.lms_world.specs.Events as events;
 
 use crate::contents::Contents;
 use crate::fault::WorldFault;
+pub use crate::printer::Beginning;
 use lms_book::StateStore;
 use lms_ghost_log::{GhostLog, Logged};
 use std::marker::Model;
 
 /// The calls that were made on a world, the newest first.
-pub(crate) type Log = GhostLog<Event>;
+pub type Log = GhostLog<Event>;
 
 /// A call, as contracts see it. No code makes one.
 #[derive(Drop)]
-pub(crate) struct Event {
+pub struct Event {
     ghost event: { events.Event },
 }
 
@@ -28,7 +29,7 @@ impl Model for Event {
 
 /// A call whose entry needs none of a world's own types.
 #[derive(Drop)]
-pub(crate) enum Call<'a> {
+pub enum Call<'a> {
     Read {
         name: &'a str,
         answer: &'a Result<Vec<u8>, WorldFault>,
@@ -87,9 +88,9 @@ impl Logged<Event> for Call<'_> {
 }
 
 /// This file is opened.
-pub(crate) struct OpenedAs<'a, C: Contents> {
-    pub(crate) name: &'a str,
-    pub(crate) contents: &'a C,
+pub struct OpenedAs<'a, C: Contents> {
+    pub name: &'a str,
+    pub contents: &'a C,
 }
 
 impl<C: Contents> Drop for OpenedAs<'_, C> {
@@ -107,8 +108,8 @@ impl<C: Contents> Logged<Event> for OpenedAs<'_, C> {
 
 /// A draft of the witness is made, or not.
 #[derive(Drop)]
-pub(crate) struct Drafted<'a, D: Drop> {
-    pub(crate) answer: &'a Result<D, WorldFault>,
+pub struct Drafted<'a, D: Drop> {
+    pub answer: &'a Result<D, WorldFault>,
 }
 
 impl<D: Drop> Logged<Event> for Drafted<'_, D> {
@@ -116,8 +117,8 @@ impl<D: Drop> Logged<Event> for Drafted<'_, D> {
 }
 
 /// This store is taken out.
-pub(crate) struct TakenOut<'a, S: StateStore> {
-    pub(crate) store: &'a S,
+pub struct TakenOut<'a, S: StateStore> {
+    pub store: &'a S,
 }
 
 impl<S: StateStore> Drop for TakenOut<'_, S> {
@@ -132,8 +133,8 @@ impl<S: StateStore> Logged<Event> for TakenOut<'_, S> {
 }
 
 /// This store is put back.
-pub(crate) struct PutIn<'a, S: StateStore> {
-    pub(crate) store: &'a S,
+pub struct PutIn<'a, S: StateStore> {
+    pub store: &'a S,
 }
 
 impl<S: StateStore> Drop for PutIn<'_, S> {

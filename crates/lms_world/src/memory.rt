@@ -8,12 +8,14 @@ ghost use Rattle.lms_world.specs.Files.{answer_of, entry_of, files_in, held_in, 
 use crate::contents::{Contents, Taker};
 use crate::fault::WorldFault;
 use crate::log::{Call, Drafted, Log, OpenedAs, PutIn, TakenOut};
+use crate::note::Note;
 use crate::printer::{Beginning, Printer};
 use crate::world::World;
 use lms_book::MemoryStore;
-use lms_file_store::LockFault;
+use lms_file_store::{LockFault, Output};
 use lms_params::OutOfMemory;
 use std::alloc::{AllocError, Global};
+use std::fmt::{Display, Write as _};
 use std::io::Write;
 
 mod beside;
@@ -38,6 +40,8 @@ pub struct MemoryWorld {
     nodes_fault: Option<WorldFault>,
     // The bytes of the witness, or by which fault it can't be read or written.
     witness: Result<Option<Vec<u8>>, WorldFault>,
+    // What was explained.
+    note: Note,
     // The calls that were made on it.
     log: Log,
 }
@@ -79,6 +83,7 @@ impl MemoryWorld {
             nodes: None,
             nodes_fault: None,
             witness: Ok(None),
+            note: Note::new(),
             log: Log::new(),
         }
     }
@@ -225,7 +230,12 @@ impl World for MemoryWorld {
         }
     }
 
-    fn write(&mut self, name: &str, bytes: &[u8]) -> Result<(), WorldFault> {
+    fn plan_output(&self, alloc: Global, name: &str) -> Result<Output, OutOfMemory> {
+        Output::in_place(alloc, name)
+    }
+
+    fn write(&mut self, output: Output, bytes: &[u8]) -> Result<(), WorldFault> {
+        let name = output.name.as_str();
         let answer = self.set(name, bytes);
         self.log = self.log.and(&Call::Written {
             name,
@@ -235,13 +245,8 @@ impl World for MemoryWorld {
         answer
     }
 
-    fn write_flushed(
-        &mut self,
-        _alloc: Global,
-        name: &str,
-        bytes: &[u8],
-    ) -> Result<(), WorldFault> {
-        self.write(name, bytes)
+    fn write_flushed(&mut self, output: Output, bytes: &[u8]) -> Result<(), WorldFault> {
+        self.write(output, bytes)
     }
 
     fn lock(&mut self, _alloc: Global, name: &str) -> Result<MemoryLock, LockFault> {
@@ -313,6 +318,16 @@ impl World for MemoryWorld {
         answer
     }
 
+    fn look_at_witness(
+        &mut self,
+        alloc: Global,
+        _name: &str,
+    ) -> Result<Option<Vec<u8>>, WorldFault> {
+        let seen = self.copy_of_witness(alloc);
+        self.log = self.log.and(&Call::WitnessRead { answer: &seen });
+        seen
+    }
+
     fn draft_witness(
         &mut self,
         alloc: Global,
@@ -342,6 +357,14 @@ impl World for MemoryWorld {
         let answer = &made;
         self.log = self.log.and(&Call::WitnessMade { name, text, answer });
         made
+    }
+
+    fn note(&self) -> &Note {
+        &self.note
+    }
+
+    fn explain<D: Display + Drop>(&mut self, text: D) {
+        let _ = write!(self.note, "{text}");
     }
 
     fn begin_printing<O: Write>(&mut self, output: &Printer<O>) {

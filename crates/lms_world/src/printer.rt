@@ -69,8 +69,8 @@ impl<O: Write> Write for Printer<O> {
 
 /// From here on this stream is printed to.
 #[derive(Drop)]
-pub(crate) struct Beginning<'a, O: Write> {
-    pub(crate) output: &'a Printer<O>,
+pub struct Beginning<'a, O: Write> {
+    pub output: &'a Printer<O>,
 }
 
 impl<O: Write> Logged<Event> for Beginning<'_, O> {

@@ -1,15 +1,17 @@
 //! What a world of files and states owes.
 ghost use Rattle.std.specs.Prelude.{◌≡◌, ◌≤◌, ◌∷◌, ℕ, List, option_map, length, IfOk, IfSome, OnOk};
-ghost use Rattle.lms_world.specs.Events.{Event, Read, Opened, Written, Locked, Unlocked, Asked, PutBack, NodesRead, NodesWritten, Printing, WitnessDrafted, WitnessMade, WitnessRead, WitnessWritten, done_of, locking_of, opening_of, place_of, read_of, taking_of, witness_of};
+ghost use Rattle.lms_world.specs.Events.{Event, Read, Opened, Written, Locked, Unlocked, Asked, PutBack, NodesRead, NodesWritten, Printing, WitnessDrafted, WitnessMade, WitnessRead, WitnessWritten, done_of, locking_of, opening_of, output_name, place_of, read_of, taking_of, witness_of};
 ghost use Rattle.lms_world.specs.Held.{Does, Memory};
 
 use crate::contents::Contents;
 use crate::fault::WorldFault;
+use crate::note::Note;
 use crate::printer::Printer;
 use lms_book::StateStore;
-use lms_file_store::LockFault;
+use lms_file_store::{LockFault, Output};
 use lms_params::OutOfMemory;
 use std::alloc::Global;
+use std::fmt::Display;
 use std::io::Write;
 
 /// Files and keys' states, by their names, and what is kept beside the states: nodes, and a
@@ -57,21 +59,31 @@ pub trait World {
         ensures logged { events self.new ≡ Opened name.now (opening_of Self.Contents.holds result) ∷ events self.old }
         ensures acts { Does (Opened name.now (opening_of Self.Contents.holds result)) (memory self.old) (memory self.new) };
 
+    /// Plans to write a file: takes all memory that a write of it needs. The log has no call for it,
+    /// and no file is changed.
+    ///
+    /// `OutOfMemory` where memory is refused.
+    fn plan_output(&self, alloc: Global, name: &str) -> Result<Output, OutOfMemory>
+        ensures { IfOk result (λ output. output_name output ≡ name.now) };
+
     /// Makes these the bytes of a file, which need not be there yet. No other file is changed, no
     /// state, and nothing that is kept of nodes.
     ///
-    /// `Device` where it can't be written, `OutOfMemory` where memory for that was refused. After
-    /// an error the file may be missing or cut short.
-    fn write(&mut self, name: &str, bytes: &[u8]) -> Result<(), WorldFault>
-        ensures logged { events self.new ≡ Written name.now bytes.now result ∷ events self.old }
-        ensures acts { Does (Written name.now bytes.now result) (memory self.old) (memory self.new) }
+    /// `Device` where it can't be written, on a disk also where it is a plain file that was read, by
+    /// whatever name, or must stay for another reason; `OutOfMemory` where the system lacks memory.
+    /// After an error the file is as it was; on a disk it may be whole with these bytes where its name
+    /// leads elsewhere by then, and missing or cut short where it has to be written in place, as a
+    /// device or a file of several names.
+    fn write(&mut self, output: Output, bytes: &[u8]) -> Result<(), WorldFault>
+        ensures logged { events self.new ≡ Written (output_name output) bytes.now result ∷ events self.old }
+        ensures acts { Does (Written (output_name output) bytes.now result) (memory self.old) (memory self.new) }
         ensures written { OnOk result (are_written bytes.now) };
 
-    /// As `write`, and flushes the file where that can be done, so that after `Ok` a loss of power
-    /// leaves it. After an error it may also be whole.
-    fn write_flushed(&mut self, alloc: Global, name: &str, bytes: &[u8]) -> Result<(), WorldFault>
-        ensures logged { events self.new ≡ Written name.now bytes.now result ∷ events self.old }
-        ensures acts { Does (Written name.now bytes.now result) (memory self.old) (memory self.new) }
+    /// As `write`, and flushes the file and its folder where that can be done, so that after `Ok` a
+    /// loss of power leaves it. After an error it may also be whole with these bytes.
+    fn write_flushed(&mut self, output: Output, bytes: &[u8]) -> Result<(), WorldFault>
+        ensures logged { events self.new ≡ Written (output_name output) bytes.now result ∷ events self.old }
+        ensures acts { Does (Written (output_name output) bytes.now result) (memory self.old) (memory self.new) }
         ensures written { OnOk result (are_written bytes.now) };
 
     /// Locks the state of this name, without waiting.
@@ -144,6 +156,12 @@ pub trait World {
         ensures acts { Does (WitnessRead (witness_of result)) (memory self.old) (memory self.new) }
         ensures given { IfOk result (λ found. IfSome found (λ text. may_read text.items)) };
 
+    /// As `read_witness`, of the state of this name, whose lock another program may have.
+    fn look_at_witness(&mut self, alloc: Global, name: &str) -> Result<Option<Vec<u8>>, WorldFault>
+        ensures logged { events self.new ≡ WitnessRead (witness_of result) ∷ events self.old }
+        ensures acts { Does (WitnessRead (witness_of result)) (memory self.old) (memory self.new) }
+        ensures given { IfOk result (λ found. IfSome found (λ text. may_read text.items)) };
+
     /// Makes a draft of the witness, with room for the longest, so that all room and memory is there
     /// that `place_witness` needs. The witness stays as it is.
     ///
@@ -184,6 +202,14 @@ pub trait World {
         ensures acts { Does (WitnessMade name.now text.now (place_of result))
             (memory self.old) (memory self.new) }
         ensures written { OnOk result (are_written text.now) };
+
+    /// What stands behind the last refusal of a file, a lock or a witness, for who looks on.
+    fn note(&self) -> &Note;
+
+    /// Adds a text to that. The log has no call for it.
+    fn explain<D: Display + Drop>(&mut self, text: D)
+        ensures unlogged { events self.new ≡ events self.old }
+        ensures same { memory self.new ≡ memory self.old };
 
     /// Records what was printed to an output so far, before more is printed.
     fn begin_printing<O: Write>(&mut self, output: &Printer<O>)

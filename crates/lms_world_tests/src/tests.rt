@@ -1,9 +1,12 @@
 mod nodes;
+mod notes;
+mod outputs;
 mod replays;
 mod witness;
 
+use lms_disk::DiskWorld;
 use lms_file_store::TryLock;
-use lms_world::{Contents, DiskWorld, Taker, World, WorldFault};
+use lms_world::{Contents, Taker, World, WorldFault};
 use std::alloc::{Allocator, Global};
 use std::fs::{Metadata, OpenFile, OpenOptions};
 use std::io::{ErrorKind, Read, Seek, SeekFrom, Write};
@@ -16,10 +19,11 @@ use std::{fs, io};
 const MOST: usize = 1000;
 
 /// Files that give and take few bytes at once, whose reads are interrupted every second time, and
-/// that say nothing of a name itself.
+/// that may say nothing of a name itself.
 #[derive(Drop)]
 struct PoorFiles<'a, R: Files> {
     files: &'a R,
+    hides_names: bool,
 }
 
 /// An open one of these files.
@@ -78,7 +82,7 @@ impl<F: OpenFile> OpenFile for PoorFile<F> {
 impl<F: TryLock> TryLock for PoorFile<F> {
     ghost is_locked = { λ file. F.is_locked file.file };
 
-    fn try_lock(&self) -> bool {
+    fn try_lock(&self) -> io::Result<()> {
         self.file.try_lock()
     }
 }
@@ -104,8 +108,11 @@ impl<'a, R: Files> Files for PoorFiles<'a, R> {
         self.files.metadata(path)
     }
 
-    fn symlink_metadata(&self, _path: &str) -> io::Result<Metadata> {
-        Err(io::Error::from(ErrorKind::PermissionDenied))
+    fn symlink_metadata(&self, path: &str) -> io::Result<Metadata> {
+        if self.hides_names {
+            return Err(io::Error::from(ErrorKind::PermissionDenied));
+        }
+        self.files.symlink_metadata(path)
     }
 
     fn copy(&self, from: &str, to: &str) -> io::Result<u64> {
@@ -208,13 +215,19 @@ fn breaks_off<W: World>(alloc: Global, world: &mut W, name: &str) -> bool {
 }
 
 /// Whether a world writes these bytes to the file of a name.
-fn writes<W: World>(world: &mut W, name: &str, bytes: &[u8]) -> bool {
-    world.write(name, bytes).is_ok()
+fn writes<W: World>(alloc: Global, world: &mut W, name: &str, bytes: &[u8]) -> bool {
+    match world.plan_output(alloc, name) {
+        Ok(output) => world.write(output, bytes).is_ok(),
+        Err(_) => false,
+    }
 }
 
 /// The same, where the file is to be flushed.
 fn flushes<W: World>(alloc: Global, world: &mut W, name: &str, bytes: &[u8]) -> bool {
-    world.write_flushed(alloc, name, bytes).is_ok()
+    match world.plan_output(alloc, name) {
+        Ok(output) => world.write_flushed(output, bytes).is_ok(),
+        Err(_) => false,
+    }
 }
 
 /// Whether the file of a name holds these bytes.
@@ -237,15 +250,19 @@ const LARGE: &str = "disk_world_large/text";
 fn a_large_file_is_whole(rt: HostRuntime) -> Result<(), Fail> {
     empty_folder(&rt, "disk_world_large")?;
     let text = large_text(rt.alloc())?;
-    assert!(rt; writes(&mut DiskWorld::new(&rt), LARGE, text.as_bytes()));
+    assert!(rt;
+        writes(
+            rt.alloc(),
+            &mut DiskWorld::new(rt.alloc(), &rt),
+            LARGE,
+            text.as_bytes()
+        )
+    );
     assert!(rt; holds(&rt, LARGE, text.as_bytes()));
-    assert!(rt; reads(rt.alloc(), &mut DiskWorld::new(&rt), LARGE, text.as_bytes()));
-    assert!(rt; hands_over(rt.alloc(), &mut DiskWorld::new(&rt), LARGE, text.as_bytes()));
-    let poor = PoorFiles { files: &rt };
     assert!(rt;
         reads(
             rt.alloc(),
-            &mut DiskWorld::new(&poor),
+            &mut DiskWorld::new(rt.alloc(), &rt),
             LARGE,
             text.as_bytes()
         )
@@ -253,18 +270,45 @@ fn a_large_file_is_whole(rt: HostRuntime) -> Result<(), Fail> {
     assert!(rt;
         hands_over(
             rt.alloc(),
-            &mut DiskWorld::new(&poor),
+            &mut DiskWorld::new(rt.alloc(), &rt),
+            LARGE,
+            text.as_bytes()
+        )
+    );
+    let poor = PoorFiles {
+        files: &rt,
+        hides_names: false,
+    };
+    assert!(rt;
+        reads(
+            rt.alloc(),
+            &mut DiskWorld::new(rt.alloc(), &poor),
+            LARGE,
+            text.as_bytes()
+        )
+    );
+    assert!(rt;
+        hands_over(
+            rt.alloc(),
+            &mut DiskWorld::new(rt.alloc(), &poor),
             LARGE,
             text.as_bytes()
         )
     );
     fs::remove_file(&rt, LARGE)?;
-    assert!(rt; writes(&mut DiskWorld::new(&poor), LARGE, text.as_bytes()));
+    assert!(rt;
+        writes(
+            rt.alloc(),
+            &mut DiskWorld::new(rt.alloc(), &poor),
+            LARGE,
+            text.as_bytes()
+        )
+    );
     assert!(rt; holds(&rt, LARGE, text.as_bytes()));
     assert!(rt;
         flushes(
             rt.alloc(),
-            &mut DiskWorld::new(&poor),
+            &mut DiskWorld::new(rt.alloc(), &poor),
             LARGE,
             b"a public key"
         )
@@ -279,7 +323,11 @@ fn a_large_file_is_whole(rt: HostRuntime) -> Result<(), Fail> {
 fn a_file_that_tells_no_size_is_whole(rt: HostRuntime) -> Result<(), Fail> {
     let name = "/proc/self/stat";
     assert!(rt; fs::metadata(&rt, name)?.len() == 0);
-    assert!(rt; !DiskWorld::new(&rt).read(rt.alloc(), name)?.is_empty());
+    assert!(rt;
+        !DiskWorld::new(rt.alloc(), &rt)
+            .read(rt.alloc(), name)?
+            .is_empty()
+    );
     Ok(())
 }
 
@@ -287,11 +335,17 @@ fn a_file_that_tells_no_size_is_whole(rt: HostRuntime) -> Result<(), Fail> {
 #[test]
 fn a_folder_breaks_off(rt: HostRuntime) -> Result<(), Fail> {
     empty_folder(&rt, "disk_world_folder")?;
-    assert!(rt; breaks_off(rt.alloc(), &mut DiskWorld::new(&rt), "disk_world_folder"));
+    assert!(rt;
+        breaks_off(
+            rt.alloc(),
+            &mut DiskWorld::new(rt.alloc(), &rt),
+            "disk_world_folder"
+        )
+    );
     assert!(rt;
         !hands_over(
             rt.alloc(),
-            &mut DiskWorld::new(&rt),
+            &mut DiskWorld::new(rt.alloc(), &rt),
             "disk_world_folder/none",
             b""
         )
@@ -302,7 +356,7 @@ fn a_folder_breaks_off(rt: HostRuntime) -> Result<(), Fail> {
 
 /// Whether the state of a name exists, once it is locked. `None` where it is not.
 fn is_there(rt: &HostRuntime, name: &str) -> Option<bool> {
-    let mut world = DiskWorld::new(rt);
+    let mut world = DiskWorld::new(rt.alloc(), rt);
     match world.lock(rt.alloc(), name) {
         Ok(lock) => Some(world.exists(&lock)),
         Err(_) => None,
@@ -318,8 +372,11 @@ fn what_can_not_be_looked_up_exists(rt: HostRuntime) -> Result<(), Fail> {
     assert!(rt; is_there(&rt, "disk_world_names/file") == Some(true));
     assert!(rt; is_there(&rt, "disk_world_names/file/state").is_none());
     assert!(rt; is_there(&rt, long.as_str()).is_none());
-    let poor = PoorFiles { files: &rt };
-    let mut world = DiskWorld::new(&poor);
+    let poor = PoorFiles {
+        files: &rt,
+        hides_names: true,
+    };
+    let mut world = DiskWorld::new(rt.alloc(), &poor);
     let lock = world.lock(rt.alloc(), "disk_world_names/file")?;
     fs::remove_file(&rt, "disk_world_names/file")?;
     assert!(rt; world.exists(&lock));

@@ -16,6 +16,10 @@ pub enum Command {
     Info {
         state: String,
     },
+    /// Say what this file is.
+    Inspect {
+        file: String,
+    },
     /// Write the public key of the key whose state is in a file to another file.
     Public {
         state: String,
@@ -27,6 +31,16 @@ pub enum Command {
         state: String,
         random: String,
         message: String,
+        out: String,
+    },
+    /// Endorse the signer's public key in the file `signer` by the key whose state is in a file, with the
+    /// randomizer `random` in hexadecimal, and write the endorsement to the file `out`. Both keys have
+    /// to have `joined` levels together, a number in decimal.
+    Endorse {
+        state: String,
+        random: String,
+        signer: String,
+        joined: String,
         out: String,
     },
     /// Sign the job lines of standard input by the key whose state is in a file, by so many

@@ -7,7 +7,7 @@ use std::test::Fail;
 fn lock_fault(rt: &HostRuntime, name: &str) -> Option<LockFault> {
     match lock(rt, rt.alloc(), name) {
         Ok(_) => None,
-        Err(fault) => Some(fault),
+        Err(reason) => Some(LockFault::of(&reason)),
     }
 }
 

@@ -3,7 +3,7 @@
 use super::disk::{
     begins, begins_with_a_link, clears, holds, is_missing, links, makes_folder, puts,
 };
-use lms_file_store::{StateLock, lock, make_witness};
+use lms_file_store::{StateLock, lock, look_at_witness, make_witness};
 use std::fs;
 use std::fs::File;
 use std::io::ErrorKind;
@@ -37,7 +37,7 @@ impl Watched<'_> {
     fn is_unread(&self) -> bool {
         match self.held.read_witness(self.rt, self.rt.alloc()) {
             Ok(_) => false,
-            Err(error) => error.kind() == ErrorKind::InvalidData,
+            Err(error) => error.kind() == ErrorKind::AlreadyExists,
         }
     }
 
@@ -90,6 +90,15 @@ fn watched_at<'a>(rt: &'a HostRuntime, name: &str) -> Result<Watched<'a>, Fail> 
     Ok(Watched { rt, held })
 }
 
+/// Whether these bytes are the witness of the state of this name, `None` where there is none.
+fn shows(rt: &HostRuntime, name: &str, text: Option<&[u8]>) -> bool {
+    match (look_at_witness(rt, rt.alloc(), name), text) {
+        (Ok(Some(found)), Some(text)) => found.as_slice() == text,
+        (Ok(None), None) => true,
+        _ => false,
+    }
+}
+
 /// Of at most 128 bytes, whatever the system says that it has.
 #[test]
 fn a_witness_is_read(rt: HostRuntime) -> Result<(), Fail> {
@@ -100,7 +109,9 @@ fn a_witness_is_read(rt: HostRuntime) -> Result<(), Fail> {
     assert!(rt; puts(&rt, name, b"a line\n") && watched.gives(b"a line\n"));
     assert!(rt; puts(&rt, name, b"") && watched.gives(b""));
     assert!(rt; puts(&rt, name, &[7; 128]) && watched.gives(&[7; 128]));
+    assert!(rt; shows(&rt, "witness_read/state", Some(&[7; 128])));
     assert!(rt; puts(&rt, name, &[7; 129]) && watched.is_unread());
+    assert!(rt; look_at_witness(&rt, rt.alloc(), "witness_read/state").is_err());
     assert!(rt; clears(&rt, "witness_read") && begins(&rt, "witness_read"));
     assert!(rt; links(&rt, "/proc/self/status", name) && watched.is_unread());
     assert!(rt; clears(&rt, "witness_read"));
@@ -124,7 +135,9 @@ fn a_witness_is_replaced(rt: HostRuntime) -> Result<(), Fail> {
 fn a_witness_is_made(rt: HostRuntime) -> Result<(), Fail> {
     assert!(rt; begins_with_a_link(&rt));
     let watched = watched_at(&rt, "file_store_links/link")?;
+    assert!(rt; shows(&rt, "file_store_links/link", None));
     assert!(rt; watched.is_made("file_store_links/file"));
+    assert!(rt; shows(&rt, "file_store_links/link", Some(b"made")));
     assert!(rt; is_missing(&rt, "file_store_links/link.witness"));
     assert!(rt; watched.is_unmade("file_store_links/second", ErrorKind::AlreadyExists));
     assert!(rt; is_missing(&rt, "file_store_links/second"));

@@ -2,7 +2,7 @@
 use super::arguments::{CHEAP_TWICE, SIGN, keygen};
 use super::meter::reports;
 use super::states::store_at;
-use super::{VERIFY, says};
+use super::{VERIFY, says, write};
 use lms_world::{MemoryWorld, World, WorldFault};
 use std::alloc::Global;
 use std::sync::Wait;
@@ -28,7 +28,7 @@ fn signs(
 #[test]
 fn what_is_kept_is_not_computed_again(rt: HostRuntime) -> Result<(), Fail> {
     let mut world = MemoryWorld::new(rt.alloc());
-    world.write("text", b"abc")?;
+    write(rt.alloc(), &mut world, "text", b"abc")?;
     assert!(rt; reports(&rt, &keygen("5/2,5/2"), &mut world, b"", 32));
     let top = kept(rt.alloc(), &world)?;
     assert!(rt; reports(&rt, &SIGN, &mut world, b"", 32));
@@ -51,7 +51,7 @@ fn goes_without(
 ) -> Result<bool, Fail> {
     let mut world = MemoryWorld::new(rt.alloc());
     world.fail_nodes(fault);
-    world.write("text", b"abc")?;
+    write(rt.alloc(), &mut world, "text", b"abc")?;
     let done = says(rt, &keygen("5/2"), &mut world, 0, "capacity 32\n")
         && signs(rt, &mut world, "index 0\n")
         && signs(rt, &mut world, "index 1\n");

@@ -1,7 +1,7 @@
 //! Commands to which memory is refused once, where it is.
 use super::arguments::{CHEAP_TWICE, INFO, PUBLIC, SIGN, keygen};
 use super::states::is_with;
-use super::{ProgramEnd, VERIFY, end_of};
+use super::{ProgramEnd, VERIFY, end_of, write};
 use lms_world::{MemoryWorld, World};
 use std::alloc::Global;
 use std::sync::Wait;
@@ -93,8 +93,8 @@ fn is_published(alloc: Global, world: &mut MemoryWorld) -> bool {
 /// Files with a message, written at the first or at the second try.
 fn with_text(alloc: Global) -> Result<MemoryWorld, Fail> {
     let mut world = MemoryWorld::new(alloc);
-    if world.write("text", b"abc").is_err() {
-        world.write("text", b"abc")?;
+    if write(alloc, &mut world, "text", b"abc").is_err() {
+        write(alloc, &mut world, "text", b"abc")?;
     }
     Ok(world)
 }

@@ -1,6 +1,7 @@
 //! What a run that computes trees reports of them.
 use super::arguments::{INFO, SIGN, keygen};
 use super::batch::{TWO_LINES, batch};
+use super::write;
 use lms_cli::run::run;
 use lms_commands::Resources;
 use lms_fixtures::Sums;
@@ -26,6 +27,7 @@ pub(super) fn reports(
             rt,
             alloc: rt.alloc(),
             progress: &sums,
+            looked_on: false,
         },
         arguments,
         world,
@@ -39,7 +41,7 @@ pub(super) fn reports(
 #[test]
 fn keygen_sign_and_batch_report_their_leaves(rt: HostRuntime) -> Result<(), Fail> {
     let mut world = MemoryWorld::new(rt.alloc());
-    world.write("text", b"abc")?;
+    write(rt.alloc(), &mut world, "text", b"abc")?;
     assert!(rt; reports(&rt, &keygen("5/2,5/2"), &mut world, b"", 32));
     assert!(rt; reports(&rt, &SIGN, &mut world, b"", 32));
     assert!(rt; reports(&rt, &batch("2"), &mut world, TWO_LINES.as_bytes(), 64));

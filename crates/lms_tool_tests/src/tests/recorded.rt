@@ -1,7 +1,8 @@
 //! A world that records the calls on it that change what it holds.
 use lms_book::MemoryStore;
-use lms_world::{LockFault, OutOfMemory, Printer, World, WorldFault};
+use lms_world::{LockFault, Note, OutOfMemory, Output, Printer, World, WorldFault};
 use std::alloc::{AllocError, Global};
+use std::fmt::Display;
 use std::io::Write;
 
 /// What a world was called to hold.
@@ -79,17 +80,23 @@ impl<W: World<Store = MemoryStore>> World for Recorded<W> {
         self.world.open(alloc, name)
     }
 
-    fn write(&mut self, name: &str, bytes: &[u8]) -> Result<(), WorldFault> {
-        let answer = self.world.write(name, bytes);
-        if let (Ok(()), Ok(change)) = (answer, file_change(self.alloc, name, bytes)) {
+    fn plan_output(&self, alloc: Global, name: &str) -> Result<Output, OutOfMemory> {
+        self.world.plan_output(alloc, name)
+    }
+
+    fn write(&mut self, output: Output, bytes: &[u8]) -> Result<(), WorldFault> {
+        let change = file_change(self.alloc, output.name.as_str(), bytes);
+        let answer = self.world.write(output, bytes);
+        if let (Ok(()), Ok(change)) = (answer, change) {
             let _ = self.changes.push(change);
         }
         answer
     }
 
-    fn write_flushed(&mut self, alloc: Global, name: &str, bytes: &[u8]) -> Result<(), WorldFault> {
-        let answer = self.world.write_flushed(alloc, name, bytes);
-        if let (Ok(()), Ok(change)) = (answer, file_change(self.alloc, name, bytes)) {
+    fn write_flushed(&mut self, output: Output, bytes: &[u8]) -> Result<(), WorldFault> {
+        let change = file_change(self.alloc, output.name.as_str(), bytes);
+        let answer = self.world.write_flushed(output, bytes);
+        if let (Ok(()), Ok(change)) = (answer, change) {
             let _ = self.changes.push(change);
         }
         answer
@@ -143,6 +150,14 @@ impl<W: World<Store = MemoryStore>> World for Recorded<W> {
         self.world.read_witness(alloc, lock)
     }
 
+    fn look_at_witness(
+        &mut self,
+        alloc: Global,
+        name: &str,
+    ) -> Result<Option<Vec<u8>>, WorldFault> {
+        self.world.look_at_witness(alloc, name)
+    }
+
     fn draft_witness(&mut self, alloc: Global, lock: &W::Lock) -> Result<W::Draft, WorldFault> {
         self.world.draft_witness(alloc, lock)
     }
@@ -171,6 +186,14 @@ impl<W: World<Store = MemoryStore>> World for Recorded<W> {
             let _ = self.changes.push(change);
         }
         answer
+    }
+
+    fn note(&self) -> &Note {
+        self.world.note()
+    }
+
+    fn explain<D: Display + Drop>(&mut self, text: D) {
+        self.world.explain(text)
     }
 
     fn begin_printing<O: Write>(&mut self, output: &Printer<O>) {

@@ -1,14 +1,23 @@
 //! What a world in memory holds after runs of the program, against a replay of its calls.
 use super::arguments::{SIGN, keygen};
+use super::endorsements::{ENDORSE, ENDORSED, inspect, make_top, write_signer};
 use super::recorded::{Change, Recorded};
-use super::{VERIFY, ends};
+use super::{VERIFY, ends, write};
 use lms_fixtures::store_of;
 use lms_world::{MemoryWorld, World, WorldFault};
 use std::alloc::Global;
 use std::test::Fail;
 
 /// The files that the program is asked for. The last one can't be written.
-const FILES: [&str; 4] = ["text", "key.pub", "text.sig", "other.sig"];
+const FILES: [&str; 7] = [
+    "text",
+    "key.pub",
+    "text.sig",
+    "signer.pub",
+    "signer.sig",
+    "signer.end",
+    "other.sig",
+];
 
 /// The bytes that were written last to the file of a name.
 fn file_after<'a>(changes: &'a [Change], name: &str) -> Option<&'a [u8]> {
@@ -76,7 +85,7 @@ fn is_as_called(alloc: Global, recorded: &mut Recorded<MemoryWorld>) -> bool {
 fn a_memory_ends_as_its_calls_say(rt: HostRuntime) -> Result<(), Fail> {
     let mut world = Recorded::new(rt.alloc(), MemoryWorld::new(rt.alloc()));
     world.world.fail("other.sig", WorldFault::Device)?;
-    world.write("text", b"abc")?;
+    write(rt.alloc(), &mut world, "text", b"abc")?;
     assert!(rt;
         ends(
             &rt,
@@ -105,6 +114,23 @@ fn a_memory_ends_as_its_calls_say(rt: HostRuntime) -> Result<(), Fail> {
     assert!(rt; is_as_called(rt.alloc(), &mut world));
     assert!(rt; ends(&rt, &SIGN, &mut world, 0, "index 2\n", ""));
     assert!(rt; ends(&rt, &VERIFY, &mut world, 0, "valid\n", ""));
+    assert!(rt; is_as_called(rt.alloc(), &mut world));
+    Ok(())
+}
+
+/// A key endorses a signer's key, and its endorsement is looked at, which changes nothing.
+#[test]
+fn an_endorsement_is_as_its_calls_say(rt: HostRuntime) -> Result<(), Fail> {
+    let mut world = Recorded::new(rt.alloc(), MemoryWorld::new(rt.alloc()));
+    write_signer(rt.alloc(), &mut world)?;
+    assert!(rt; ends(&rt, &make_top(), &mut world, 0, "capacity 32\n", ""));
+    assert!(rt; ends(&rt, &ENDORSE, &mut world, 0, ENDORSED, ""));
+    assert!(rt; is_as_called(rt.alloc(), &mut world));
+    let changes = world.changes.len();
+    let made = "signature\nlevels 1\nlength 4464\nlevel 5/2 leaf 0\n\
+        index 0 if all levels are one key's\n";
+    assert!(rt; ends(&rt, &inspect("signer.end"), &mut world, 0, made, ""));
+    assert!(rt; world.changes.len() == changes);
     assert!(rt; is_as_called(rt.alloc(), &mut world));
     Ok(())
 }
@@ -140,7 +166,7 @@ fn state_text(alloc: Global, recorded: &Recorded<MemoryWorld>) -> Result<Vec<u8>
 #[test]
 fn an_older_state_goes_on_from_its_witness(rt: HostRuntime) -> Result<(), Fail> {
     let mut world = Recorded::new(rt.alloc(), MemoryWorld::new(rt.alloc()));
-    world.write("text", b"abc")?;
+    write(rt.alloc(), &mut world, "text", b"abc")?;
     assert!(rt; ends(&rt, &keygen("5/2"), &mut world, 0, "capacity 32\n", ""));
     let made =
         "HSS key 22222222222222222222222222222222 has used all indices below 0\nfar.witness\n";

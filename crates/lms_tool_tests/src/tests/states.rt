@@ -1,4 +1,5 @@
 //! States of keys, and worlds that have them.
+use super::write;
 use lms_book::MemoryStore;
 use lms_fixtures::{image_with, key_of};
 use lms_params::{LmsType, OtsType};
@@ -22,7 +23,7 @@ pub(super) fn keyed(
     counter: u64,
 ) -> Result<MemoryWorld, Fail> {
     let mut world = MemoryWorld::new(alloc);
-    world.write("text", b"abc")?;
+    write(alloc, &mut world, "text", b"abc")?;
     world.set_state(store_at(alloc, levels, counter)?);
     Ok(world)
 }

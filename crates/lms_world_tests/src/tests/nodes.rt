@@ -1,6 +1,7 @@
 //! What is kept of nodes beside a state, on a disk and in memory.
-use super::{PoorFiles, empty_folder, holds};
-use lms_world::{DiskWorld, MemoryWorld, World, WorldFault};
+use super::{PoorFiles, empty_folder, holds, writes};
+use lms_disk::DiskWorld;
+use lms_world::{MemoryWorld, World, WorldFault};
 use std::alloc::Global;
 use std::fs;
 use std::test::Fail;
@@ -72,7 +73,7 @@ fn large_text(alloc: Global) -> Result<String, Fail> {
 fn nodes_are_kept_on_a_disk(rt: HostRuntime) -> Result<(), Fail> {
     empty_folder(&rt, "disk_world_nodes")?;
     let text = large_text(rt.alloc())?;
-    let mut world = DiskWorld::new(&rt);
+    let mut world = DiskWorld::new(rt.alloc(), &rt);
     assert!(rt; keeps_each(rt.alloc(), &mut world, STATE, text.as_bytes())?);
     assert!(rt; holds(&rt, NODES, text.as_bytes()));
     fs::remove_dir_all(&rt, "disk_world_nodes")?;
@@ -89,7 +90,7 @@ fn a_write_of_nodes_fails_on_a_disk(rt: HostRuntime) -> Result<(), Fail> {
     assert!(rt;
         fails(
             rt.alloc(),
-            &mut DiskWorld::new(&rt),
+            &mut DiskWorld::new(rt.alloc(), &rt),
             name,
             WorldFault::Device,
             b"old"
@@ -117,8 +118,11 @@ fn reads_none_of_what_is_written<W: World>(
 fn unknown_nodes_are_not_read(rt: HostRuntime) -> Result<(), Fail> {
     empty_folder(&rt, "disk_world_unknown")?;
     fs::write(&rt, "disk_world_unknown/state", b"".as_slice())?;
-    let poor = PoorFiles { files: &rt };
-    let mut world = DiskWorld::new(&poor);
+    let poor = PoorFiles {
+        files: &rt,
+        hides_names: true,
+    };
+    let mut world = DiskWorld::new(rt.alloc(), &poor);
     assert!(rt; reads_none_of_what_is_written(rt.alloc(), &mut world, "disk_world_unknown/state")?);
     assert!(rt; holds(&rt, "disk_world_unknown/state.nodes", b"nodes"));
     fs::remove_dir_all(&rt, "disk_world_unknown")?;
@@ -139,13 +143,13 @@ fn gives_what_was_set(alloc: Global) -> Result<bool, Fail> {
     let mut world = MemoryWorld::new(alloc);
     let none = world.nodes().is_none();
     world.set_nodes(Vec::from_slice(alloc, b"set")?);
-    world.write("file", b"bytes")?;
+    let written = writes(alloc, &mut world, "file", b"bytes");
     let lock = world.lock(alloc, "state")?;
     let store = world.take_store(alloc, &lock)?;
     world.put_back(&lock, store);
     let given = gives(alloc, &mut world, &lock, 3, b"set")
         && gives_none(alloc, &mut world, &lock, 2);
-    Ok(none && given && has(&world, b"set"))
+    Ok(none && written && given && has(&world, b"set"))
 }
 
 #[test]

@@ -1,4 +1,5 @@
 //! What a world in memory holds after calls, against a model that replays them.
+use super::{flushes, writes};
 use lms_book::StateStore;
 use lms_world::{LockFault, MemoryLock, MemoryWorld, World, WorldFault};
 use std::alloc::Global;
@@ -59,10 +60,10 @@ fn look(alloc: Global, world: &mut MemoryWorld, lock: &MemoryLock, round: &Round
 
 /// Makes the calls of a round. The file of the name `broken` can't be written meanwhile.
 fn play(alloc: Global, world: &mut MemoryWorld, round: &Round) -> Result<bool, Fail> {
-    world.write_flushed(alloc, round.name, b"older")?;
-    world.write(round.name, round.file)?;
-    let refused = world.write("broken", round.file).is_err()
-        && world.write_flushed(alloc, "broken", round.file).is_err();
+    let written = flushes(alloc, world, round.name, b"older")
+        && writes(alloc, world, round.name, round.file);
+    let refused = !writes(alloc, world, "broken", round.file)
+        && !flushes(alloc, world, "broken", round.file);
     let lock = world.lock(alloc, "state")?;
     look(alloc, world, &lock, round);
     let mut store = world.take_store(alloc, &lock)?;
@@ -70,7 +71,7 @@ fn play(alloc: Global, world: &mut MemoryWorld, round: &Round) -> Result<bool, F
     world.put_back(&lock, store);
     let kept = world.write_nodes(alloc, &lock, round.nodes).is_ok();
     world.unlock(lock);
-    Ok(refused && replaced && kept)
+    Ok(written && refused && replaced && kept)
 }
 
 /// Whether the file of a name can be read, and holds these bytes, or can't where there are none.

@@ -1,6 +1,7 @@
 //! The witness of a state, on a disk and in memory.
-use super::{PoorFiles, empty_folder, holds};
-use lms_world::{DiskWorld, MemoryWorld, World, WorldFault};
+use super::{PoorFiles, empty_folder, holds, writes};
+use lms_disk::DiskWorld;
+use lms_world::{MemoryWorld, World, WorldFault};
 use std::alloc::Global;
 use std::fs;
 use std::os::unix::fs::symlink;
@@ -11,6 +12,14 @@ fn gives<W: World>(alloc: Global, world: &mut W, lock: &W::Lock, text: Option<&[
     match (world.read_witness(alloc, lock), text) {
         (Ok(Some(found)), Some(text)) => found.as_slice() == text,
         (Ok(None), None) => true,
+        _ => false,
+    }
+}
+
+/// Whether the witness of the state of this name is these bytes, its lock being another's or not.
+fn shows<W: World>(alloc: Global, world: &mut W, name: &str, text: &[u8]) -> bool {
+    match world.look_at_witness(alloc, name) {
+        Ok(Some(found)) => found.as_slice() == text,
         _ => false,
     }
 }
@@ -59,14 +68,15 @@ fn has_one<W: World>(alloc: Global, world: &mut W, name: &str, left: &[u8]) -> R
     let once = making_fault(alloc, world, &lock, OTHER, b"other") == Some(WorldFault::Device);
     let stays = lets_go(alloc, world, &lock, b"made");
     let replaced = takes(alloc, world, &lock, b"") && takes(alloc, world, &lock, left);
+    let seen = shows(alloc, world, name, left);
     world.unlock(lock);
-    Ok(none && made && once && stays && replaced)
+    Ok(none && made && once && stays && replaced && seen)
 }
 
 #[test]
 fn a_witness_is_kept_on_a_disk(rt: HostRuntime) -> Result<(), Fail> {
     empty_folder(&rt, "disk_world_witness")?;
-    let mut world = DiskWorld::new(&rt);
+    let mut world = DiskWorld::new(rt.alloc(), &rt);
     assert!(rt;
         has_one(
             rt.alloc(),
@@ -95,12 +105,13 @@ fn gives_what_was_set(alloc: Global) -> Result<bool, Fail> {
     let mut world = MemoryWorld::new(alloc);
     let none = world.witness().is_none();
     world.set_witness(Vec::from_slice(alloc, b"set")?);
-    world.write("file", b"bytes")?;
+    let written = writes(alloc, &mut world, "file", b"bytes");
     let lock = world.lock(alloc, "state")?;
     let kept = world.write_nodes(alloc, &lock, b"nodes").is_ok();
     let store = world.take_store(alloc, &lock)?;
     world.put_back(&lock, store);
-    Ok(none && kept && gives(alloc, &mut world, &lock, Some(b"set")) && has(&world, b"set"))
+    let done = none && written && kept;
+    Ok(done && gives(alloc, &mut world, &lock, Some(b"set")) && has(&world, b"set"))
 }
 
 #[test]
@@ -120,7 +131,8 @@ fn fails<W: World>(
     fault: WorldFault,
 ) -> Result<bool, Fail> {
     let lock = world.lock(alloc, name)?;
-    let unread = world.read_witness(alloc, &lock).err() == Some(fault);
+    let unread = world.read_witness(alloc, &lock).err() == Some(fault)
+        && world.look_at_witness(alloc, name).err() == Some(fault);
     let undrafted = world.draft_witness(alloc, &lock).err() == Some(fault);
     let unmade = making_fault(alloc, world, &lock, FILE, b"made") == Some(fault);
     world.unlock(lock);
@@ -151,7 +163,7 @@ fn a_witness_fails_in_memory(rt: HostRuntime) -> Result<(), Fail> {
 fn a_witness_fails_on_a_disk(rt: HostRuntime) -> Result<(), Fail> {
     empty_folder(&rt, "disk_world_witness")?;
     symlink(&rt, "nowhere", "disk_world_witness/state.witness")?;
-    let mut world = DiskWorld::new(&rt);
+    let mut world = DiskWorld::new(rt.alloc(), &rt);
     let name = "disk_world_witness/state";
     assert!(rt; fails(rt.alloc(), &mut world, name, WorldFault::Device)?);
     assert!(rt; fs::metadata(&rt, FILE).is_err());
@@ -179,8 +191,11 @@ fn an_unknown_witness_is_a_fault(rt: HostRuntime) -> Result<(), Fail> {
     empty_folder(&rt, "disk_world_witness")?;
     let name = "disk_world_witness/state";
     fs::write(&rt, name, b"".as_slice())?;
-    let poor = PoorFiles { files: &rt };
-    let mut world = DiskWorld::new(&poor);
+    let poor = PoorFiles {
+        files: &rt,
+        hides_names: true,
+    };
+    let mut world = DiskWorld::new(rt.alloc(), &poor);
     assert!(rt; fails(rt.alloc(), &mut world, name, WorldFault::Device)?);
     fs::write(&rt, "disk_world_witness/state.witness", b"older".as_slice())?;
     assert!(rt; is_replaced(rt.alloc(), &mut world, name, b"older")?);

@@ -1,6 +1,8 @@
 use Rattle.std.proofs.Common.{inl, inr, refl, sym, ⊎_elim, ◌∙◌}
 use Rattle.clap.proofs.TakesLemmas.{passed_up}
-use Rattle.lms_cli.proofs.Ending.{failed_as, joined_as, not_joined_as, same_names, signed_as}
+use Rattle.lms_cli.proofs.SameTexts.{failed_as, inspected_as, joined_as, not_inspected_as, not_joined_as, same_names}
+use Rattle.lms_cli.proofs.SameTexts.{signed_as}
+use Rattle.lms_cli.proofs.EndorsingFaults.{endorsed_as, unendorsed_as}
 use Rattle.lms_cli.proofs.run.obey.Goals as goal
 
 pub returns-in_err-key-in-Keygen-clause-log_failed : goal.returns-in_err-key-in-Keygen-clause-log_failed
@@ -20,6 +22,19 @@ returns-in_ok-sign_file-in-Sign-clause-logged g c =
     let logged = signed_as c.deref-in-Sign-2.ensures c.deref-in-Sign-3.ensures c.deref-in-Sign.ensures
     c.deref-in-Sign-4.ensures c.in_ok-sign_file-in-Sign.ensures.logged in
     rw c.in-Sign.is (refl, logged)
+
+pub returns-in_err-endorse_key-in-Endorse-clause-log_failed :
+    goal.returns-in_err-endorse_key-in-Endorse-clause-log_failed
+returns-in_err-endorse_key-in-Endorse-clause-log_failed g c =
+    let failed = unendorsed_as c.deref-in-Endorse.ensures c.deref-in-Endorse-2.ensures c.deref-in-Endorse-3.ensures
+    c.deref-in-Endorse-4.ensures c.deref-in-Endorse-5.ensures c.in_err-endorse_key-in-Endorse.ensures.log_failed in
+    rw c.in-Endorse.is (passed_up _ _ _ c.from_residual-in_err-endorse_key-in-Endorse.ensures.1 failed)
+
+pub returns-in_ok-endorse_key-in-Endorse-clause-logged : goal.returns-in_ok-endorse_key-in-Endorse-clause-logged
+returns-in_ok-endorse_key-in-Endorse-clause-logged g c =
+    let logged = endorsed_as c.deref-in-Endorse.ensures c.deref-in-Endorse-2.ensures c.deref-in-Endorse-3.ensures
+    c.deref-in-Endorse-4.ensures c.deref-in-Endorse-5.ensures c.in_ok-endorse_key-in-Endorse.ensures.logged in
+    rw c.in-Endorse.is (refl, logged)
 
 pub returns-in_err-sign_jobs-in-Batch-clause-log_failed : goal.returns-in_err-sign_jobs-in-Batch-clause-log_failed
 returns-in_err-sign_jobs-in-Batch-clause-log_failed g c =
@@ -44,6 +59,22 @@ returns-in_ok-serve_jobs-in-Serve-clause-logged g c =
     let logged = rw (c.deref-in-Serve.ensures, c.deref-in-Serve-2.ensures) at
     c.in_ok-serve_jobs-in-Serve.ensures.logged in
     rw c.in-Serve.is (refl, logged)
+
+pub returns-in-Inspect-clause-logged : goal.returns-in-Inspect-clause-logged
+returns-in-Inspect-clause-logged g c =
+    let old = g.W.World.events c.args.world.now in
+    let new = g.W.World.events c.inspect_file.new.world in
+    let is = inspected_as c.inspect_file.result c.args.output.now c.inspect_file.new.output old new
+    c.deref-in-Inspect.ensures c.inspect_file.ensures.logged in
+    rw c.in-Inspect.is is
+
+pub returns-in-Inspect-clause-log_failed : goal.returns-in-Inspect-clause-log_failed
+returns-in-Inspect-clause-log_failed g c =
+    let old = g.W.World.events c.args.world.now in
+    let new = g.W.World.events c.inspect_file.new.world in
+    let is = not_inspected_as c.inspect_file.result c.args.output.now c.inspect_file.new.output old new
+    c.deref-in-Inspect.ensures c.inspect_file.ensures.log_failed in
+    rw c.in-Inspect.is is
 
 pub returns-in_ok-describe-in-Info-clause-logged : goal.returns-in_ok-describe-in-Info-clause-logged
 returns-in_ok-describe-in-Info-clause-logged g c =

@@ -1,5 +1,5 @@
 use Rattle.std.proofs.Common.{◌∙◌, inl, inr, refl, subst, sym}
-use Rattle.lms_join.specs.Endorsements.{EndorsementParts, HasCountUnder, LacksCountUnder}
+use Rattle.lms_join.specs.Endorsements.{EndorsementParts, HasMessageHead}
 use Rattle.lms_commands.proofs.Failing.{handed_on}
 use Rattle.lms_join_commands.specs.JoinLogs.{AreUnendorsed}
 use Rattle.lms_join_commands.specs.Requests.{parts_of}
@@ -21,7 +21,7 @@ returns-in_err-joined-clause-unjoined c =
     let seen = same_seen c.deref.ensures.value c.deref-2.ensures.value c.deref-3.ensures.value in
     let endorsed = subst (λ (e : EndorsementParts). Endorsed e) seen given.endorsed in
     let has =
-    judged HasCountUnder (parts_of c.args.parts.now) c.in_ok-endorsement.endorsement c.deref-4.result.now
+    judged HasMessageHead (parts_of c.args.parts.now) c.in_ok-endorsement.endorsement c.deref-4.result.now
     (given.some ∙ seen) c.deref-4.ensures.value c.in_err-joined.ensures.memory in
     handed_on _ _ _ c.from_residual-in_err-joined.ensures.1 (inr (endorsed, inr (refl, has)))
 
@@ -33,7 +33,7 @@ returns-in-Some-clause-joins c =
     same c.deref-4.ensures.value
     (record {
       endorsed = subst (λ (e : EndorsementParts). Endorsed e) (sym given.some) given.endorsed;
-      count = rw c.in-Some.is at c.in_ok-joined.ensures.count;
+      head = rw c.in-Some.is at c.in_ok-joined.ensures.head;
       bytes = rw c.in-Some.is at c.in_ok-joined.ensures.text;
       accepted = rw c.in-Some.is at c.in_ok-joined.ensures.accepted;
     })
@@ -44,6 +44,6 @@ returns-in-None-clause-unjoined c =
     let seen = same_seen c.deref.ensures.value c.deref-2.ensures.value c.deref-3.ensures.value in
     let endorsed = subst (λ (e : EndorsementParts). Endorsed e) seen given.endorsed in
     let lacks =
-    judged LacksCountUnder (parts_of c.args.parts.now) c.in_ok-endorsement.endorsement c.deref-4.result.now
+    judged (λ public signature. ¬ HasMessageHead public signature) (parts_of c.args.parts.now) c.in_ok-endorsement.endorsement c.deref-4.result.now
     (given.some ∙ seen) c.deref-4.ensures.value (rw c.in-None.is at c.in_ok-joined.ensures.none) in
     inr (endorsed, inl (refl, lacks))

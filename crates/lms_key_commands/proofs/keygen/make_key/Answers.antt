@@ -1,4 +1,4 @@
-use Rattle.std.proofs.Common.{inr, subst}
+use Rattle.std.proofs.Common.{inr, subst₂, List, ℕ}
 use Rattle.std.proofs.lemmas.Result.{IfErr-weaker, on_ok_weaker}
 use Rattle.lms_key_commands.specs.KeygenLogs.{LogsUnmade, PublishesKey}
 use Rattle.lms_commands.specs.Logs.{WorldCalls}
@@ -11,8 +11,8 @@ returns-clause-logged g c =
     on_ok_weaker c.make_locked-made.result
     (λ is. (
       last,
-      subst (λ (log : WorldCalls). PublishesKey c.args.key c.args.public.now c.args.output.now log last)
-          c.in_ok-lock.ensures.logged is.0,
+      subst₂ (λ (public : List ℕ) (log : WorldCalls). PublishesKey c.args.key public c.args.output.now log last)
+          c.in_ok-file.ensures c.in_ok-lock.ensures.logged is.0,
       is.1,
       c.unlock.ensures.logged,
     ))
@@ -22,13 +22,13 @@ pub returns-clause-log_failed : goal.returns-clause-log_failed
 returns-clause-log_failed g c =
     let last = g.W.World.events c.make_locked-made.new.world in
     IfErr-weaker c.make_locked-made.result _ _
-    (λ fault is. inr (
+    (λ fault is. inr (inr (
       last,
-      subst (λ (log : WorldCalls).
-          LogsUnmade c.args.key c.args.public.now c.args.output.now c.make_locked-made.new.output fault log last)
-          c.in_ok-lock.ensures.logged is,
+      subst₂ (λ (public : List ℕ) (log : WorldCalls).
+          LogsUnmade c.args.key public c.args.output.now c.make_locked-made.new.output fault log last)
+          c.in_ok-file.ensures c.in_ok-lock.ensures.logged is,
       c.unlock.ensures.logged,
-    ))
+    )))
     c.make_locked-made.ensures.log_failed
 
 pub returns-clause-follows : goal.returns-clause-follows

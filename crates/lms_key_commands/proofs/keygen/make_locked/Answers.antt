@@ -5,7 +5,7 @@ use Rattle.lms_spec.specs.Profile.{hss_public_key}
 use Rattle.lms_hss.specs.Keys.{hss_key_of}
 use Rattle.lms_hss.specs.declared.key.HssKey.{HssKey}
 use Rattle.lms_kept.specs.Ways.{Way}
-use Rattle.lms_world.specs.Events.{Asked, WitnessRead, Writing, Written}
+use Rattle.lms_world.specs.Events.{Asked, WitnessRead, Writing, Written, output_name}
 use Rattle.lms_world.specs.Names.{Bytes}
 use Rattle.lms_key_commands.specs.KeygenLogs.{AreGenuineTrees, StoresKey, WritesKey, capacity_line}
 use Rattle.lms_commands.specs.Logs.{FailsToPublish, LogsKeeping, Publishes, WorldCalls}
@@ -46,8 +46,8 @@ returns-clause-logged g c =
     on_ok_weaker c.publish.result
     (λ published. (
       record {
-        until_written = Written c.args.public.now public (Ok tt) ∷ kept;
-        writes = writes_so c.args.key c.args.public.now c.in_ok-trees.trees _ _ stored kept genuine _
+        until_written = Written (output_name c.args.file) public (Ok tt) ∷ kept;
+        writes = writes_so c.args.key (output_name c.args.file) c.in_ok-trees.trees _ _ stored kept genuine _
             c.if-exists.ensures.logged c.in_ok-see_none.ensures.none c.in_ok-trees.ensures.logged
             c.keep_trees.ensures.logged (Ok tt);
         prints = published.0;
@@ -56,7 +56,7 @@ returns-clause-logged g c =
     ))
     (subst
     (λ (bytes : List ℕ). OnOk c.publish.result
-    (Publishes c.args.public.now bytes (capacity_line c.args.key) before c.publish.new.output kept new))
+    (Publishes (output_name c.args.file) bytes (capacity_line c.args.key) before c.publish.new.output kept new))
     is c.publish.ensures.published)
 
 pub returns-clause-log_failed : goal.returns-clause-log_failed
@@ -71,12 +71,12 @@ returns-clause-log_failed g c =
     let is = c.public-text.ensures.right genuine.2
     ∙ ap (λ (key : HssKey). hss_public_key (hss_key_of key)) genuine.1 in
     IfErr-weaker c.publish.result _ _
-    (unmade c.args.key c.args.public.now before printed old kept new
-    (writes_so c.args.key c.args.public.now c.in_ok-trees.trees old _ stored kept genuine _
+    (unmade c.args.key (output_name c.args.file) before printed old kept new
+    (writes_so c.args.key (output_name c.args.file) c.in_ok-trees.trees old _ stored kept genuine _
     c.if-exists.ensures.logged c.in_ok-see_none.ensures.none c.in_ok-trees.ensures.logged c.keep_trees.ensures.logged))
     (subst
     (λ (bytes : List ℕ). IfErr c.publish.result
-    (λ fault. FailsToPublish c.args.public.now bytes (capacity_line c.args.key) before printed fault kept new))
+    (λ fault. FailsToPublish (output_name c.args.file) bytes (capacity_line c.args.key) before printed fault kept new))
     is c.publish.ensures.failed)
 
 pub returns-clause-follows : goal.returns-clause-follows

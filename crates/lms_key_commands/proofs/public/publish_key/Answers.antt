@@ -1,4 +1,4 @@
-use Rattle.std.proofs.Common.{inl, inr, refl, subst, sym, List, ℕ}
+use Rattle.std.proofs.Common.{inl, inr, refl, subst, subst₂, sym, List, ℕ}
 use Rattle.std.specs.Prelude.{IfErr, OnOk}
 use Rattle.std.proofs.lemmas.Result.{IfErr-weaker, on_ok_weaker}
 use Rattle.lms_hss.specs.declared.key.HssKey.{HssKey}
@@ -19,10 +19,10 @@ returns-clause-logged g c =
     (λ (key : HssKey). OnOk c.publish.result
     (PublishesOf key c.args.public.now c.args.output.now c.publish.new.output last new))
     (sym read.1)
-    (subst
-    (λ (bytes : List ℕ). OnOk c.publish.result
-    (Publishes c.args.public.now bytes (capacity_line c.in_ok-key.key) c.args.output.now c.publish.new.output last new))
-    c.in_ok-text.ensures c.publish.ensures.published))
+    (subst₂
+    (λ (public bytes : List ℕ). OnOk c.publish.result
+    (Publishes public bytes (capacity_line c.in_ok-key.key) c.args.output.now c.publish.new.output last new))
+    c.in_ok-file.ensures c.in_ok-text.ensures c.publish.ensures.published))
 
 pub returns-clause-log_failed : goal.returns-clause-log_failed
 returns-clause-log_failed g c =
@@ -34,15 +34,21 @@ returns-clause-log_failed g c =
     (λ (key : HssKey). IfErr c.publish.result
     (λ fault. FailsToPublishOf key c.args.public.now c.args.output.now c.publish.new.output fault last new))
     (sym read.1)
-    (subst
-    (λ (bytes : List ℕ). IfErr c.publish.result
-    (λ fault. FailsToPublish c.args.public.now bytes
+    (subst₂
+    (λ (public bytes : List ℕ). IfErr c.publish.result
+    (λ fault. FailsToPublish public bytes
     (capacity_line c.in_ok-key.key) c.args.output.now c.publish.new.output fault last new))
-    c.in_ok-text.ensures c.publish.ensures.failed))
+    c.in_ok-file.ensures c.in_ok-text.ensures c.publish.ensures.failed))
 
 pub returns-in_err-key-clause-log_failed : goal.returns-in_err-key-clause-log_failed
 returns-in_err-key-clause-log_failed g c =
     handed_on _ _ _ c.from_residual.ensures.1 (inl (c.in_err-key.ensures.unread, refl))
+
+pub returns-in_err-file-clause-log_failed : goal.returns-in_err-file-clause-log_failed
+returns-in_err-file-clause-log_failed g c =
+    let last = g.W.World.events c.read_key.new.world in
+    let read = c.in_ok-key.ensures.logged in
+    handed_on _ _ _ c.from_residual-in_err-file.ensures.1 (inr (read.0, last, read.2, inl (refl, refl, refl)))
 
 pub returns-in_err-text-clause-log_failed : goal.returns-in_err-text-clause-log_failed
 returns-in_err-text-clause-log_failed g c =

@@ -1,4 +1,4 @@
-use Rattle.std.proofs.Common.{inr, subst, ◌≡◌, ◌++◌}
+use Rattle.std.proofs.Common.{inr, subst₂, List, ℕ, ◌≡◌, ◌++◌}
 use Rattle.lms_commands.specs.Logs.{WorldCalls}
 use Rattle.lms_signature_commands.specs.SignLogs.{DeliversSignature, LogsUndelivered, index_line}
 use Rattle.lms_commands.proofs.Logged.{two_calls}
@@ -20,9 +20,9 @@ returns-clause-logged g c =
       text,
       last,
       c.in_ok-randomizer.ensures.read,
-      subst (λ (log : WorldCalls).
-          (delivers : DeliversSignature randomizer text c.args.request.now.out.now before log last)
-          × (after ≡ before ++ index_line delivers.writes)) calls is,
+      subst₂ (λ (out : List ℕ) (log : WorldCalls).
+          (delivers : DeliversSignature randomizer text out before log last)
+          × (after ≡ before ++ index_line delivers.writes)) c.in_ok-out.ensures calls is,
       c.unlock.ensures.logged,
     ))
     c.sign_locked-done.ensures.logged
@@ -35,15 +35,15 @@ returns-clause-log_failed g c =
     let last = g.W.World.events c.sign_locked-done.new.world in
     let calls = two_calls _ _ _ _ _ c.in_ok-message.ensures.logged c.in_ok-lock.ensures.logged in
     IfErr-weaker c.sign_locked-done.result _ _
-    (λ fault is. inr (inr (inr (
+    (λ fault is. inr (inr (inr (inr (
       randomizer,
       text,
       last,
       c.in_ok-randomizer.ensures.read,
-      subst (λ (log : WorldCalls). LogsUndelivered randomizer text c.args.request.now.out.now before
-          c.sign_locked-done.new.output fault log last) calls is,
+      subst₂ (λ (out : List ℕ) (log : WorldCalls). LogsUndelivered randomizer text out before
+          c.sign_locked-done.new.output fault log last) c.in_ok-out.ensures calls is,
       c.unlock.ensures.logged,
-    ))))
+    )))))
     c.sign_locked-done.ensures.log_failed
 
 pub returns-clause-follows : goal.returns-clause-follows

@@ -1,6 +1,6 @@
 use Rattle.std.proofs.Common.{sym, subst, refl, inl, inr, ⊎_elim, ℕ, List, Option, Ok, Err, ◌≡◌, ◌∷◌}
 use Rattle.std.proofs.lemmas.Result.{IfErr-weaker, on_ok_weaker}
-use Rattle.lms_world.specs.Events.{NodesRead, Writing, Written}
+use Rattle.lms_world.specs.Events.{NodesRead, Writing, Written, output_name}
 use Rattle.lms_world.specs.Names.{Bytes}
 use Rattle.lms_commands.specs.Logs.{WorldCalls, write_cause}
 use Rattle.lms_signature_commands.specs.SignLogs.{LogsNotSigned, LogsSigned, WritesSignature}
@@ -35,8 +35,8 @@ returns-clause-logged g c =
     on_ok_weaker c.deliver.result
     (λ published. (
       record {
-        until_written = Written c.args.out.now is.signature.items (Ok tt) ∷ signed;
-        writes = writes_so job.c job.message.items c.args.out.now _ is.index is.signature.items _ asked signed
+        until_written = Written (output_name c.args.out) is.signature.items (Ok tt) ∷ signed;
+        writes = writes_so job.c job.message.items (output_name c.args.out) _ is.index is.signature.items _ asked signed
             c.kept_text-kept.ensures.logged signs (Ok tt);
         prints = published.0;
       },
@@ -54,7 +54,7 @@ returns-clause-log_failed g c =
     let signs = subst (λ (nodes : Option (List ℕ)).
     LogsSigned nodes job.c job.message.items is.index is.signature.items asked signed) c.as_deref.ensures.value
     c.in_ok-signed.ensures.logged in
-    let writes = writes_so job.c job.message.items c.args.out.now _ is.index is.signature.items _ asked signed
+    let writes = writes_so job.c job.message.items (output_name c.args.out) _ is.index is.signature.items _ asked signed
     c.kept_text-kept.ensures.logged signs in
     IfErr-weaker c.deliver.result _ _
     (λ fault failed. inr (
@@ -63,7 +63,7 @@ returns-clause-log_failed g c =
           (λ (refused, calls, same). inl (
             write_cause failed.1.0,
             subst (λ (log : WorldCalls).
-                WritesSignature job.c job.message.items c.args.out.now (Err (write_cause failed.1.0)) old log)
+                WritesSignature job.c job.message.items (output_name c.args.out) (Err (write_cause failed.1.0)) old log)
                 (sym calls) (writes (Err (write_cause failed.1.0))),
             same,
           ))

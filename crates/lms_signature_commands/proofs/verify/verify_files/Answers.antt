@@ -1,5 +1,5 @@
-use Rattle.std.proofs.Common.{[], List, ℕ, Option, inl, inr, refl, subst, subst₂}
-use Rattle.lms_world.proofs.Following.{one_call, one_more}
+use Rattle.std.proofs.Common.{◌∙◌, [], List, ℕ, Option, inl, inr, refl, subst, subst₂}
+use Rattle.lms_world.proofs.Following.{one_call, one_more, then_nothing}
 use Rattle.lms_signature_commands.specs.VerifyLogs.{LogsJudging}
 use Rattle.lms_signature_commands.specs.Verdicts.{IsRightFor}
 use Rattle.lms_commands.proofs.Failing.{handed_on}
@@ -36,7 +36,7 @@ returns-clause-logged g c =
       c.in_ok-signature.signature.items,
       subst₂ (λ (key signed : List ℕ). IsRightFor c.finish-verdict.result key handed.0 signed) c.deref.ensures.value
           c.deref-2.ensures.value right,
-      (_, _, handed.1, calls, c.begin_printing.ensures.logged),
+      (_, _, handed.1, calls, c.explain_verdict.ensures.unlogged ∙ c.begin_printing.ensures.logged),
       c.in_ok-print_verdict.ensures.printed,
     )
 
@@ -67,7 +67,8 @@ returns-in_err-print_verdict-clause-follows g c =
 
 pub returns-clause-follows : goal.returns-clause-follows
 returns-clause-follows g c =
-    one_more (one_more (one_more (one_call c.in_ok-public.ensures.logged c.in_ok-public.ensures.acts)
+    then_nothing (one_more (one_more (one_more (one_call c.in_ok-public.ensures.logged c.in_ok-public.ensures.acts)
     c.in_ok-message.ensures.logged c.in_ok-message.ensures.acts) c.in_ok-signature.ensures.logged
     c.in_ok-signature.ensures.acts)
-    c.begin_printing.ensures.logged c.begin_printing.ensures.acts
+    c.begin_printing.ensures.logged c.begin_printing.ensures.acts)
+    c.explain_verdict.ensures.unlogged c.explain_verdict.ensures.same

@@ -1,6 +1,6 @@
 use denote.Param.Send.{sendable}
 use Rattle.std.proofs.Crossing.{crosses}
-use Rattle.lms_world.proofs.Sent.{store_is_sent}
+use Rattle.lms_disk.proofs.Sent.{store_is_sent}
 use Rattle.lms_world_tests.proofs.tests.a_folder_breaks_off.Goals as goal
 
 pub breaks_off-requires-send-W-Store : goal.breaks_off-requires-send-W-Store

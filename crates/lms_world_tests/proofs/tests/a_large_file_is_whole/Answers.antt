@@ -1,6 +1,6 @@
 use denote.Param.Send.{sendable}
 use Rattle.std.proofs.Crossing.{crosses}
-use Rattle.lms_world.proofs.Sent.{store_is_sent}
+use Rattle.lms_disk.proofs.Sent.{store_is_sent}
 use Rattle.lms_world_tests.proofs.tests.a_large_file_is_whole.Goals as goal
 
 pub writes-requires-send-W-Store : goal.writes-requires-send-W-Store

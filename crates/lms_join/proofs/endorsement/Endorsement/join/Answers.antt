@@ -2,15 +2,11 @@ use Rattle.std.proofs.Common.{◌↔◌, ◌-◌, ◌++◌, sym, ◌∙◌, ap, 
 use Rattle.lms_spec.specs.Bytes.{u32str}
 use Rattle.lms_spec.specs.Hss.{HssAccepts}
 use Rattle.lms_join.specs.Joined.{count_of, joined_public}
-use Rattle.lms_join.proofs.Fields.{never-accepted, signer-count, signature-of-fields, exact-of-fields}
+use Rattle.lms_join.proofs.Fields.{signer-count, signature-of-fields, exact-of-fields}
 use Rattle.lms_join.proofs.endorsement.Endorsement.join.Goals as goal
 
-pub returns-in_default-clause-never : goal.returns-in_default-clause-never
-returns-in_default-clause-never c message =
-    never-accepted c.args.self.now.signer_public c.args.signature.now message c.in_default.ensures.none
-
 pub returns-clause-text : goal.returns-clause-text
-returns-clause-text c =
+returns-clause-text g c =
     let inside = c.self.inside in
     let keys = inside.keys in
     let it = c.args.self.now in
@@ -21,7 +17,7 @@ returns-clause-text c =
     c.self.invariant c.self.view_is c.in-Some.ensures.some
 
 pub returns-clause-accepted : goal.returns-clause-accepted
-returns-clause-accepted c message =
+returns-clause-accepted g c message =
     let inside = c.self.inside in
     let keys = inside.keys in
     let it = c.args.self.now in
@@ -31,7 +27,7 @@ returns-clause-accepted c message =
     c.self.invariant c.self.view_is in
     subst (λ text. HssAccepts (joined_public it.top_public it.signer_public) message text
     ↔ HssAccepts it.signer_public message c.args.signature.now)
-    (sym (returns-clause-text c))
+    (sym (returns-clause-text g c))
     (exact-of-fields keys.top.levels keys.signer.levels keys.top.lms_key.now inside.signatures.now
     keys.signer.lms_key.now it
     c.args.signature.now text message c.self.invariant c.self.view_is

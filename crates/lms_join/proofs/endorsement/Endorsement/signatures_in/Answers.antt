@@ -1,40 +1,41 @@
-use Rattle.std.proofs.Common.{◌≡◌, ◌-◌, ◌++◌, ◌∙◌, ap, arith, inr}
-use Rattle.lms_spec.specs.Bytes.{u32str}
-use Rattle.lms_join.specs.Joined.{count_of}
-use Rattle.lms_join.proofs.Joins.{count-is}
-use Rattle.lms_join.proofs.Fields.{has-count, signer-count}
+use Rattle.std.proofs.Common.{◌∙◌, List, ℕ, ap, arith, subst}
+use Rattle.lms_spec.specs.Hss.{HssAccepts}
+use Rattle.lms_join.specs.Endorsements.{EndorsementParts, HasMessageHead}
+use Rattle.lms_join.proofs.Fields.{cut-by-head, head-of-begun, long-by-head}
 use Rattle.lms_join.proofs.endorsement.Endorsement.signatures_in.Goals as goal
 
-pub returns-then-signed_keys-self-clause-none : goal.returns-then-signed_keys-self-clause-none
-returns-then-signed_keys-self-clause-none c =
-    let inside = c.self.inside in
-    let keys = inside.keys in
-    let levels : count_of c.args.self.now.signer_public ≡ keys.signer.levels
-    = signer-count keys.top.levels keys.signer.levels keys.top.lms_key.now inside.signatures.now keys.signer.lms_key.now
-    c.args.self.now c.self.invariant c.self.view_is in
-    let here = c.in_ok-signed_keys in
-    let same : count_of c.args.signature.now ≡ here.signed_keys
-    = count-is here.signed_keys c.args.signature.now here.signatures.now here.ensures.fits here.ensures.parts in
-    inr (λ count. absurd (omega (arith, levels, same, count)))
+pub returns-in_err-_verifier-clause-none : goal.returns-in_err-_verifier-clause-none
+returns-in_err-_verifier-clause-none g c =
+    let same = c.public-public.ensures ∙ ap (λ (e : EndorsementParts). e.signer_public) c.self.view_is in
+    rw c.from_residual.ensures
+    (subst (λ (public : List ℕ). HasMessageHead public c.args.signature.now → ⊥) same
+    (λ has. c.in_err-_verifier.ensures.no_head has.0 has.1))
+
+pub returns-in_err-_verifier-clause-never : goal.returns-in_err-_verifier-clause-never
+returns-in_err-_verifier-clause-never g c =
+    let same = c.public-public.ensures ∙ ap (λ (e : EndorsementParts). e.signer_public) c.self.view_is in
+    rw c.from_residual.ensures
+    (λ message. subst (λ (public : List ℕ). HssAccepts public message c.args.signature.now → ⊥) same
+    (c.in_err-_verifier.ensures.none message))
+
+pub returns-in_err-signatures-clause-none : goal.returns-in_err-signatures-clause-none
+returns-in_err-signatures-clause-none g c =
+    let has = head-of-begun _ _ _ _ c.in_ok-_verifier.ensures.some in
+    absurd (omega (arith, long-by-head _ _ has, c.in_err-signatures.ensures.none))
+
+pub returns-in_err-signatures-clause-never : goal.returns-in_err-signatures-clause-never
+returns-in_err-signatures-clause-never g c =
+    let has = head-of-begun _ _ _ _ c.in_ok-_verifier.ensures.some in
+    absurd (omega (arith, long-by-head _ _ has, c.in_err-signatures.ensures.none))
+
+pub returns-clause-head : goal.returns-clause-head
+returns-clause-head g c =
+    let same = c.public-public.ensures ∙ ap (λ (e : EndorsementParts). e.signer_public) c.self.view_is in
+    subst (λ (public : List ℕ). HasMessageHead public c.args.signature.now) same
+    (head-of-begun _ _ _ _ c.in_ok-_verifier.ensures.some)
 
 pub returns-clause-some : goal.returns-clause-some
-returns-clause-some c =
-    let inside = c.self.inside in
-    let keys = inside.keys in
-    let here = c.in_ok-signed_keys in
-    let levels : count_of c.args.self.now.signer_public ≡ keys.signer.levels
-    = signer-count keys.top.levels keys.signer.levels keys.top.lms_key.now inside.signatures.now keys.signer.lms_key.now
-    c.args.self.now c.self.invariant c.self.view_is in
-    let number : here.signed_keys ≡ count_of c.args.self.now.signer_public - 1 = omega arith in
-    here.ensures.parts ∙ ap (λ n. u32str n ++ here.signatures.now) number
-
-pub returns-clause-count : goal.returns-clause-count
-returns-clause-count c =
-    let inside = c.self.inside in
-    let keys = inside.keys in
-    let here = c.in_ok-signed_keys in
-    let levels : count_of c.args.self.now.signer_public ≡ keys.signer.levels
-    = signer-count keys.top.levels keys.signer.levels keys.top.lms_key.now inside.signatures.now keys.signer.lms_key.now
-    c.args.self.now c.self.invariant c.self.view_is in
-    has-count here.signed_keys c.args.self.now.signer_public c.args.signature.now here.signatures.now
-    here.ensures.fits here.ensures.parts (omega arith)
+returns-clause-some g c =
+    let parts = c.in_ok-signatures in
+    cut-by-head parts.field-0-0 c.args.self.now.signer_public c.args.signature.now parts.signatures.now
+    parts.ensures.fits parts.ensures.parts (returns-clause-head g c)

@@ -1,6 +1,6 @@
 use denote.Param.Send.{sendable}
 use Rattle.std.proofs.Crossing.{crosses}
-use Rattle.lms_world.proofs.Sent.{store_is_sent}
+use Rattle.lms_disk.proofs.Sent.{store_is_sent}
 use Rattle.lms_world_tests.proofs.tests.nodes.nodes_are_kept_on_a_disk.Goals as goal
 
 pub keeps_each-requires-send-W-Store : goal.keeps_each-requires-send-W-Store

@@ -1,6 +1,6 @@
 use denote.Param.Send.{sendable}
 use Rattle.std.proofs.Crossing.{crosses}
-use Rattle.lms_world.proofs.Sent.{store_is_sent}
+use Rattle.lms_disk.proofs.Sent.{store_is_sent}
 use Rattle.lms_world_tests.proofs.tests.nodes.unknown_nodes_are_not_read.Goals as goal
 
 pub reads_none_of_what_is_written-requires-send-W-Store : goal.reads_none_of_what_is_written-requires-send-W-Store

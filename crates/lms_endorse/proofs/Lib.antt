@@ -1,0 +1,4 @@
+pub mod EndorseInMemory
+pub mod EndorseTurns
+pub mod Endorsements
+pub mod Orders

@@ -1,0 +1,11 @@
+pub mod Found
+pub mod Indices
+pub mod InspectInMemory
+pub mod InspectLogs
+pub mod Keeping
+pub mod InspectTurns
+pub mod Laws
+pub mod Levels
+pub mod PublicKeys
+pub mod Signatures
+pub mod Texts

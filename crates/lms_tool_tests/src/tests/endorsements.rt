@@ -1,0 +1,155 @@
+//! `endorse` and `inspect`, over files in memory.
+use super::arguments::{CHEAP, keygen};
+use super::states::is_with;
+use super::{fails_with, says, write, write_hex};
+use lms_fixtures::{image_with, key_of};
+use lms_slow::vectors::ONE_5_8;
+use lms_world::{MemoryWorld, World, WorldFault};
+use std::alloc::Global;
+use std::test::Fail;
+
+pub(super) const ENDORSE: [&str; 12] = [
+    "lms_tool",
+    "endorse",
+    "--state",
+    "key.state",
+    "--random",
+    "3333333333333333333333333333333333333333333333333333333333333333",
+    "--signer",
+    "signer.pub",
+    "--joined",
+    "2",
+    "--out",
+    "signer.end",
+];
+
+/// What is printed of the signer's key.
+pub(super) const ENDORSED: &str =
+    "index 0\nsigner 4c4f3f5abf46ef7fcf34c8667ea0ad357c9ab6e7b9aecc1f4beb5f0acdab8f41\n";
+
+const JOIN: [&str; 12] = [
+    "lms_tool",
+    "join",
+    "--public",
+    "key.pub",
+    "--endorsement",
+    "signer.end",
+    "--signer",
+    "signer.pub",
+    "--signature",
+    "signer.sig",
+    "--out",
+    "text.sig",
+];
+
+const JOIN_PUBLIC: [&str; 8] = [
+    "lms_tool",
+    "join-public",
+    "--public",
+    "key.pub",
+    "--signer",
+    "signer.pub",
+    "--out",
+    "joined.pub",
+];
+
+const VERIFY_JOINED: [&str; 8] = [
+    "lms_tool",
+    "verify",
+    "--public",
+    "joined.pub",
+    "--message",
+    "text",
+    "--signature",
+    "text.sig",
+];
+
+/// More bytes than a signature can have.
+const TOO_MANY: usize = 74_989;
+
+pub(super) fn inspect(name: &str) -> [&str; 4] {
+    ["lms_tool", "inspect", "--file", name]
+}
+
+/// The arguments that make a top key, whose identifier is not the signer's.
+pub(super) fn make_top() -> [&'static str; 12] {
+    let mut arguments = keygen("5/2");
+    arguments[7] = "99999999999999999999999999999999";
+    arguments
+}
+
+/// Writes a signer's key, its signature and the message.
+pub(super) fn write_signer<W: World>(alloc: Global, world: &mut W) -> Result<(), Fail> {
+    for (name, digits) in [
+        ("signer.pub", ONE_5_8.public),
+        ("signer.sig", ONE_5_8.signature),
+    ] {
+        let bytes = hex::decode(alloc, digits)?;
+        write(alloc, world, name, &bytes)?;
+    }
+    write(alloc, world, "text", ONE_5_8.message.as_bytes())?;
+    Ok(())
+}
+
+/// An endorsement has the signer's signature joined.
+#[test]
+fn an_endorsed_signer_is_joined(rt: HostRuntime) -> Result<(), Fail> {
+    let mut world = MemoryWorld::new(rt.alloc());
+    write_signer(rt.alloc(), &mut world)?;
+    assert!(rt; says(&rt, &make_top(), &mut world, 0, "capacity 32\n"));
+    assert!(rt; says(&rt, &ENDORSE, &mut world, 0, ENDORSED));
+    assert!(rt; says(&rt, &JOIN, &mut world, 0, ""));
+    assert!(rt; says(&rt, &JOIN_PUBLIC, &mut world, 0, ""));
+    assert!(rt; says(&rt, &VERIFY_JOINED, &mut world, 0, "valid\n"));
+    Ok(())
+}
+
+/// A key that does not fit uses no index: one of other levels, the top key itself, and what is none.
+#[test]
+fn what_does_not_fit_uses_no_index(rt: HostRuntime) -> Result<(), Fail> {
+    let mut world = MemoryWorld::new(rt.alloc());
+    write_signer(rt.alloc(), &mut world)?;
+    assert!(rt; says(&rt, &keygen("5/2"), &mut world, 0, "capacity 32\n"));
+    for (at, value) in [(9, "3"), (7, "key.pub"), (7, "text")] {
+        let mut arguments = ENDORSE;
+        arguments[at] = value;
+        assert!(rt; fails_with(&rt, &arguments, &mut world, 2, "error: bad public key\n"));
+    }
+    assert!(rt; is_with(&world, &CHEAP, 0, 0, 0));
+    assert!(rt; world.read(rt.alloc(), "signer.end").is_err());
+    Ok(())
+}
+
+/// A state with its witness, a public key, and other bytes, also those that are too many.
+#[test]
+fn a_file_is_what_its_bytes_say(rt: HostRuntime) -> Result<(), Fail> {
+    let mut world = MemoryWorld::new(rt.alloc());
+    let image = image_with(key_of(&CHEAP, 0x11)?, 3, 2, 1)?;
+    write(rt.alloc(), &mut world, "a.state", image.as_slice())?;
+    let state = "state\nlevels 5/2\ncounter 3\ncapacity 32\nleft 29\nopenings 2\nburnt 1\n\
+        id 22222222222222222222222222222222\nwitness none\n";
+    assert!(rt; says(&rt, &inspect("a.state"), &mut world, 0, state));
+    write_hex(rt.alloc(), &mut world, "key.pub", ONE_5_8.public)?;
+    let public = "public key\nlevels 1\ntop 5/8\nid 6352be49064edf2307250dcd76f1e9e7\n\
+        sha256 4c4f3f5abf46ef7fcf34c8667ea0ad357c9ab6e7b9aecc1f4beb5f0acdab8f41\n";
+    assert!(rt; says(&rt, &inspect("key.pub"), &mut world, 0, public));
+    let nothing = "no state, public key or signature\n";
+    write(rt.alloc(), &mut world, "text", b"abc")?;
+    assert!(rt; says(&rt, &inspect("text"), &mut world, 1, nothing));
+    let many = vec![in rt.alloc(); 0u8; TOO_MANY]?;
+    write(rt.alloc(), &mut world, "text", &many)?;
+    assert!(rt; says(&rt, &inspect("text"), &mut world, 1, nothing));
+    Ok(())
+}
+
+/// A file that can't be read, and one that memory is refused for.
+#[test]
+fn a_file_that_is_not_read_is_a_fault(rt: HostRuntime) -> Result<(), Fail> {
+    let mut world = MemoryWorld::new(rt.alloc());
+    let missing = "error: cannot read input\n";
+    assert!(rt; fails_with(&rt, &inspect("text"), &mut world, 6, missing));
+    world.fail("text", WorldFault::OutOfMemory)?;
+    let refused = "error: out of memory\n";
+    assert!(rt; fails_with(&rt, &inspect("text"), &mut world, 5, refused));
+    Ok(())
+}
