@@ -1,42 +1,55 @@
 """Sums of what the wrong bodies of a crate are tried over, for `wrong_bodies`.
 
-A sum is over the whole crate but for lines that are comments, and over what is stated in the crates of
-the repository below it: their code without bodies, and their definitions. Left out are their bodies,
-which no other crate's proofs read, and their lemmas: no contract cites one, so they can change how a
-proof is found, and not what a contract says, and a body that breaks it stays refused."""
+A sum is over the crate's code and definitions but for lines that are comments, and over what is stated
+in the crates of the repository below it: their definitions, and their code without bodies, imports,
+and functions that another crate can't name. Left out are all lemmas and proofs: no contract cites one,
+so they can change how a proof is found, and not what a contract says, and a body that breaks it stays
+refused."""
 
 import hashlib
 import re
 
 from tests.harness import TOP
-from tests.merge_check.crates import PARTS, crates_listed, files_of, libraries_of
+from tests.merge_check.crates import crates_listed, files_of, libraries_of
 
 SUMS = TOP / "tests" / "wrong_bodies.sums"
+# The parts of a crate that say something.
+SAID = ("src", "specs")
 # The line on which a function begins, but for a `const` one, whose value other crates may read.
-HEAD = re.compile(r"( *)(?:pub(?:\([^)]*\))? )?(?:unsafe |extern \"C\" )*fn \w")
+HEAD = re.compile(r"( *)(pub(?:\([^)]*\))? )?(?:unsafe |extern \"C\" )*fn \w")
+# Imports, and texts, of a crate alone.
+OWN = re.compile(r"(?ms)^(?:use (?:crate|super|std)::|pub\(crate\) const \w+: &str =).*?;\n")
+
+
+def is_own(head):
+    """Whether no other crate can name the function that begins so: it is no method, and not public to all."""
+    margin, visibility = head[1], head[2] or ""
+    return visibility.startswith("pub(") or not margin + visibility
 
 
 def statements(text):
-    """A file of code without bodies of functions, and without comments. As `rt fmt` lays it out, a
-    body begins on a line that ends with its brace and is no further in than its function, and ends
-    with a brace alone in that place."""
-    kept, margin, is_in_body = [], None, False
+    """A file of code without bodies of functions, comments, and what is the crate's own. As `rt fmt`
+    lays it out, a body begins on a line that ends with its brace and is no further in than its
+    function, and ends with a brace alone in that place."""
+    kept, margin, is_in_body, is_left_out = [], None, False, False
     for line in text.split("\n"):
         if is_in_body:
             if line == f"{margin}}}":
-                is_in_body, margin = False, None
-        elif not line.lstrip().startswith("//"):
-            kept.append(line)
+                is_in_body, margin, is_left_out = False, None, False
+        elif line and not line.lstrip().startswith("//"):
             head = HEAD.match(line)
-            margin = head[1] if head else margin
+            if head:
+                margin, is_left_out = head[1], is_own(head)
+            if not is_left_out:
+                kept.append(line)
             if margin is None:
                 continue
             # (Clauses are further in than their function.)
             is_at_margin = re.match(rf"{margin}\S", line)
             is_in_body = is_at_margin and line.endswith("{")
             if line.endswith((";", "}") if is_at_margin else "};"):
-                margin = None
-    return text if is_in_body else "\n".join(kept)
+                margin, is_left_out = None, False
+    return text if is_in_body else OWN.sub("", "\n".join(kept))
 
 
 def without_comments(path, text):
@@ -52,10 +65,10 @@ def edits_in(name):
 
 def sum_of(name):
     """The sum of a crate."""
-    parts = [(it, without_comments(it, it.read_text(encoding="utf-8"))) for it in files_of(name, *PARTS)]
+    parts = [(it, without_comments(it, it.read_text(encoding="utf-8"))) for it in files_of(name, *SAID)]
     parts.append((edits_in(name), edits_in(name).read_text(encoding="utf-8")))
     for low in libraries_of(name):
-        texts = [(it, it.read_text(encoding="utf-8")) for it in files_of(low, "src", "specs")]
+        texts = [(it, it.read_text(encoding="utf-8")) for it in files_of(low, *SAID)]
         parts += [(it, statements(text) if it.suffix == ".rt" else without_comments(it, text)) for it, text in texts]
     uses, static = crates_listed()
     lines = [(it, uses[it], it in static) for it in (name, *libraries_of(name))]

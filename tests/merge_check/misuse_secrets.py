@@ -36,8 +36,8 @@ SEEDS = """
     lms_cli: explain_seed: world.explain(format_args!( , seed.len()))
     lms_cli: obey: let key = key_from(resources.alloc, &levels, &seed, &id, input)?
     lms_cli: obey: levels, seed, id, state, public,
-    lms_cli: outside: levels: String, seed: String, id: String, state: String, public: String,
-    lms_cli: read: levels: option_text(alloc, options, )?, seed: option_text(alloc, options, )?, id: option_text(alloc, options, )?, state: option_text(alloc, options, )?, public: option_text(alloc, options, )?,
+    lms_command_line: outside: levels: String, seed: String, id: String, state: String, public: String,
+    lms_command_line: read: levels: option_text(alloc, options, )?, seed: option_text(alloc, options, )?, id: option_text(alloc, options, )?, state: option_text(alloc, options, )?, public: option_text(alloc, options, )?,
     lms_hss: child_key: lms, ots, i, seed: derived(parent, q, FOR_CHILD_SEED),
     lms_hss: derived: secret(&parent.seed, OtsId
     lms_hss: new: levels, seed, i
@@ -78,7 +78,7 @@ SEEDS = """
 # A field of bytes, and which types of the product that can be printed have one: an identifier, what clap says,
 # what of a file is public, and a file's name.
 BYTES_FIELD = re.compile(r"\[\s*[ui](?:8|16|32|64|128|size)\b|\b(?:u8|String|str|Vec|ArrayVec|ArrayString)\b")
-WITH_BYTES = {"ClapText of lms_cli", "KeyParts of lms_inspect", "KeyedLevel of lms_inspect", "OtsId of lms_ots", "Quoted of lms_world"}
+WITH_BYTES = {"ClapText of lms_command_line", "KeyParts of lms_inspect", "KeyedLevel of lms_inspect", "OtsId of lms_ots", "Quoted of lms_world"}
 
 
 def bodies():

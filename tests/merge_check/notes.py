@@ -204,7 +204,10 @@ STATES = {
     "an older state": (seen(9), sign(), 3, "state is older than its witness", "the state is an older copy; KEYS says what to do with it"),
     "a state that is the newest": (seen(3), resume(3), 3, "state is not older than its witness", "there is nothing to resume"),
     "another counter": (begin, witness(2, "file"), 3, "counter is 3", "that is what is counted, and --counter says another number"),
-    "another counter of a witness": (seen(9), resume(5), 3, "counter is 9", "that is what is counted, and --counter says another number"),
+    "another counter of a witness": (seen(9), resume(5), 3, "counter is 9", "that is what the witness says, and --counter says another number"),
+    "indices that can't be counted": (
+        lambda: (seen(9)(), os.mkdir("key.state.new")), resume(9), 3, "cannot write state: 3 to 8 burnt", "info tells whether the indices are counted; give resume again",
+    ),
     "a witness of more than all": (seen(99), resume(99), 4, "exhausted: 29 left", "the witness counts more indices than the key has"),
 }
 # Each case of a batch: what is made, its input, the status, the fault and the note.
@@ -242,6 +245,9 @@ VERDICTS = {
         {"key.pub": public_of(TWO), "text.sig": OF_TWO[:1296] + TYPES + OF_TWO[1300:]}, "the signature's key of level 2 has types that are not known",
     ),
     "a signature of other levels": ({"text.sig": number(1, 4) + SIGNATURE[4:]}, "the signature says 2 levels, and the public key 1"),
+    "a signature of more levels": ({"text.sig": OF_TWO}, "the signature says 2 levels, and the public key 1"),
+    "a signature of fewer levels": ({"key.pub": public_of(TWO)}, "the signature says 1 levels, and the public key 2"),
+    "a signature of too many levels": ({"text.sig": number(8, 4) + SIGNATURE[4:]}, "the signature says 9 levels, and the public key 1"),
     "a signature of no types": ({"text.sig": bytes(1296)}, "at level 1 the signature is of other types than its key"),
     "a signature by no leaf": ({"text.sig": SIGNATURE[:4] + number(32, 4) + SIGNATURE[8:]}, "at level 1 the signature is by leaf 32, which its tree has not"),
     "a lower level by no leaf": (

@@ -16,7 +16,7 @@ from typing import NamedTuple
 from tests.harness import TOP, holds, said_by
 from tests.merge_check.package_texts import COMPLETIONS, PAGES, has_changelog, has_completions, has_manual
 
-VERSION = re.search(r'VERSION: &str = "(.*)"', (TOP / "crates/lms_cli/src/version.rt").read_text(encoding="utf-8"))[1]
+VERSION = re.search(r'VERSION: &str = "(.*)"', (TOP / "crates/lms_command_line/src/version.rt").read_text(encoding="utf-8"))[1]
 NAME, DEBIAN = f"lms_tool-{VERSION}-x86_64", f"lms-tool_{VERSION}_amd64.deb"
 ARM_NAME, ARM_DEBIAN = f"lms_tool-{VERSION}-aarch64", f"lms-tool_{VERSION}_arm64.deb"
 # The other Debian packages for an architecture: those of the shared library and of what programs are built with.

@@ -249,9 +249,10 @@ def writes_nothing_beside_a_state():
                 os.remove(name)
                 continue
             fails(words, *REFUSED)
-            # (A `sign` writes nodes and a draft beside its own state, before that.)
-            is_own = words[0] == "sign" and name.startswith("key.state")
-            holds(not there or is_own or read(name) == b"older", f"{name} is another file")
+            # (A run locks its own state, and a `sign` writes nodes and a draft beside it, before that.)
+            is_own = name.startswith("key.state") and (words[0] == "sign" or name.endswith(".lock"))
+            stays = read(name) == b"older" if there else not os.path.lexists(name)
+            holds(is_own or stays, f"{name} is another file")
         for it in ("link", name):
             if os.path.lexists(it):
                 os.remove(it)

@@ -22,13 +22,13 @@ use Rattle.lms_commands.proofs.Telling.{nothing_done}
 use Rattle.lms_inspect.proofs.InspectInMemory.{fails_to_inspect_in_memory, inspects_in_memory}
 use Rattle.lms_join_commands.proofs.JoinInMemory.{fails_to_join_in_memory, fails_to_join_keys_in_memory}
 use Rattle.lms_join_commands.proofs.JoinInMemory.{joins_in_memory, joins_keys_in_memory}
-use Rattle.lms_cli.specs.Commands.{AreTakenAs}
+use Rattle.lms_command_line.specs.Commands.{AreTakenAs}
 use Rattle.lms_cli.specs.Deeds.{Rights, deed}
 use Rattle.lms_cli.specs.RunsInMemory.{ChangesAsked, ChangesAskedInMemory}
-use Rattle.lms_cli.specs.declared.command.types.Command.{Command}
-use Rattle.lms_cli.specs.declared.command.types.Command.TheVariants.{Batch, Endorse, Info, Inspect, Join, JoinPublic}
-use Rattle.lms_cli.specs.declared.command.types.Command.TheVariants.{Keygen}
-use Rattle.lms_cli.specs.declared.command.types.Command.TheVariants.{Public, Resume, Serve, Sign, Verify, Witness}
+use Rattle.lms_command_line.specs.declared.command.types.Command.{Command}
+use Rattle.lms_command_line.specs.declared.command.types.Command.TheVariants.{Batch, Endorse, Info, Inspect}
+use Rattle.lms_command_line.specs.declared.command.types.Command.TheVariants.{Join, JoinPublic, Keygen}
+use Rattle.lms_command_line.specs.declared.command.types.Command.TheVariants.{Public, Resume, Serve, Sign, Verify, Witness}
 use Rattle.lms_cli.proofs.FailingInMemory.{SparesFiles, at_name, batch_unwritten, endorse_files, files_of, info_stays}
 use Rattle.lms_cli.proofs.FailingInMemory.{keygen_leaves, nodes_of, only_files, public_leaves, sign_files, state_alone}
 use Rattle.lms_cli.proofs.FailingInMemory.{state_of, witness_at_most, witness_of}

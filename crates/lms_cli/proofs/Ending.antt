@@ -32,10 +32,10 @@ use Rattle.lms_cli.proofs.ServingFaults.{IsUnserved, unserved}
 use Rattle.lms_cli.specs.RunLogs.{LogsFailed, LogsRun, TellsPlainly}
 use Rattle.lms_cli.specs.Runs.{AsksToSignLines, AsksToRead, AsksToServe, Runs, Setting}
 use Rattle.lms_world.specs.Held.{Follows}
-use Rattle.lms_cli.specs.declared.command.types.Command.{Command}
-use Rattle.lms_cli.specs.declared.command.types.Command.TheVariants.{Batch, Endorse, Info, Inspect, Join, JoinPublic}
-use Rattle.lms_cli.specs.declared.command.types.Command.TheVariants.{Keygen}
-use Rattle.lms_cli.specs.declared.command.types.Command.TheVariants.{Public, Resume, Serve, Sign, Verify, Witness}
+use Rattle.lms_command_line.specs.declared.command.types.Command.{Command}
+use Rattle.lms_command_line.specs.declared.command.types.Command.TheVariants.{Batch, Endorse, Info, Inspect}
+use Rattle.lms_command_line.specs.declared.command.types.Command.TheVariants.{Join, JoinPublic, Keygen}
+use Rattle.lms_command_line.specs.declared.command.types.Command.TheVariants.{Public, Resume, Serve, Sign, Verify, Witness}
 use Rattle.lms_texts.specs.declared.fault.SeedFault.{SeedFault}
 use Rattle.lms_texts.specs.declared.fault.SeedFault.TheVariants as no_seed
 use Rattle.lms_commands.specs.declared.fault.Fault.{Fault}

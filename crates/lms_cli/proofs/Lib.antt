@@ -1,14 +1,9 @@
-pub mod Building
-pub mod CommandLine
 pub mod Ending
 pub mod SameTexts
 pub mod Noting
 pub mod HighFaults
 pub mod ServingFaults
 pub mod Turning
-pub mod FullRows
-pub mod Parsing
-pub mod Stops
 pub mod FilesStaying
 pub mod FailingInMemory
 pub mod ChangesInMemory

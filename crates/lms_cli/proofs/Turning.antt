@@ -26,14 +26,14 @@ use Rattle.lms_signature_commands.proofs.VerifyTurns.{verify_failed_turn, verify
 use Rattle.lms_endorse.proofs.EndorseTurns.{endorse_failed_turn, endorse_turn}
 use Rattle.lms_inspect.proofs.InspectTurns.{inspect_failed_turn, inspect_turn}
 use Rattle.lms_join_commands.proofs.JoinTurns.{join_failed_turn, join_keys_failed_turn, join_keys_turn, join_turn}
-use Rattle.lms_cli.specs.Commands.{AreTakenAs, AsksForHelp}
+use Rattle.lms_command_line.specs.Commands.{AreTakenAs, AsksForHelp}
 use Rattle.lms_cli.specs.Deeds.{deed}
 use Rattle.lms_cli.specs.RunLogs.{LogsRun}
 use Rattle.lms_cli.specs.RunTurns.{ProgramRun, TakesTurns, TakeTurns, all_turns}
-use Rattle.lms_cli.specs.declared.command.types.Command.{Command}
-use Rattle.lms_cli.specs.declared.command.types.Command.TheVariants.{Batch, Endorse, Info, Inspect, Join, JoinPublic}
-use Rattle.lms_cli.specs.declared.command.types.Command.TheVariants.{Keygen}
-use Rattle.lms_cli.specs.declared.command.types.Command.TheVariants.{Public, Resume, Serve, Sign, Verify, Witness}
+use Rattle.lms_command_line.specs.declared.command.types.Command.{Command}
+use Rattle.lms_command_line.specs.declared.command.types.Command.TheVariants.{Batch, Endorse, Info, Inspect}
+use Rattle.lms_command_line.specs.declared.command.types.Command.TheVariants.{Join, JoinPublic, Keygen}
+use Rattle.lms_command_line.specs.declared.command.types.Command.TheVariants.{Public, Resume, Serve, Sign, Verify, Witness}
 
 -- a command in its turns
 record Obeyed (command : Command) (whole : WorldCalls) (before printed : List ℕ) : Type 0 where

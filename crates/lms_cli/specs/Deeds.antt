@@ -31,11 +31,11 @@ use Rattle.lms_inspect.specs.InspectLogs.{LogsInspect, LogsInspectFailed}
 use Rattle.lms_inspect.specs.InspectTurns.{HandsDescription}
 use Rattle.lms_join_commands.specs.Joined.{HandsJoined, HandsJoinedKey}
 use Rattle.lms_join_commands.specs.JoinLogs.{JoinNames, LogsJoin, LogsJoinFailed, LogsJoinKeys, LogsJoinKeysFailed}
-use Rattle.lms_cli.specs.Commands.{AreTakenAs}
-use Rattle.lms_cli.specs.declared.command.types.Command.{Command}
-use Rattle.lms_cli.specs.declared.command.types.Command.TheVariants.{Batch, Endorse, Info, Inspect, Join, JoinPublic}
-use Rattle.lms_cli.specs.declared.command.types.Command.TheVariants.{Keygen}
-use Rattle.lms_cli.specs.declared.command.types.Command.TheVariants.{Public, Resume, Serve, Sign, Verify, Witness}
+use Rattle.lms_command_line.specs.Commands.{AreTakenAs}
+use Rattle.lms_command_line.specs.declared.command.types.Command.{Command}
+use Rattle.lms_command_line.specs.declared.command.types.Command.TheVariants.{Batch, Endorse, Info, Inspect}
+use Rattle.lms_command_line.specs.declared.command.types.Command.TheVariants.{Join, JoinPublic, Keygen}
+use Rattle.lms_command_line.specs.declared.command.types.Command.TheVariants.{Public, Resume, Serve, Sign, Verify, Witness}
 
 -- what is known of the input before and after, what was printed before and after, and the calls
 -- before and after

@@ -9,10 +9,10 @@ use Rattle.lms_commands.specs.declared.fault.Fault.{Fault}
 use Rattle.lms_commands.specs.declared.fault.Fault.TheVariants.{OutOfMemory, WriteOutput}
 use Rattle.lms_commands.specs.declared.status.Status.{Status}
 use Rattle.lms_commands.specs.declared.status.Status.TheVariants.{Done, Negative, Usage}
-use Rattle.lms_cli.specs.Commands.{AreTakenAs, AsksForHelp, IsMistaken}
+use Rattle.lms_command_line.specs.Commands.{AreTakenAs, AsksForHelp, IsMistaken}
 use Rattle.lms_cli.specs.Deeds.{deed}
-use Rattle.lms_cli.specs.declared.command.types.Command.{Command}
-use Rattle.lms_cli.specs.declared.fault.ClapText.{ClapText}
+use Rattle.lms_command_line.specs.declared.command.types.Command.{Command}
+use Rattle.lms_command_line.specs.declared.fault.ClapText.{ClapText}
 
 -- a command that the arguments ask for is done; or nothing is called: they ask for help, and a text of clap's is
 -- printed, or they are mistaken, and nothing is

@@ -6,11 +6,11 @@ use Rattle.lms_commands.specs.Histories.{AreCutTurns, AreLinked, IsBeginning, Is
 use Rattle.lms_commands.specs.Histories.{all_left, begun_calls, turn_signatures, whole_calls}
 use Rattle.lms_commands.specs.Logs.{WorldCalls}
 use Rattle.lms_commands.specs.declared.status.Status.{Status}
-use Rattle.lms_cli.specs.Commands.{AreTakenAs, AsksForHelp}
+use Rattle.lms_command_line.specs.Commands.{AreTakenAs, AsksForHelp}
 use Rattle.lms_cli.specs.Deeds.{deed}
 use Rattle.lms_cli.specs.RunLogs.{LogsRun}
 use Rattle.lms_cli.specs.Runs.{AsksToServe}
-use Rattle.lms_cli.specs.declared.command.types.Command.{Command}
+use Rattle.lms_command_line.specs.declared.command.types.Command.{Command}
 
 -- a run of the program: what it is handed and what comes of it, by the contract of `run` on its
 -- calls; all calls that it would make, and those that it began before it ended or crashed

@@ -4,7 +4,7 @@ ghost use Rattle.lms_blocks.specs.Writing.{AppendsFront};
 ghost use Rattle.lms_commands.specs.Faults.{fault_line, status_of};
 ghost use Rattle.lms_cli.specs.RunLogs.{IsNoted, TellsFault};
 
-use crate::command::{Command, command};
+use lms_command_line::command::{Command, command};
 use lms_commands::{Fault, Status, print_fault};
 use lms_image::ImageFault;
 use lms_world::{Quoted, World};
@@ -90,6 +90,12 @@ fn explain<W: World>(world: &mut W, fault: Fault, command: &Command)
         }
         Fault::BadPublicKey if matches!(command, Command::Endorse { .. }) => {
             explain_signer(world)
+        }
+        Fault::WriteStateBurnt { .. } if matches!(command, Command::Resume { .. }) => {
+            world.explain("info tells whether the indices are counted; give resume again")
+        }
+        Fault::OtherCounter { .. } if matches!(command, Command::Resume { .. }) => {
+            world.explain("that is what the witness says, and --counter says another number")
         }
         Fault::ReadWitness if world.note().is_empty() => {
             world.explain("there is none beside the state")

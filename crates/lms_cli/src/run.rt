@@ -8,9 +8,9 @@ ghost use Rattle.lms_cli.specs.Deeds.{deed};
 ghost use Rattle.lms_cli.specs.RunLogs.{LogsAnswered, LogsFailed, TellsUsage};
 ghost use Rattle.lms_cli.specs.Runs.{AsksToRead, Runs, setting};
 
-use crate::command::{ClapText, Command, CommandFault, command};
 use crate::notes::{remark, tell};
 use lms_blocks::{WriteFault, write_bytes};
+use lms_command_line::command::{ClapText, Command, CommandFault, command};
 use lms_commands::{Fault, Resources, Status, print_fault};
 use lms_endorse::{EndorseRequest, endorse_key};
 use lms_hss::Progress;

@@ -24,7 +24,7 @@ use Rattle.lms_commands.specs.Watching.{LogsUnwatched, UnsignedWatched, Watch, w
 use Rattle.lms_commands.specs.declared.fault.Fault.{Fault}
 use Rattle.lms_commands.specs.declared.fault.Fault.TheVariants.{WriteWitnessBurnt}
 use Rattle.lms_commands.proofs.Telling.{Adds, AllTell, MayFailAfter, Tells, WitnessRefused, and_then, same_held, told}
-use Rattle.lms_commands.proofs.Telling.{was_state}
+use Rattle.lms_commands.proofs.Telling.{Told, told_stays, unlocked, was_state}
 
 pub lock_refused : (fault : Fault) (state : Bytes) (earlier : WorldCalls) (old new : Held) → IsLockRefused fault
     → Tells (Locked state (lock_answer fault)) earlier old → new ≡ old → FailsToLock fault old new
@@ -52,6 +52,11 @@ pub record AreStill (calls : List Event) : Type 0 where
 pub locked_still : {state : Bytes} → AreStill (Locked state Acquired ∷ [])
 locked_still =
     record { files = λ f. refl; state = λ s. refl; nodes = λ n. refl; witness = λ w. refl; may_fail = λ a b is. is }
+
+pub stays_still : {calls : List Event} {old new : Held} → AreStill calls → Told calls old new → Stays old new
+stays_still {calls} {old} still is =
+    told_stays is (still.files old.files) (is.state ∙ still.state old.state) (still.nodes old.nodes)
+    (still.witness old.witness)
 
 -- calls after others, which change nothing more
 pub record AddNothing (later : List Event) : Type 0 where
@@ -149,14 +154,8 @@ module _ (base : List Event) (still : AreStill base) {before mid last now : Worl
   pub unopened : (fault : Fault) → LogsUnopened fault mid last → AllTell base old × FailsToOpen fault old new
   unopened fault (inl (at, calls)) =
       let is = told old new (and_then (and_then begun calls) ends) follows in
-      let stays : Stays old new = record {
-        files = is.files ∙ still.files old.files;
-        state = is.state ∙ still.state old.state;
-        nodes = is.nodes ∙ still.nodes old.nodes;
-        in_use = is.in_use;
-        nodes_fault = is.nodes_fault;
-        witness = is.witness ∙ still.witness old.witness;
-      } in
+      let stays = told_stays is (still.files old.files) (is.state ∙ still.state old.state) (still.nodes old.nodes)
+      (still.witness old.witness) in
       (is.tell.0.0, (inl at, stays))
   unopened fault (inr (taken, inl (at, calls))) =
       let back = put_back taken taken.view calls in (back.first, (inl at, stays_so back refl))
@@ -300,17 +299,8 @@ module _ (base : List Event) (still : AreStill base) {before mid last now : Worl
   unchanged : (calls : List Event) → AreStill calls → last ≡ calls ++ before → AllTell calls old × Stays old new
   unchanged calls is_still are =
       let adds : Adds before last = record { calls = calls; are = are } in
-      let is = told old new (and_then adds ends) follows in (
-        is.tell.0,
-        record {
-          files = is.files ∙ is_still.files old.files;
-          state = is.state ∙ is_still.state old.state;
-          nodes = is.nodes ∙ is_still.nodes old.nodes;
-          in_use = is.in_use;
-          nodes_fault = is.nodes_fault;
-          witness = is.witness ∙ is_still.witness old.witness;
-        },
-      )
+      let is = unlocked (told old new (and_then adds ends) follows) in
+      (is.tell, stays_still is_still is)
 
   drafted : (text : List ℕ) (answer : Writing) → last ≡ WitnessDrafted answer ∷ WitnessRead (Ok (Some text)) ∷ mid
       → AllTell (WitnessDrafted answer ∷ WitnessRead (Ok (Some text)) ∷ base) old × Stays old new

@@ -16,7 +16,7 @@ use Rattle.lms_world.specs.declared.fault.WorldFault.{WorldFault}
 use Rattle.lms_world.specs.declared.fault.WorldFault.TheVariants as world
 use Rattle.lms_world.proofs.Answering.{answer_first, answer_other}
 use Rattle.lms_world.proofs.Outcomes.{holds_after}
-use Rattle.lms_commands.specs.InMemory.{KeepsNodes, WasState, WritesFile}
+use Rattle.lms_commands.specs.InMemory.{KeepsNodes, Stays, WasState, WritesFile}
 use Rattle.lms_commands.specs.Logs.{IsReadRefused, KeyState, LogsKeeping, ReadsState, read_cause}
 use Rattle.lms_commands.specs.declared.fault.Fault.{Fault}
 use Rattle.lms_commands.specs.declared.fault.Fault.TheVariants.{OutOfMemory, ReadInput}
@@ -189,32 +189,33 @@ told old new adds follows = told_by old new adds.calls (replayed old new adds fo
 
 -- ---- calls that change nothing
 
--- the lock is handed back
-pub unlocked : {calls : List Event} {old new : Held} → Told (Unlocked ∷ calls) old new → Told calls old new
-unlocked is = record {
+-- a call that leaves all as it is may be left out
+pub left_out : {calls : List Event} {old new : Held} (event : Event)
+    → files_after (event ∷ calls) old.files ≡ files_after calls old.files
+    → state_after (event ∷ calls) old.state ≡ state_after calls old.state
+    → nodes_after (event ∷ calls) old.nodes ≡ nodes_after calls old.nodes
+    → witness_after (event ∷ calls) old.witness ≡ witness_after calls old.witness
+    → (MayFailAfter (event ∷ calls) old.may_fail new.may_fail → MayFailAfter calls old.may_fail new.may_fail)
+    → Told (event ∷ calls) old new → Told calls old new
+left_out event files state nodes witness fails is = record {
   tell = is.tell.0;
-  files = is.files;
-  state = is.state;
-  nodes = is.nodes;
+  files = is.files ∙ files;
+  state = is.state ∙ state;
+  nodes = is.nodes ∙ nodes;
   in_use = is.in_use;
   nodes_fault = is.nodes_fault;
-  witness = is.witness;
-  may_fail = is.may_fail;
+  witness = is.witness ∙ witness;
+  may_fail = fails is.may_fail;
 }
+
+-- the lock is handed back
+pub unlocked : {calls : List Event} {old new : Held} → Told (Unlocked ∷ calls) old new → Told calls old new
+unlocked is = left_out Unlocked refl refl refl refl (λ fails. fails) is
 
 -- an output begins to be printed to
 pub until_printing : {calls : List Event} {old new : Held} {before : List ℕ}
     → Told (Printing before ∷ calls) old new → Told calls old new
-until_printing is = record {
-  tell = is.tell.0;
-  files = is.files;
-  state = is.state;
-  nodes = is.nodes;
-  in_use = is.in_use;
-  nodes_fault = is.nodes_fault;
-  witness = is.witness;
-  may_fail = is.may_fail;
-}
+until_printing {calls} {old} {new} {before} is = left_out (Printing before) refl refl refl refl (λ fails. fails) is
 
 abbrev held : Answers → Texts → Bool → Bool → Option (List ℕ) → Option WorldFault
     → Result (Option (List ℕ)) WorldFault → Held
@@ -240,6 +241,19 @@ pub nothing_done : {before now : List Event} (old new : Held) → now ≡ before
 nothing_done old new none follows =
     let is = told old new (record { calls = []; are = none }) follows in
     same_held old new is.files is.state is.may_fail is.in_use is.nodes is.nodes_fault is.witness
+
+-- all that the calls say of is as it was
+pub told_stays : {calls : List Event} {old new : Held} → Told calls old new → files_after calls old.files ≡ old.files
+    → new.state ≡ old.state → nodes_after calls old.nodes ≡ old.nodes → witness_after calls old.witness ≡ old.witness
+    → Stays old new
+told_stays is files state nodes witness = record {
+  files = is.files ∙ files;
+  state = state;
+  nodes = is.nodes ∙ nodes;
+  in_use = is.in_use;
+  nodes_fault = is.nodes_fault;
+  witness = is.witness ∙ witness;
+}
 
 -- ---- calls that change nodes alone
 

@@ -13,7 +13,7 @@ use crate::paths::{
 use crate::reading::read_at_most;
 use std::alloc::Global;
 use std::fs::{OpenFile, OpenOptions};
-use std::io::{Seek, Write};
+use std::io::{ErrorKind, Seek, Write};
 use std::os::unix::fs::OpenOptionsExt;
 use std::rt::Files;
 use std::{fs, io};
@@ -112,12 +112,12 @@ fn witness_beside<R: Files>(files: &R, alloc: Global, state: &str) -> io::Result
     }
     let found = fs::metadata(files, name.as_str())?;
     if !found.is_file() || found.len() > MOST_WITNESS as u64 {
-        return Err(refusal(NO_WITNESS));
+        return Err(io::Error::new(ErrorKind::InvalidData, NO_WITNESS));
     }
     let file = fs::open(files, name.as_str())?;
     match read_at_most(alloc, file, MOST_WITNESS)? {
         Some(text) => Ok(Some(text)),
-        None => Err(refusal(NO_WITNESS)),
+        None => Err(io::Error::new(ErrorKind::InvalidData, NO_WITNESS)),
     }
 }
 

@@ -11,7 +11,7 @@ use Rattle.lms_commands.specs.Logs.{KeyState, WorldCalls}
 use Rattle.lms_key_commands.specs.InfoInMemory.{DescribesInMemory, FailsToDescribeInMemory}
 use Rattle.lms_key_commands.specs.InfoLogs.{info_of, ReadsToPrint}
 use Rattle.lms_commands.proofs.AtState.{locked_still, not_locked, unopened}
-use Rattle.lms_commands.proofs.Telling.{Adds, and_then, told, was_state}
+use Rattle.lms_commands.proofs.Telling.{Adds, and_then, told, told_stays, was_state}
 
 -- the state that was read was there, and is there still
 found : (state : Bytes) (before : List ℕ) (read : KeyState) {earlier last now : WorldCalls} (old new : Held)
@@ -27,14 +27,7 @@ found state before read {earlier} old new is calls follows =
     let finds : FindsState old new = record {
       state = read;
       was = was_state read reads found;
-      stays = record {
-        files = all.files;
-        state = all.state ∙ (ap (λ (v : StoreView). v.now) reads.given ∙ found);
-        nodes = all.nodes;
-        in_use = all.in_use;
-        nodes_fault = all.nodes_fault;
-        witness = all.witness;
-      };
+      stays = told_stays all refl (all.state ∙ (ap (λ (v : StoreView). v.now) reads.given ∙ found)) refl refl;
     } in
     (all.tell.0.0.0.0.1, (finds, refl))
 

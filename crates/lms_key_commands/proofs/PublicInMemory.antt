@@ -14,21 +14,13 @@ use Rattle.lms_commands.specs.Logs.{KeyState, WorldCalls, write_cause}
 use Rattle.lms_key_commands.specs.PublicInMemory.{FailsToPublishKeyInMemory, PublishesKeyIn, PublishesKeyInMemory}
 use Rattle.lms_key_commands.specs.PublicLogs.{ReadsKey}
 use Rattle.lms_commands.proofs.AtState.{locked_still, not_locked, unopened}
-use Rattle.lms_commands.proofs.Telling.{Adds, Told, and_then, told, was_state, written_file}
+use Rattle.lms_commands.proofs.Telling.{Adds, Told, and_then, left_out, told, told_stays, was_state, written_file}
 
 -- a file was not written
 unwritten : {calls : List Event} {old new : Held} {name : Bytes} {bytes : List ℕ} {cause : WorldFault}
     → Told (Written name bytes (Err cause) ∷ calls) old new → Told calls old new
-unwritten is = record {
-  tell = is.tell.0;
-  files = is.files;
-  state = is.state;
-  nodes = is.nodes;
-  in_use = is.in_use;
-  nodes_fault = is.nodes_fault;
-  witness = is.witness;
-  may_fail = is.may_fail;
-}
+unwritten {calls} {old} {new} {name} {bytes} {cause} is =
+    left_out (Written name bytes (Err cause)) refl refl refl refl (λ fails. fails) is
 
 -- a state was read under its lock
 module _ {state : Bytes} {read : KeyState} {earlier last : WorldCalls} (is : ReadsKey state read earlier last) where
@@ -52,14 +44,7 @@ module _ {state : Bytes} {read : KeyState} {earlier last : WorldCalls} (is : Rea
         record {
           state = read;
           was = was_state read is.reads.2 found;
-          stays = record {
-            files = all.files;
-            state = same_state old new found all.state;
-            nodes = all.nodes;
-            in_use = all.in_use;
-            nodes_fault = all.nodes_fault;
-            witness = all.witness;
-          };
+          stays = told_stays all refl (same_state old new found all.state) refl refl;
         },
       )
 

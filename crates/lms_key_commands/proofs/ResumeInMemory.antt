@@ -14,7 +14,7 @@ use Rattle.lms_commands.specs.Logs.{KeyState, WorldCalls}
 use Rattle.lms_commands.specs.declared.fault.Fault.{Fault}
 use Rattle.lms_commands.proofs.AtState.{AreStill, finds, left_by, not_locked, unopened}
 use Rattle.lms_commands.proofs.Telling.{Adds, Told, WitnessRefused, and_then, nothing_done, told, unlocked}
-use Rattle.lms_commands.proofs.Telling.{until_printing, was_state}
+use Rattle.lms_commands.proofs.Telling.{told_stays, until_printing, was_state}
 use Rattle.lms_key_commands.proofs.ResumePieces.{last_write, more_used}
 use Rattle.lms_key_commands.specs.ResumeInMemory.{FailsOnceLocked, FailsToResumeInMemory, FindsOlder, ResumesInMemory}
 use Rattle.lms_key_commands.specs.ResumeInMemory.{ResumesInPart, ResumesState, StateCountsTo}
@@ -131,14 +131,7 @@ module _ (state : Bytes) (end : ℕ) {earlier last now : WorldCalls} (calls : no
 
   unread_stays : (answer : WitnessHeld) → Told (WitnessRead answer ∷ Locked state Acquired ∷ []) old new
       → Stays old new
-  unread_stays answer tells = record {
-    files = tells.files;
-    state = tells.state;
-    nodes = tells.nodes;
-    in_use = tells.in_use;
-    nodes_fault = tells.nodes_fault;
-    witness = tells.witness;
-  }
+  unread_stays answer tells = told_stays tells refl tells.state refl refl
 
   -- a refused witness is one that is held so
   device : WitnessRefused Device old.witness → old.witness ≡ Err Device

@@ -1,8 +1,6 @@
 -- What `resume` logged, by what its steps did.
-use Rattle.std.proofs.Common.{◌≡◌, ◌∙◌, ◌∷◌, ◌≤◌, ℕ, List, Some, Ok, ap, refl, subst, sym, inl, inr}
+use Rattle.std.proofs.Common.{◌≡◌, ◌∙◌, ◌∷◌, ℕ, List, Some, Ok, ap, refl, sym, inl, inr}
 use Rattle.std.specs.Prelude.{◌⊎◌}
-use Rattle.lms_spec.specs.Hss.{capacity_of}
-use Rattle.lms_hss.specs.Keys.{hss_key_of}
 use Rattle.lms_book.specs.States.{BookState}
 use Rattle.lms_book.specs.Stops.{StoreView}
 use Rattle.lms_world.specs.Events.{PutBack, Taken, WitnessRead}
@@ -46,9 +44,3 @@ module _ (end : ℕ) (book after_it : BookState) (text shown : List ℕ) (view :
       (opens.0, book.store, opens.1, all book.store (ap (λ (b : BookState). b.store) same)) in
       inl (inr (inr (shown, inr (state_of book, refused, stays))))
   unburnt fault (inr (older, part)) = inr (state_of book, read_older older, part)
-
--- what a book read is within its key's capacity
-pub within_capacity : (book : BookState) (old new : WorldCalls) (state : KeyState) → state ≡ state_of book
-    → OpensState book old new → state.index ≤ capacity_of (hss_key_of state.key)
-within_capacity book old new state is (taken, reads, calls) =
-    subst (λ (s : KeyState). s.index ≤ capacity_of (hss_key_of s.key)) (sym is) reads.counted.within

@@ -15,7 +15,8 @@ use Rattle.lms_commands.specs.Logs.{KeyState, WorldCalls}
 use Rattle.lms_commands.specs.declared.fault.Fault.{Fault}
 use Rattle.lms_commands.specs.declared.fault.Fault.TheVariants.{OtherCounter, OutOfMemory}
 use Rattle.lms_commands.proofs.AtState.{AreStill, finds, locked_still, not_locked, unopened}
-use Rattle.lms_commands.proofs.Telling.{Adds, AllTell, Tells, WitnessRefused, and_then, nothing_done, told, was_state}
+use Rattle.lms_commands.proofs.Telling.{Adds, AllTell, Tells, WitnessRefused, and_then, nothing_done, told, told_stays}
+use Rattle.lms_commands.proofs.Telling.{was_state}
 use Rattle.lms_key_commands.specs.WitnessInMemory.{FailsToMakeWitness, FailsToMakeWitnessInMemory, MakesWitnessIn}
 use Rattle.lms_key_commands.specs.WitnessInMemory.{MakesWitnessInMemory, WitnessWasThere}
 use Rattle.lms_key_commands.specs.WitnessLogs.{IsDecimal, LeavesUnwatched, LogsUnwitnessed, LogsWitnessThere}
@@ -34,20 +35,10 @@ module _ (base : List Event) (still : AreStill base) {before mid last now : Worl
       → AllTell base old × (Tells (WitnessRead answer) base old × Stays old new)
   looked_for answer calls =
       let begun : Adds before mid = record { calls = base; are = begins } in
-      let is = told old new (and_then (and_then begun calls) ends) follows in (
-        is.tell.0.0,
-        (
-          is.tell.0.1,
-          record {
-            files = is.files ∙ still.files old.files;
-            state = is.state ∙ still.state old.state;
-            nodes = is.nodes ∙ still.nodes old.nodes;
-            in_use = is.in_use;
-            nodes_fault = is.nodes_fault;
-            witness = is.witness ∙ still.witness old.witness;
-          },
-        ),
-      )
+      let is = told old new (and_then (and_then begun calls) ends) follows in
+      let stays = told_stays is (still.files old.files) (is.state ∙ still.state old.state) (still.nodes old.nodes)
+      (still.witness old.witness) in
+      (is.tell.0.0, (is.tell.0.1, stays))
 
   -- there is one, or it can't be read
   pub there : (fault : Fault) → LogsWitnessThere fault mid last
@@ -128,14 +119,7 @@ module _ (state place : Bytes) {earlier last now : WorldCalls} (calls : now ≡ 
       let read_so : Adds earlier until_read = record { calls = first; are = back } in
       let all = told old new (and_then (and_then read_so tried) calls) follows in
       let found = all.tell.0.0.0.1.0 in
-      let stays : Stays old new = record {
-        files = all.files;
-        state = all.state ∙ (ap (λ (v : StoreView). v.now) reads.given ∙ found);
-        nodes = all.nodes;
-        in_use = all.in_use;
-        nodes_fault = all.nodes_fault;
-        witness = all.witness;
-      } in
+      let stays = told_stays all refl (all.state ∙ (ap (λ (v : StoreView). v.now) reads.given ∙ found)) refl refl in
       (all.tell.0.0.0.0.0.1, all.tell.0.0.0.0.1, by_cause cause all.tell.0.0.0.0.1 all.tell.0.1, stays)
     where
       by_cause : (cause : WorldFault) → old.witness ≡ Ok None

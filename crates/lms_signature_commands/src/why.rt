@@ -116,12 +116,24 @@ fn check(public: &[u8], signature: &[u8]) -> Result<(), Flaw> {
     if levels == 0 || levels as usize > MOST_LEVELS {
         return Err(Flaw::Levels(levels));
     }
+    if let Some(says) = levels_of(signature) {
+        if says != levels {
+            return Err(Flaw::SignatureLevels { says, levels });
+        }
+    }
     let has = signature.len();
     let needs = needed(levels, top, signature)?;
     if has != needs {
         return Err(Flaw::Length { has, needs });
     }
     check_levels(levels, top, signature)
+}
+
+/// How many levels a signature says that it has. `None` where it can't have so many.
+fn levels_of(signature: &[u8]) -> Option<u32> {
+    let (signs, _) = split_u32(signature)?;
+    let levels = signs.checked_add(1)?;
+    (levels as usize <= MOST_LEVELS).then_some(levels)
 }
 
 /// How many bytes a signature has under a key of these levels and this top tree, by the types of the

@@ -3,4 +3,3 @@
 
 #[cfg(test)]
 mod tests;
-pub mod worked;

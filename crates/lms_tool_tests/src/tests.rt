@@ -5,8 +5,6 @@ mod endorsements;
 mod kept;
 mod lines;
 mod memory;
-mod meter;
-mod recorded;
 mod replays;
 mod seeds;
 mod states;

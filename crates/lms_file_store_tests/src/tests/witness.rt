@@ -37,7 +37,7 @@ impl Watched<'_> {
     fn is_unread(&self) -> bool {
         match self.held.read_witness(self.rt, self.rt.alloc()) {
             Ok(_) => false,
-            Err(error) => error.kind() == ErrorKind::AlreadyExists,
+            Err(error) => error.kind() == ErrorKind::InvalidData,
         }
     }
 

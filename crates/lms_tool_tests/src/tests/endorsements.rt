@@ -1,8 +1,6 @@
 //! `endorse` and `inspect`, over files in memory.
-use super::arguments::{CHEAP, keygen};
-use super::states::is_with;
-use super::{fails_with, says, write, write_hex};
-use lms_fixtures::{image_with, key_of};
+use super::arguments::keygen;
+use super::{fails_with, says, write};
 use lms_slow::vectors::ONE_5_8;
 use lms_world::{MemoryWorld, World, WorldFault};
 use std::alloc::Global;
@@ -64,9 +62,6 @@ const VERIFY_JOINED: [&str; 8] = [
     "text.sig",
 ];
 
-/// More bytes than a signature can have.
-const TOO_MANY: usize = 74_989;
-
 pub(super) fn inspect(name: &str) -> [&str; 4] {
     ["lms_tool", "inspect", "--file", name]
 }
@@ -101,44 +96,6 @@ fn an_endorsed_signer_is_joined(rt: HostRuntime) -> Result<(), Fail> {
     assert!(rt; says(&rt, &JOIN, &mut world, 0, ""));
     assert!(rt; says(&rt, &JOIN_PUBLIC, &mut world, 0, ""));
     assert!(rt; says(&rt, &VERIFY_JOINED, &mut world, 0, "valid\n"));
-    Ok(())
-}
-
-/// A key that does not fit uses no index: one of other levels, the top key itself, and what is none.
-#[test]
-fn what_does_not_fit_uses_no_index(rt: HostRuntime) -> Result<(), Fail> {
-    let mut world = MemoryWorld::new(rt.alloc());
-    write_signer(rt.alloc(), &mut world)?;
-    assert!(rt; says(&rt, &keygen("5/2"), &mut world, 0, "capacity 32\n"));
-    for (at, value) in [(9, "3"), (7, "key.pub"), (7, "text")] {
-        let mut arguments = ENDORSE;
-        arguments[at] = value;
-        assert!(rt; fails_with(&rt, &arguments, &mut world, 2, "error: bad public key\n"));
-    }
-    assert!(rt; is_with(&world, &CHEAP, 0, 0, 0));
-    assert!(rt; world.read(rt.alloc(), "signer.end").is_err());
-    Ok(())
-}
-
-/// A state with its witness, a public key, and other bytes, also those that are too many.
-#[test]
-fn a_file_is_what_its_bytes_say(rt: HostRuntime) -> Result<(), Fail> {
-    let mut world = MemoryWorld::new(rt.alloc());
-    let image = image_with(key_of(&CHEAP, 0x11)?, 3, 2, 1)?;
-    write(rt.alloc(), &mut world, "a.state", image.as_slice())?;
-    let state = "state\nlevels 5/2\ncounter 3\ncapacity 32\nleft 29\nopenings 2\nburnt 1\n\
-        id 22222222222222222222222222222222\nwitness none\n";
-    assert!(rt; says(&rt, &inspect("a.state"), &mut world, 0, state));
-    write_hex(rt.alloc(), &mut world, "key.pub", ONE_5_8.public)?;
-    let public = "public key\nlevels 1\ntop 5/8\nid 6352be49064edf2307250dcd76f1e9e7\n\
-        sha256 4c4f3f5abf46ef7fcf34c8667ea0ad357c9ab6e7b9aecc1f4beb5f0acdab8f41\n";
-    assert!(rt; says(&rt, &inspect("key.pub"), &mut world, 0, public));
-    let nothing = "no state, public key or signature\n";
-    write(rt.alloc(), &mut world, "text", b"abc")?;
-    assert!(rt; says(&rt, &inspect("text"), &mut world, 1, nothing));
-    let many = vec![in rt.alloc(); 0u8; TOO_MANY]?;
-    write(rt.alloc(), &mut world, "text", &many)?;
-    assert!(rt; says(&rt, &inspect("text"), &mut world, 1, nothing));
     Ok(())
 }
 

@@ -1,9 +1,9 @@
 //! What a world in memory holds after runs of the program, against a replay of its calls.
 use super::arguments::{SIGN, keygen};
 use super::endorsements::{ENDORSE, ENDORSED, inspect, make_top, write_signer};
-use super::recorded::{Change, Recorded};
 use super::{VERIFY, ends, write};
 use lms_fixtures::store_of;
+use lms_recorded::{Change, Recorded};
 use lms_world::{MemoryWorld, World, WorldFault};
 use std::alloc::Global;
 use std::test::Fail;

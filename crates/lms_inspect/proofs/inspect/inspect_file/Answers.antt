@@ -3,8 +3,7 @@ use Rattle.lms_blocks.specs.Writing.{AppendsFront}
 use Rattle.lms_world.proofs.Following.{both_follow, one_call, one_more}
 use Rattle.lms_commands.specs.declared.fault.Fault.TheVariants.{WriteOutput}
 use Rattle.lms_commands.proofs.Failing.{handed_on}
-use Rattle.lms_inspect.specs.Texts.{found_text}
-use Rattle.lms_inspect.proofs.Inspecting.{inspected}
+use Rattle.lms_inspect.proofs.Inspecting.{inspected, text_as}
 use Rattle.lms_inspect.proofs.inspect.inspect_file.Goals as goal
 
 pub returns-in_err-contents-clause-follows : goal.returns-in_err-contents-clause-follows
@@ -46,9 +45,9 @@ returns-in_err-print_text-clause-log_failed g c =
     let before = c.args.output.now in
     let handed = c.in_ok-hand_over.ensures.handed in
     let is = c.in_ok-found.ensures handed.0 (handed.2 [] c.new-keeper.ensures) in
-    let text_is = c.deref.ensures.value ∙ c.in_ok-text.ensures.text
-    ∙ ap (λ (bytes : List ℕ). found_text found bytes witness) c.kept.ensures ∙ is.1 witness in
-    let front = subst (λ (text : List ℕ). AppendsFront (Some before) (Some c.print_text.new.output) text) text_is
+    let made = text_as found witness c.in_ok-text.ensures.text c.kept.ensures (is.1 witness) in
+    let front = subst (λ (text : List ℕ). AppendsFront (Some before) (Some c.print_text.new.output) text)
+    (c.deref.ensures.value ∙ made)
     c.in_err-print_text.ensures.broken in
     let inspects = inspected c.args.file.now _ handed.0 found witness _ _ last handed.1 is.0
     c.in_ok-contents.ensures.logged c.in_ok-witness.ensures.looks in
@@ -63,13 +62,12 @@ returns-clause-logged g c =
     let before = c.args.output.now in
     let handed = c.in_ok-hand_over.ensures.handed in
     let is = c.in_ok-found.ensures handed.0 (handed.2 [] c.new-keeper.ensures) in
-    let text_is = c.deref.ensures.value ∙ c.in_ok-text.ensures.text
-    ∙ ap (λ (bytes : List ℕ). found_text found bytes witness) c.kept.ensures ∙ is.1 witness in
+    let made = text_as found witness c.in_ok-text.ensures.text c.kept.ensures (is.1 witness) in
     let inspects = inspected c.args.file.now _ handed.0 found witness _ _ last handed.1 is.0
     c.in_ok-contents.ensures.logged c.in_ok-witness.ensures.looks in (
       last,
       inspects,
       c.status.ensures,
-      c.in_ok-print_text.ensures.printed ∙ ap (λ (text : List ℕ). before ++ text) text_is,
+      c.in_ok-print_text.ensures.printed ∙ ap (λ (text : List ℕ). before ++ text) (c.deref.ensures.value ∙ made),
       c.begin_printing.ensures.logged,
     )

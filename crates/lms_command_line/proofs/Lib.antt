@@ -1,0 +1,5 @@
+pub mod Building
+pub mod CommandLine
+pub mod FullRows
+pub mod Parsing
+pub mod Stops
