@@ -251,8 +251,7 @@ def writes_nothing_beside_a_state():
             fails(words, *REFUSED)
             # (A run locks its own state, and a `sign` writes nodes and a draft beside it, before that.)
             is_own = name.startswith("key.state") and (words[0] == "sign" or name.endswith(".lock"))
-            stays = read(name) == b"older" if there else not os.path.lexists(name)
-            holds(is_own or stays, f"{name} is another file")
+            holds(is_own or (read(name) == b"older" if there else not os.path.lexists(name)), f"{name} is another file")
         for it in ("link", name):
             if os.path.lexists(it):
                 os.remove(it)
