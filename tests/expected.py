@@ -218,12 +218,12 @@ def source_of(crate):
 
 # What makes bytes whose digits the tests hold, and the crate that holds them.
 HELD = [
-    ("lms_image_tests", state_images),
+    ("lms_book_tests", state_images),
     ("lms_book_tests", state_images_of_books),
-    ("lms_lanes_tests", lanes),
+    ("lms_ots_tests", lanes),
     ("lms_ots_tests", one_time_keys),
-    ("lms_slow_tests", signed),
-    ("lms_slow_tests", planted),
+    ("lms_ots_tests", signed),
+    ("lms_ots_tests", planted),
     ("lms_tree_tests", tall_tree),
 ]
 

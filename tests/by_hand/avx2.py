@@ -22,7 +22,7 @@ from tests.reference import SEED
 
 FIRMWARE, SIGNATURE, PUBLIC = (TOP / "examples" / name for name in ("firmware.bin", "firmware.sig", "release.pub"))
 AVX2 = "--cpu=x86-64-v3"
-TESTS = ["lms_lanes_tests", "lms_ots_tests", "lms_tree_tests", "lms_hss_tests"]
+TESTS = ["lms_ots_tests", "lms_tree_tests", "lms_hss_tests"]
 LEVELS = ["5/1", "5/2", "10/4", "5/8,5/8"]
 JOBS = job_lines(b"\0", b"abc", 3 * SEED, randomizer=SEED)
 # The last lines of what a command said that are shown where it failed.

@@ -38,7 +38,7 @@ TESTS = {
         "nodes::nodes_are_kept_after_refused_memory",
         "witness::a_witness_is_kept_after_refused_memory",
     ],
-    "lms_tool_tests": ["memory::refused_memory_is_said", "batch_faults::a_batch_says_what_it_used"],
+    "lms_tool_fault_tests": ["memory::refused_memory_is_said", "batch_faults::a_batch_says_what_it_used"],
 }
 # More requests than any of these tests makes.
 MOST_REQUESTS = 5000

@@ -9,16 +9,17 @@ mod kept;
 mod memory;
 mod outcome;
 
-use crate::tests::fixtures::{CHEAP, LEVELS, job, public_key};
+use crate::tests::fixtures::{CHEAP, LEVELS, public_key};
 use gates::Meeting;
 use kept::Means;
 use lms_batch::{BatchFault, Gate, Job, MOST_WORKERS, OpenGate, SigningService, Trees};
 use lms_book::{Book, BookFault, Entry, Left, MemoryStore};
 use lms_fixtures::{book_of, key_of, store_at};
+use lms_hss::HssKey;
 use lms_params::{LmsType, OtsType, OutOfMemory};
 use lms_shared_book::{Blanks, BookLedger, Desk, SharedBook};
 use outcome::{Answer, Outcome};
-use std::alloc::{AllocGlobal, Global};
+use std::alloc::{AllocError, AllocGlobal, Global};
 use std::marker::Brand;
 use std::sync::Wait;
 use std::sync::ledger::{Blank, Ledger};
@@ -36,6 +37,8 @@ struct Asked<'a, W> {
     gate: &'a W,
     /// Whether each of the four desks asks for them, in a thread of its own.
     at_once: bool,
+    /// Whether the first write of the book fails.
+    fails_first: bool,
 }
 
 /// What a desk counted: entries, received, burnt.
@@ -71,10 +74,10 @@ fn answer_at<E: BookLedger, G: Ledger, B: Ledger, W: Gate>(
 
 /// An empty list with the capacity for so many answers. Memory that is refused once is asked for
 /// again.
-fn no_answers(alloc: Global, count: usize) -> Result<Vec<Answer>, OutOfMemory> {
+fn no_answers(alloc: Global, count: usize) -> Result<Vec<Answer>, AllocError> {
     match Vec::with_capacity(alloc, count) {
         Ok(answers) => Ok(answers),
-        Err(_) => Ok(Vec::with_capacity(alloc, count)?),
+        Err(_) => Vec::with_capacity(alloc, count),
     }
 }
 
@@ -93,39 +96,33 @@ fn answers_at<E: BookLedger, G: Ledger, B: Ledger, W: Gate>(
     Ok(answers)
 }
 
-/// The same, by a thread that hands the desk back.
+/// The same, by a thread that hands the desk back. No answer where memory is refused.
 fn visited<E: BookLedger, G: Ledger, B: Ledger, W: Gate>(
     rt: &(impl AllocGlobal + Threads + Wait + Sync),
     service: &SigningService<MemoryStore, E, G, B>,
     desk: Desk<E, G, B>,
     asked: &Asked<W>,
-) -> (Desk<E, G, B>, Result<Vec<Answer>, OutOfMemory>) {
+) -> (Desk<E, G, B>, Vec<Answer>) {
     let mut desk = desk;
     let mut means = Means::new(Trees::per_batch());
-    let answers = answers_at(rt, service, &mut desk, asked, &mut means);
+    let answers = match answers_at(rt, service, &mut desk, asked, &mut means) {
+        Ok(answers) => answers,
+        Err(_) => Vec::new(rt.alloc()),
+    };
     (desk, answers)
-}
-
-/// Puts what a thread got after the answers.
-fn keep(
-    answers: &mut Vec<Answer>,
-    found: Result<Vec<Answer>, OutOfMemory>,
-) -> Result<(), OutOfMemory> {
-    let mut found = found?;
-    answers.append(&mut found)?;
-    Ok(())
 }
 
 /// The desks that the threads hand back, and the answers that they got.
 fn gathered<E: BookLedger, G: Ledger, B: Ledger>(
     alloc: Global,
-    visits: Vec<(Desk<E, G, B>, Result<Vec<Answer>, OutOfMemory>)>,
+    visits: Vec<(Desk<E, G, B>, Vec<Answer>)>,
 ) -> Result<(Vec<Desk<E, G, B>>, Vec<Answer>), OutOfMemory> {
     let mut desks = Vec::new(alloc);
     let mut answers = Vec::new(alloc);
     for (desk, found) in visits {
+        let mut found = found;
         desks.push(desk)?;
-        keep(&mut answers, found)?;
+        answers.append(&mut found)?;
     }
     Ok((desks, answers))
 }
@@ -197,13 +194,18 @@ fn carried_out<
     }
 }
 
-/// Asks a service over the book of this store for the batches.
+/// Asks a service over the book of this key whose next index is this one for the batches.
 fn carry_out<W: Gate>(
     rt: &(impl AllocGlobal + Threads + Wait + Sync),
-    store: MemoryStore,
+    key: HssKey,
+    start: u64,
     asked: &Asked<W>,
     means: &mut Means,
 ) -> Result<Outcome, Fail> {
+    let mut store = store_at(rt.alloc(), key, start)?;
+    if asked.fails_first {
+        store.fail_replace(1, Left::Old);
+    }
     let book = book_of(rt.alloc(), store)?;
     let blanks = Blanks {
         entries: Blank::new(5),
@@ -213,17 +215,20 @@ fn carry_out<W: Gate>(
     carried_out::<Brand, Brand, Brand, W>(rt, book, blanks, asked, means)
 }
 
-/// The same, by trees of each batch alone.
-fn carry_out_alone<W: Gate>(
+/// The same by the key of these levels, and by trees of each batch alone.
+fn signed_alone<W: Gate>(
     rt: &(impl AllocGlobal + Threads + Wait + Sync),
-    store: MemoryStore,
+    levels: &[(LmsType, OtsType)],
+    start: u64,
     asked: &Asked<W>,
 ) -> Result<Outcome, Fail> {
+    let key = key_of(levels, 0x11)?;
     let mut means = Means::new(Trees::per_batch());
-    carry_out(rt, store, asked, &mut means)
+    carry_out(rt, key, start, asked, &mut means)
 }
 
 /// As many jobs, whose messages are the numbers from 0 on, and whose randomizers begin with them.
+/// Memory that is refused once is asked for again.
 fn jobs_of(alloc: Global, count: usize) -> Result<Vec<Job>, Fail> {
     let mut jobs = match Vec::with_capacity(alloc, count) {
         Ok(jobs) => jobs,
@@ -231,14 +236,18 @@ fn jobs_of(alloc: Global, count: usize) -> Result<Vec<Job>, Fail> {
     };
     for number in 0..count {
         let number = (number as u64).to_be_bytes();
-        let mut job = job(alloc, &number)?;
-        job.c[..8].copy_from_slice(&number);
-        jobs.push(job)?;
+        let message = match Vec::from_slice(alloc, &number) {
+            Ok(message) => message,
+            Err(_) => Vec::from_slice(alloc, &number)?,
+        };
+        let mut c = [0_u8; 32];
+        c[..8].copy_from_slice(&number);
+        jobs.push(Job { c, message })?;
     }
     Ok(jobs)
 }
 
-/// Signs jobs at the open gate, over a store of a key of these levels whose next index is this one.
+/// Signs jobs at the open gate, by the key of these levels from this index on.
 fn signed_from(
     rt: &(impl AllocGlobal + Threads + Wait + Sync),
     levels: &[(LmsType, OtsType)],
@@ -247,15 +256,15 @@ fn signed_from(
     lengths: &[usize],
     workers: usize,
 ) -> Result<Outcome, Fail> {
-    let store = store_at(rt.alloc(), key_of(levels, 0x11)?, start)?;
     let asked = Asked {
         jobs,
         lengths,
         workers,
         gate: &OpenGate,
         at_once: false,
+        fails_first: false,
     };
-    carry_out_alone(rt, store, &asked)
+    signed_alone(rt, levels, start, &asked)
 }
 
 /// Whether so many workers sign four jobs.
@@ -285,41 +294,37 @@ fn four_jobs_are_signed_by_each_number_of_workers(rt: HostRuntime) -> Result<(),
 fn too_few_and_too_many_jobs_reserve_nothing(rt: HostRuntime) -> Result<(), Fail> {
     let jobs = jobs_of(rt.alloc(), 1025)?;
     let outcome = signed_from(&rt, &LEVELS, 30, &jobs, &[0, 1025, 1024], 1)?;
-    assert!(rt; outcome.is_of_none(0));
-    assert!(rt; outcome.has_fault(1, BatchFault::TooMany));
-    assert!(rt; outcome.has_fault(2, BatchFault::Book(BookFault::Exhausted { left: 994 })));
-    assert!(rt; outcome.has_counted(2, (0, 0, 0)));
-    assert!(rt; outcome.has_ended(&[], 30));
+    assert!(rt;
+        outcome.is_of_none(0)
+            && outcome.has_fault(1, BatchFault::TooMany)
+            && outcome.has_fault(2, BatchFault::Book(BookFault::Exhausted { left: 994 }))
+            && outcome.has_counted(2, (0, 0, 0))
+            && outcome.has_ended(&[], 30)
+    );
     Ok(())
-}
-
-/// Two batches of the jobs by two workers at a store whose first write fails.
-fn signed_past_a_failed_write(
-    rt: &(impl AllocGlobal + Threads + Wait + Sync),
-    jobs: &[Job],
-) -> Result<Outcome, Fail> {
-    let mut store = store_at(rt.alloc(), key_of(&LEVELS, 0x11)?, 0)?;
-    store.fail_replace(1, Left::Old);
-    let asked = Asked {
-        jobs,
-        lengths: &[4, 4],
-        workers: 2,
-        gate: &OpenGate,
-        at_once: false,
-    };
-    carry_out_alone(rt, store, &asked)
 }
 
 /// A batch of four whose write fails burns its indices, and the next one goes on after them.
 #[test]
 fn a_failed_write_burns_a_batch(rt: HostRuntime) -> Result<(), Fail> {
     let jobs = jobs_of(rt.alloc(), 4)?;
-    let outcome = signed_past_a_failed_write(&rt, &jobs)?;
-    assert!(rt; outcome.has_fault(0, BatchFault::Book(BookFault::Store { start: 0, len: 4 })));
-    assert!(rt; outcome.has_counted(0, (1, 0, 4)));
-    assert!(rt; outcome.is_complete(&rt, 1, 4, &jobs)?);
-    assert!(rt; outcome.has_counted(1, (2, 4, 4)));
-    assert!(rt; outcome.has_ended(&[Entry::Burnt { len: 4 }, Entry::Given { len: 4 }], 8));
+    let asked = Asked {
+        jobs: jobs.as_slice(),
+        lengths: &[4, 4],
+        workers: 2,
+        gate: &OpenGate,
+        at_once: false,
+        fails_first: true,
+    };
+    let outcome = signed_alone(&rt, &LEVELS, 0, &asked)?;
+    let burnt = BatchFault::Book(BookFault::Store { start: 0, len: 4 });
+    assert!(rt;
+        outcome.has_fault(0, burnt)
+            && outcome.has_counted(0, (1, 0, 4))
+            && outcome.is_complete(&rt, 1, 4, &jobs)?
+            && outcome.has_counted(1, (2, 4, 4))
+            && outcome.has_ended(&[Entry::Burnt { len: 4 }, Entry::Given { len: 4 }], 8)
+    );
     Ok(())
 }
 
@@ -345,24 +350,6 @@ fn all_indices_are_signed_by_most_workers_and_by_one(rt: HostRuntime) -> Result<
     Ok(())
 }
 
-/// Signs the jobs from index 30 on at a gate.
-fn signed_at<W: Gate>(
-    rt: &(impl AllocGlobal + Threads + Wait + Sync),
-    jobs: &[Job],
-    workers: usize,
-    gate: &W,
-) -> Result<Outcome, Fail> {
-    let store = store_at(rt.alloc(), key_of(&LEVELS, 0x11)?, 30)?;
-    let asked = Asked {
-        jobs,
-        lengths: &[2],
-        workers,
-        gate,
-        at_once: false,
-    };
-    carry_out_alone(rt, store, &asked)
-}
-
 /// Whether so many workers sign two jobs, where one alone waits in vain for another.
 fn two_are_signed(
     rt: &(impl AllocGlobal + Threads + Wait + Sync),
@@ -370,7 +357,15 @@ fn two_are_signed(
     workers: usize,
 ) -> Result<bool, Fail> {
     let gate = Meeting::new();
-    let outcome = signed_at(rt, jobs, workers, &gate)?;
+    let asked = Asked {
+        jobs,
+        lengths: &[2],
+        workers,
+        gate: &gate,
+        at_once: false,
+        fails_first: false,
+    };
+    let outcome = signed_alone(rt, &LEVELS, 30, &asked)?;
     let is_met = gate.is_missed() == (workers == 1) && gate.is_called_in_turn();
     let has_ended = outcome.has_ended(&[Entry::Given { len: 2 }], 32);
     Ok(is_met && has_ended && outcome.is_complete(rt, 0, 30, jobs)?)

@@ -1,4 +1,4 @@
-//! Tests of `lms_book`.
+//! Tests of `lms_book`, and of `lms_image` below it.
 #![tactic(auto)]
 
 #[cfg(test)]

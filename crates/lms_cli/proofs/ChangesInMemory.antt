@@ -8,8 +8,8 @@ use Rattle.lms_commands.specs.InMemory.{OnlyFiles, Stays}
 use Rattle.lms_commands.specs.Logs.{WorldCalls}
 use Rattle.lms_commands.specs.declared.fault.Fault.{Fault}
 use Rattle.lms_commands.specs.declared.status.Status.{Status}
-use Rattle.lms_signature_commands.proofs.ServingCalls.{serve_failed_keeps, serve_keeps, stays_unwritten}
-use Rattle.lms_signature_commands.proofs.BatchInMemory.{fails_to_sign_jobs_in_memory, signs_jobs_in_memory}
+use Rattle.lms_batch_commands.proofs.ServingCalls.{serve_failed_keeps, serve_keeps, stays_unwritten}
+use Rattle.lms_batch_commands.proofs.BatchInMemory.{fails_to_sign_jobs_in_memory, signs_jobs_in_memory}
 use Rattle.lms_key_commands.proofs.KeygenInMemory.{fails_to_make_key_in_memory, makes_key_in_memory}
 use Rattle.lms_key_commands.proofs.PublicInMemory.{fails_to_publish_key_in_memory, publishes_key_in_memory}
 use Rattle.lms_key_commands.proofs.InfoInMemory.{describes_in_memory, fails_to_describe_in_memory}

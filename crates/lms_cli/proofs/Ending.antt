@@ -6,7 +6,7 @@ use Rattle.std.specs.Io.KnownBytes.{Appends}
 use Rattle.lms_blocks.specs.Writing.{AppendsFront}
 use Rattle.lms_hss.specs.declared.key.HssKey.{HssKey as KeyOfCode}
 use Rattle.clap.specs.Words.{Text}
-use Rattle.lms_signature_commands.specs.BatchLogs.{LogsUnanswered}
+use Rattle.lms_batch_commands.specs.BatchLogs.{LogsUnanswered}
 use Rattle.lms_commands.specs.Faults.{of_seed, status_number, status_of}
 use Rattle.lms_key_commands.specs.Keygen.{AreNoLevels, IsNoKey}
 use Rattle.lms_key_commands.specs.KeygenLogs.{LogsUnmade}

@@ -5,7 +5,7 @@ use Rattle.clap.specs.Words.{Text}
 use Rattle.lms_hss.specs.declared.key.HssKey.{HssKey as KeyOfCode}
 use Rattle.lms_world.specs.Names.{Bytes}
 use Rattle.lms_world.specs.Held.{Answers, Held, answer_in}
-use Rattle.lms_signature_commands.specs.BatchInMemory.{FailsToSignJobs}
+use Rattle.lms_batch_commands.specs.BatchInMemory.{FailsToSignJobs}
 use Rattle.lms_commands.specs.InMemory.{FailsToWatch, OnlyFiles, SameFilesBut, SignsNone, Stays}
 use Rattle.lms_key_commands.specs.KeygenInMemory.{FailsToMakeKey}
 use Rattle.lms_key_commands.specs.PublicInMemory.{FailsToPublishKey}

@@ -13,7 +13,7 @@ use Rattle.lms_commands.specs.declared.fault.Fault.TheVariants.{StateInUse, Stat
 use Rattle.lms_commands.specs.declared.fault.Fault.TheVariants.{WriteOutput, WriteStateBurnt, WriteWitness}
 use Rattle.lms_commands.specs.declared.fault.Fault.TheVariants.{WriteWitnessBurnt}
 use Rattle.lms_key_commands.specs.WitnessLogs.{LogsWitnessThere}
-use Rattle.lms_signature_commands.specs.BatchLogs.{AreUnread}
+use Rattle.lms_batch_commands.specs.BatchLogs.{AreUnread}
 use Rattle.lms_join_commands.specs.JoinLogs.{FailsToReadTwo}
 
 -- the fault has a status of 2 at least

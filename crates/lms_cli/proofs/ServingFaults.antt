@@ -11,10 +11,10 @@ use Rattle.lms_commands.specs.declared.fault.Fault.{Fault}
 use Rattle.lms_commands.specs.declared.fault.Fault.TheVariants.{BadJob, Exhausted, OutOfMemory, ReadInput}
 use Rattle.lms_commands.specs.declared.fault.Fault.TheVariants.{ReadState, TooManyJobs, WriteOutput}
 use Rattle.lms_commands.specs.declared.status.Status.TheVariants.{Negative}
-use Rattle.lms_signature_commands.specs.Serving.{AnyState, Due, FailsGroup, FailsToServe, Group, LeavesGroup}
-use Rattle.lms_signature_commands.specs.Serving.{LogsGroups, NoState, Only, StopsServing, TriesLines, TriesPiece}
-use Rattle.lms_signature_commands.specs.Serving.{UsesGroup, is_bad_state, tried, unopened_fault, unread_fault}
-use Rattle.lms_signature_commands.specs.Serving.{whole_text}
+use Rattle.lms_batch_commands.specs.Serving.{AnyState, Due, FailsGroup, FailsToServe, Group, LeavesGroup}
+use Rattle.lms_batch_commands.specs.Serving.{LogsGroups, NoState, Only, StopsServing, TriesLines, TriesPiece}
+use Rattle.lms_batch_commands.specs.Serving.{UsesGroup, is_bad_state, tried, unopened_fault, unread_fault}
+use Rattle.lms_batch_commands.specs.Serving.{whole_text}
 use Rattle.lms_cli.proofs.HighFaults.{IsHigh, at, at_unread, at_unwatched, burns, spares}
 
 unopened_high : (due : Due) (cause : Fault) → IsHigh cause → IsHigh (unopened_fault due cause)

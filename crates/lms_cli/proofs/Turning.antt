@@ -9,7 +9,7 @@ use Rattle.lms_commands.specs.Histories.{TakenTurn}
 use Rattle.lms_commands.specs.Histories.{Makes, Resumes, Signature, StoresNothing, Turn, Uses, Watches, all_left}
 use Rattle.lms_commands.specs.Histories.{turn_signatures, whole_calls}
 use Rattle.lms_commands.specs.Histories.{written_in}
-use Rattle.lms_signature_commands.specs.ServingTurns.{PrintsInTurns}
+use Rattle.lms_batch_commands.specs.ServingTurns.{PrintsInTurns}
 use Rattle.lms_commands.specs.Logs.{WorldCalls}
 use Rattle.lms_commands.specs.declared.fault.Fault.{Fault}
 use Rattle.lms_commands.specs.declared.status.Status.{Status}
@@ -18,8 +18,9 @@ use Rattle.lms_commands.proofs.Histories.{IsHistory, no_index_twice}
 use Rattle.lms_key_commands.proofs.PublicTurns.{public_failed_turn, public_turn}
 use Rattle.lms_key_commands.proofs.ResumeTurns.{resume_failed_turn, resume_turn}
 use Rattle.lms_key_commands.proofs.WitnessTurns.{witness_failed_turn, witness_turn}
-use Rattle.lms_signature_commands.proofs.ServingTurns.{fails_in_turns, serves_in_turns}
-use Rattle.lms_signature_commands.proofs.SigningTurns.{jobs_failed_turn, jobs_turn, sign_failed_turn, sign_turn}
+use Rattle.lms_batch_commands.proofs.ServingTurns.{fails_in_turns, serves_in_turns}
+use Rattle.lms_batch_commands.proofs.BatchTurns.{jobs_failed_turn, jobs_turn}
+use Rattle.lms_signature_commands.proofs.SigningTurns.{sign_failed_turn, sign_turn}
 use Rattle.lms_commands.proofs.Turns.{idle_as}
 use Rattle.lms_key_commands.proofs.KeyTurns.{info_failed_turn, info_turn, keygen_failed_turn, keygen_turn}
 use Rattle.lms_signature_commands.proofs.VerifyTurns.{verify_failed_turn, verify_turn}

@@ -18,8 +18,8 @@ use Rattle.lms_key_commands.specs.PublicLogs.{LogsPublic, LogsPublicFailed}
 use Rattle.lms_key_commands.specs.ResumeLogs.{LogsResume, LogsResumeFailed}
 use Rattle.lms_key_commands.specs.ResumeTurns.{HandsResumed}
 use Rattle.lms_key_commands.specs.WitnessLogs.{LogsWitness, LogsWitnessFailed}
-use Rattle.lms_signature_commands.specs.BatchLogs.{LogsJobs, LogsJobsFailed}
-use Rattle.lms_signature_commands.specs.Serving.{LogsServe, LogsServeFailed}
+use Rattle.lms_batch_commands.specs.BatchLogs.{LogsJobs, LogsJobsFailed}
+use Rattle.lms_batch_commands.specs.Serving.{LogsServe, LogsServeFailed}
 use Rattle.lms_signature_commands.specs.SignLogs.{LogsSign, LogsSignFailed, Signing}
 use Rattle.lms_signature_commands.specs.Verdicts.{verdict_status}
 use Rattle.lms_signature_commands.specs.VerifyLogs.{LogsVerify, LogsVerifyFailed}

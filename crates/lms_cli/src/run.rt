@@ -9,6 +9,7 @@ ghost use Rattle.lms_cli.specs.RunLogs.{LogsAnswered, LogsFailed, TellsUsage};
 ghost use Rattle.lms_cli.specs.Runs.{AsksToRead, Runs, setting};
 
 use crate::notes::{remark, tell};
+use lms_batch_commands::{serve_jobs, sign_jobs};
 use lms_blocks::{WriteFault, write_bytes};
 use lms_command_line::command::{ClapText, Command, CommandFault, command};
 use lms_commands::{Fault, Resources, Status, print_fault};
@@ -17,7 +18,7 @@ use lms_hss::Progress;
 use lms_inspect::inspect_file;
 use lms_join_commands::{JoinRequest, join_public_keys, join_signature};
 use lms_key_commands::{describe, key_from, make_key, publish_key, resume_state, watch_state};
-use lms_signature_commands::{SignRequest, serve_jobs, sign_file, sign_jobs, verify_files};
+use lms_signature_commands::{SignRequest, sign_file, verify_files};
 use lms_world::{Printer, World};
 use std::convert::AsStr;
 use std::io::{Read, Write};

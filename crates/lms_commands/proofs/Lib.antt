@@ -7,3 +7,4 @@ pub mod Noting
 pub mod Signings
 pub mod Telling
 pub mod Turns
+pub mod Using

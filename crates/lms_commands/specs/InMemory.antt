@@ -112,6 +112,11 @@ FailsToWatch fault old new =
     ⊎ ((found : FindsState old new) × (text : List ℕ) × (old.witness ≡ Ok (Some text))
     × IsRefusedBy (Some text) found.state.key.i found.state.index fault)))
 
+-- the state counts n indices more, in one image; of none, nothing is written
+abbrev pub CountsUses : ℕ → KeyState → Texts → Texts → Type 0
+CountsUses zero state old new = new ≡ old
+CountsUses (suc n) state old new = new ≡ only (image_using (suc n) state)
+
 -- of a state that its witness does not refuse fewer than n indices are left, namely `left`; all stays as it was
 pub record LacksIndices (n left : ℕ) (old new : Held) : Type 0 where
   pub finds : FindsState old new

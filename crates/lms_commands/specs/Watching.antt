@@ -107,6 +107,11 @@ UsesWatched n state old new =
     (by : Admits state) × (last : WorldCalls) × StoresUse n state (watched by old) last
     × (new ≡ notes n by.watch state.key.i state.index (Ok tt) ++ last)
 
+-- the use of n indices is stored for certain, and said by the witness, if there is one; of none, nothing is written
+abbrev pub UsesAll : ℕ → KeyState → WorldCalls → WorldCalls → Type 0
+UsesAll zero state old new = LeavesWatched state old new
+UsesAll (suc n) state old new = UsesWatched (suc n) state old new
+
 -- a state is read that its witness does not refuse, and n of its indices are not used: there are too few, or memory
 -- runs out
 abbrev pub SparesWatched : ℕ → Fault → KeyState → WorldCalls → WorldCalls → Type 0

@@ -1,6 +1,6 @@
 //! Files of the disk, read.
 ghost use Rattle.std.specs.Prelude.{◌≡◌, ℕ, List, None, IfOk, OnOk};
-ghost use Rattle.lms_file_store.specs.FileStores.{AreLeftIn};
+ghost use Rattle.lms_files.specs.Files.{AreLeftIn};
 
 use crate::fault::fault_of;
 use lms_blocks::read_block;

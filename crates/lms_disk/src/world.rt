@@ -1,15 +1,15 @@
 //! The files of the disk, as a world.
 ghost use Rattle.std.specs.Prelude.{[], ◌∷◌, ◌≡◌, ◌≢◌, None, IfOk, IsOk, OnOk};
 ghost use Rattle.std.specs.IoError.{error_kind};
-ghost use Rattle.lms_file_store.specs.FileStores.{AreLeft, AreWritten};
+ghost use Rattle.lms_files.specs.Files.{AreLeft, AreWritten};
 ghost use Rattle.lms_world.specs.Events.{Written};
 
 use crate::contents::{DiskContents, Opened, read_sized};
 use crate::fault::fault_of;
 use lms_file_store::{
-    FileId, FileStore, StateLock, TryLock, WitnessDraft, lock, look_at_witness, make_witness,
-    plan_output, write_flushed, write_output,
+    FileStore, StateLock, TryLock, WitnessDraft, lock, look_at_witness, make_witness,
 };
+use lms_files::{FileId, plan_output, write_flushed, write_output};
 use lms_world::log::{Beginning, Call, Drafted, Log, OpenedAs, PutIn, TakenOut};
 use lms_world::{LockFault, Note, OutOfMemory, Output, Printer, World, WorldFault};
 use std::alloc::Global;

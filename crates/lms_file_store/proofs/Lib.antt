@@ -1,3 +1,3 @@
 pub mod Sent
 pub mod Keeping
-pub mod Files
+pub mod Steps

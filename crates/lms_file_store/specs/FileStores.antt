@@ -1,14 +1,13 @@
 -- A store in a file: what it wrote since it was made, and what a crash leaves by that.
 use Rattle.std.specs.Prelude.{◌≡◌, ◌⊎◌, ℕ, ◌<◌, ◌≤◌, List, [], ◌∷◌, ◌++◌, codes, length, replicate, reverse, take}
 use Rattle.std.specs.Prelude.{Contains}
-use Rattle.std.specs.Prelude.{if◌then◌else◌, Bool, true, false, Result, Ok, Err, Option, Some, None, IfSome}
+use Rattle.std.specs.Prelude.{if◌then◌else◌, Bool, true, false, Result, Ok, Err, Option, Some, None}
 use Rattle.std.specs.Global.{Vec}
-use Rattle.std.specs.Io.KnownBytes.{Appends}
-use Rattle.std.specs.Path.{dot, path_parent}
 use Rattle.lms_book.specs.declared.fault.ReadFault.{ReadFault}
 use Rattle.lms_book.specs.declared.fault.ReadFault.TheVariants.{Device, OutOfMemory}
 use Rattle.lms_book.specs.declared.fault.StoreFault.{StoreFault}
 use Rattle.lms_book.specs.Stops.{Texts, IsAmong, longest_text, only, or_else, StoreView, raised}
+use Rattle.lms_files.specs.Files.{folder_of}
 use Rattle.lms_file_store.specs.declared.record.FileWrite.{FileWrite}
 
 -- the writes since the store was made, the newest first, the bytes that the last read gave, none
@@ -109,35 +108,9 @@ ReadsKnown old (Ok text) new = Knows old.writes text.items × (new ≡ giving ol
 ReadsKnown old (Err Device) new = new ≡ failed old
 ReadsKnown old (Err OutOfMemory) new = new ≡ old
 
--- these bytes were written to this file: what it then has, where that is known, is what it had and these
-abbrev pub AreWrittenTo : (F : Type 0) → (F → Option (List ℕ)) → F → List ℕ → Type 0
-AreWrittenTo F contents file bytes = (after : F) × Appends (contents file) (contents after) bytes
-
--- these bytes were written to some file
-abbrev pub AreWritten : (F : Type 0) → (F → Option (List ℕ)) → List ℕ → Type 0
-AreWritten F contents bytes = (file : F) × AreWrittenTo F contents file bytes
-
 -- what the draft of a witness has before it is written
 abbrev pub blanks : List ℕ
 blanks = replicate 128 32
-
--- these bytes are all that was left in this file, where that is known
-abbrev pub AreLeftIn : (F : Type 0) → (F → Option (List ℕ)) → F → List ℕ → Type 0
-AreLeftIn F remaining file bytes = IfSome (remaining file) (λ rest. bytes ≡ rest)
-
--- these bytes are all that was left in some file, where that is known
-abbrev pub AreLeft : (F : Type 0) → (F → Option (List ℕ)) → List ℕ → Type 0
-AreLeft F remaining bytes = (file : F) × AreLeftIn F remaining file bytes
-
--- the folder that holds a file, by what is before its name
-abbrev pub folder_by : Option (List ℕ) → List ℕ
-folder_by None = dot ∷ []
-folder_by (Some []) = dot ∷ []
-folder_by (Some (first ∷ others)) = first ∷ others
-
--- the folder that holds a file
-abbrev pub folder_of : List ℕ → List ℕ
-folder_of path = folder_by (path_parent path)
 
 -- the new bytes are written beside the state, and the folder is the one that holds both
 pub record AreBeside (state draft folder : List ℕ) : Type 0 where

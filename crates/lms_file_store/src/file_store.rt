@@ -1,13 +1,14 @@
 //! A store in a file.
 ghost use Rattle.std.specs.Prelude.{◌≡◌, IfOk, OnOk};
-ghost use Rattle.lms_file_store.specs.FileStores.{AreLeft, AreWritten, fresh, giving, failed};
+ghost use Rattle.lms_file_store.specs.FileStores.{fresh, giving, failed};
+ghost use Rattle.lms_files.specs.Files.{AreLeft, AreWritten};
 
-use crate::drafts::{make_draft, place_draft};
 use crate::locking::StateLock;
-use crate::paths::{DRAFT, folder_of, sibling};
-use crate::reading::read_rest;
 use crate::record::Record;
 use lms_book::{LastRead, ReadFault, StateStore, StoreFault, StoredBytes};
+use lms_files::drafts::{make_draft, place_draft};
+use lms_files::paths::{DRAFT, folder_of, sibling};
+use lms_files::read_rest;
 use lms_params::OutOfMemory;
 use std::alloc::Global;
 use std::fs::OpenFile;

@@ -1,5 +1,5 @@
-//! A key's state in a file, the lock on it, the nodes of its trees and the witness that are kept
-//! beside it, and other files, which never take a state's place.
+//! A key's state in a file, the lock on it, and the nodes of its trees and the witness that are kept
+//! beside it.
 //!
 //! A store is made from the lock on its file. Hold the lock as long as the store is used: two
 //! stores in one file give an index twice. So does an older copy of the file that is put back, or a
@@ -12,24 +12,15 @@
 //! nor the names in that folder.
 #![tactic(auto)]
 
-mod drafts;
 mod fault;
-mod file_id;
 mod file_store;
 mod locking;
 mod nodes;
-mod outputs;
-mod paths;
-mod places;
-mod reading;
 mod record;
 mod witness;
 
 pub use crate::fault::LockFault;
-pub use crate::file_id::FileId;
 pub use crate::file_store::FileStore;
 pub use crate::locking::{StateLock, TryLock, lock};
-pub use crate::outputs::{write_flushed, write_output};
-pub use crate::places::{Output, Place, plan_output};
-pub use crate::witness::{MOST_WITNESS, WitnessDraft, look_at_witness, make_witness};
+pub use crate::witness::{WitnessDraft, look_at_witness, make_witness};
 pub use lms_params::OutOfMemory;

@@ -1,7 +1,7 @@
 //! The lock on a store's file.
 ghost use Rattle.std.specs.Prelude.{◌≡◌, IfOk, OnOk, string_bytes};
 
-use crate::paths::{LOCK, OWNER_ONLY, exists, resolve, sibling};
+use lms_files::paths::{LOCK, OWNER_ONLY, exists, resolve, sibling};
 use std::alloc::Global;
 use std::fs::{File, OpenOptions};
 use std::io;

@@ -3,12 +3,12 @@
 //! A reader does not depend on it: it may be missing, and a check value in it has to show whether
 //! it is what was written.
 ghost use Rattle.std.specs.Prelude.{◌≤◌, length, IfSome, OnOk};
-ghost use Rattle.lms_file_store.specs.FileStores.{AreLeft, AreWritten};
+ghost use Rattle.lms_files.specs.Files.{AreLeft, AreWritten};
 
-use crate::drafts::{make_draft, place_draft};
 use crate::locking::StateLock;
-use crate::paths::{NODES, NODES_DRAFT, sibling};
-use crate::reading::read_at_most;
+use lms_files::drafts::{make_draft, place_draft};
+use lms_files::paths::{NODES, NODES_DRAFT, sibling};
+use lms_files::read_at_most;
 use std::alloc::Global;
 use std::rt::Files;
 use std::{fs, io};

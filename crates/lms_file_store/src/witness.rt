@@ -2,24 +2,21 @@
 //! medium.
 ghost use Rattle.std.specs.Prelude.{◌≤◌, length, IfOk, IfSome, IsOk, OnOk};
 ghost use Rattle.std.specs.Io.KnownBytes.{Appends};
-ghost use Rattle.lms_file_store.specs.FileStores.{AreLeft, AreWritten, AreWrittenTo, blanks};
+ghost use Rattle.lms_file_store.specs.FileStores.{blanks};
+ghost use Rattle.lms_files.specs.Files.{AreLeft, AreWritten, AreWrittenTo};
 
-use crate::drafts::{fill_and_close, make_draft};
 use crate::locking::StateLock;
-use crate::outputs::{leads_to_image, refusal};
-use crate::paths::{
+use lms_files::drafts::{fill_and_close, make_draft};
+use lms_files::paths::{
     DRAFT, NODES, NODES_DRAFT, OWNER_ONLY, WITNESS, exists, folder_of, resolve, sibling,
 };
-use crate::reading::read_at_most;
+use lms_files::{MOST_WITNESS, leads_to_image, read_at_most, refusal};
 use std::alloc::Global;
 use std::fs::{OpenFile, OpenOptions};
 use std::io::{ErrorKind, Seek, Write};
 use std::os::unix::fs::OpenOptionsExt;
 use std::rt::Files;
 use std::{fs, io};
-
-/// The most bytes of a witness.
-pub const MOST_WITNESS: usize = 128;
 
 /// Why a file is no witness.
 const NO_WITNESS: &str = "no plain file of at most 128 bytes";

@@ -100,45 +100,62 @@ fn store_in<'a>(rt: &'a HostRuntime, name: &str) -> Result<Tried<'a>, Fail> {
     Ok(store_over(rt, name).ok_or("a store")?)
 }
 
+/// Whether a store in a file reads these bytes.
+fn is_read(rt: &HostRuntime, name: &str, text: &[u8]) -> bool {
+    match store_over(rt, name) {
+        Some(mut store) => store.reads(text),
+        None => false,
+    }
+}
+
 #[test]
 fn what_is_stored_is_read(rt: HostRuntime) -> Result<(), Fail> {
     let name = "file_store_reads/state";
-    assert!(rt; begins(&rt, "file_store_reads"));
+    let is_begun = begins(&rt, "file_store_reads");
     let mut store = store_in(&rt, name)?;
-    assert!(rt; store.store.refusal().is_none());
-    assert!(rt; store.reads_none() && store.was_refused(name, ErrorKind::NotFound));
-    assert!(rt; store.keeps(name, b"a"));
-    assert!(rt; store.keeps(name, b""));
-    assert!(rt; store.keeps(name, &[7; 180]));
-    assert!(rt; store.keeps(name, &[7; 256]));
-    assert!(rt; puts(&rt, name, b"b") && store.reads_none());
-    let mut other = store_in(&rt, name)?;
-    assert!(rt; other.reads(b"b"));
-    assert!(rt; clears(&rt, "file_store_reads"));
+    let is_none = store.store.refusal().is_none()
+        && store.reads_none()
+        && store.was_refused(name, ErrorKind::NotFound);
+    let is_kept = store.keeps(name, b"a")
+        && store.keeps(name, b"")
+        && store.keeps(name, &[7; 180])
+        && store.keeps(name, &[7; 256]);
+    let is_anothers = puts(&rt, name, b"b") && store.reads_none() && is_read(&rt, name, b"b");
+    let is_right = is_begun && is_none && is_kept && is_anothers;
+    assert!(rt; is_right && clears(&rt, "file_store_reads"));
     Ok(())
 }
 
 #[test]
 fn a_long_text_touches_no_file(rt: HostRuntime) -> Result<(), Fail> {
-    assert!(rt; begins(&rt, "file_store_long"));
+    let is_begun = begins(&rt, "file_store_long");
     let mut store = store_in(&rt, "file_store_long/state")?;
-    assert!(rt; store.refuses(&[7; 257]));
-    assert!(rt; is_missing(&rt, "file_store_long/state"));
-    assert!(rt; is_missing(&rt, "file_store_long/state.new"));
-    assert!(rt; clears(&rt, "file_store_long"));
+    assert!(rt;
+        is_begun
+            && store.refuses(&[7; 257])
+            && is_missing(&rt, "file_store_long/state")
+            && is_missing(&rt, "file_store_long/state.new")
+            && clears(&rt, "file_store_long")
+    );
     Ok(())
 }
 
 /// The draft is written, and can't replace a folder.
 #[test]
 fn a_folder_is_no_state(rt: HostRuntime) -> Result<(), Fail> {
-    assert!(rt; begins(&rt, "file_store_folder") && makes_folder(&rt, "file_store_folder/state"));
-    let mut store = store_in(&rt, "file_store_folder/state")?;
-    assert!(rt; store.refuses(b"b") && store.reads_none());
-    assert!(rt; store.was_refused("file_store_folder/state", ErrorKind::IsADirectory));
-    assert!(rt; is_missing(&rt, "file_store_folder/state.new"));
-    assert!(rt; clears(&rt, "file_store_folder"));
-    assert!(rt; store.refuses(b"b") && store.reads_none());
+    let name = "file_store_folder/state";
+    let is_begun = begins(&rt, "file_store_folder") && makes_folder(&rt, name);
+    let mut store = store_in(&rt, name)?;
+    assert!(rt;
+        is_begun
+            && store.refuses(b"b")
+            && store.reads_none()
+            && store.was_refused(name, ErrorKind::IsADirectory)
+            && is_missing(&rt, "file_store_folder/state.new")
+            && clears(&rt, "file_store_folder")
+            && store.refuses(b"b")
+            && store.reads_none()
+    );
     Ok(())
 }
 
@@ -150,17 +167,22 @@ const TRIED_DRAFT: &str = "file_store_tried/state.new";
 /// tried last since. A certain write begins anew, and is taken after failed ones.
 #[test]
 fn a_store_knows_what_it_tried(rt: HostRuntime) -> Result<(), Fail> {
-    assert!(rt; begins(&rt, "file_store_tried"));
+    let is_begun = begins(&rt, "file_store_tried");
     let mut store = store_in(&rt, TRIED)?;
-    assert!(rt; store.fails_to_take(b"a") && store.knows(b"older"));
-    assert!(rt; store.takes(b"old") && store.fails_to_take(b"put"));
-    assert!(rt; store.fails_to_take(b"a") && store.fails_to_take(b"b"));
-    assert!(rt; store.knows(b"put"));
-    assert!(rt; store.fails_to_take(b"c") && store.knows_not(b"put"));
-    assert!(rt; store.knows(b"a") && store.knows(b"c") && store.knows(b"old"));
-    assert!(rt; store.takes(b"new") && store.reads(b"new"));
-    assert!(rt; store.knows_not(b"old"));
-    assert!(rt; clears(&rt, "file_store_tried"));
+    let knows_any = store.fails_to_take(b"a") && store.knows(b"older");
+    let knows_four = store.takes(b"old")
+        && store.fails_to_take(b"put")
+        && store.fails_to_take(b"a")
+        && store.fails_to_take(b"b")
+        && store.knows(b"put");
+    let forgets = store.fails_to_take(b"c")
+        && store.knows_not(b"put")
+        && store.knows(b"a")
+        && store.knows(b"c")
+        && store.knows(b"old");
+    let begins_anew = store.takes(b"new") && store.reads(b"new") && store.knows_not(b"old");
+    let is_right = is_begun && knows_any && knows_four && forgets && begins_anew;
+    assert!(rt; is_right && clears(&rt, "file_store_tried"));
     Ok(())
 }
 
@@ -178,34 +200,47 @@ fn second_try<'a>(rt: &'a HostRuntime, name: &str) -> Result<Tried<'a>, Fail> {
 fn a_store_works_after_refused_memory(rt: HostRuntime) -> Result<(), Fail> {
     let _ = makes_folder(&rt, "file_store_memory");
     let mut store = second_try(&rt, "file_store_memory/state")?;
+    let mut are_taken = true;
     for n in 0..20_u8 {
-        assert!(rt; store.takes(&[n]));
+        let text = [n];
+        are_taken = are_taken && store.takes(&text);
     }
-    assert!(rt; store.reads(&[19]) || store.reads(&[19]));
+    assert!(rt; are_taken && (store.reads(&[19]) || store.reads(&[19])));
     let _ = clears(&rt, "file_store_memory");
     Ok(())
 }
 
 #[test]
 fn a_link_is_followed(rt: HostRuntime) -> Result<(), Fail> {
-    assert!(rt; begins_with_a_link(&rt));
+    let is_begun = begins_with_a_link(&rt);
     let mut store = store_in(&rt, "file_store_links/link")?;
-    assert!(rt; store.reads(b"a") && store.takes(b"b"));
-    assert!(rt; holds(&rt, "file_store_links/real/state", b"b"));
-    assert!(rt; is_link(&rt, "file_store_links/link"));
-    assert!(rt; clears(&rt, "file_store_links"));
+    assert!(rt;
+        is_begun
+            && store.reads(b"a")
+            && store.takes(b"b")
+            && holds(&rt, "file_store_links/real/state", b"b")
+            && is_link(&rt, "file_store_links/link")
+            && clears(&rt, "file_store_links")
+    );
     Ok(())
 }
 
 /// Whether the lock on a state is had by this name, and still leads to it once the name is removed:
 /// the state is there, and its store takes a write.
 fn leads_past(rt: &HostRuntime, name: &str, text: &[u8]) -> bool {
-    let Ok(held) = lock(rt, rt.alloc(), name) else {
-        return false;
-    };
-    let has_state = removes(rt, name) && held.is_of_a_state(rt);
-    match store_of(rt, &held) {
-        Some(mut store) => has_state && store.takes(text),
+    match lock(rt, rt.alloc(), name) {
+        Ok(held) => {
+            let has_state = removes(rt, name) && held.is_of_a_state(rt);
+            has_state && takes_in(rt, &held, text)
+        }
+        Err(_) => false,
+    }
+}
+
+/// Whether the store of a lock takes these bytes.
+fn takes_in(rt: &HostRuntime, held: &StateLock<File>, text: &[u8]) -> bool {
+    match store_of(rt, held) {
+        Some(mut store) => store.takes(text),
         None => false,
     }
 }
@@ -213,11 +248,13 @@ fn leads_past(rt: &HostRuntime, name: &str, text: &[u8]) -> bool {
 /// The store of a lock is where the name led to when it was locked, whatever becomes of the name.
 #[test]
 fn a_lock_leads_to_its_store(rt: HostRuntime) {
-    assert!(rt; begins_with_a_link(&rt));
-    assert!(rt; leads_past(&rt, "file_store_links/link", b"b"));
-    assert!(rt; holds(&rt, "file_store_links/real/state", b"b"));
-    assert!(rt; is_missing(&rt, "file_store_links/link"));
-    assert!(rt; clears(&rt, "file_store_links"));
+    assert!(rt;
+        begins_with_a_link(&rt)
+            && leads_past(&rt, "file_store_links/link", b"b")
+            && holds(&rt, "file_store_links/real/state", b"b")
+            && is_missing(&rt, "file_store_links/link")
+            && clears(&rt, "file_store_links")
+    );
 }
 
 /// Whether a lock takes for a state of its name each thing that is put there, one after another: a
@@ -239,11 +276,14 @@ fn exists_where_not_looked_up(rt: &HostRuntime, held: &StateLock<File>, folder: 
 #[test]
 fn what_can_not_be_looked_up_exists(rt: HostRuntime) -> Result<(), Fail> {
     let (folder, name) = ("file_store_names/folder", "file_store_names/folder/state");
-    assert!(rt; begins(&rt, "file_store_names") && makes_folder(&rt, folder));
+    let is_begun = begins(&rt, "file_store_names") && makes_folder(&rt, folder);
     let held = lock(&rt, rt.alloc(), name)?;
-    assert!(rt; !held.is_of_a_state(&rt));
-    assert!(rt; takes_each_thing(&rt, &held, name));
-    assert!(rt; exists_where_not_looked_up(&rt, &held, folder));
-    assert!(rt; clears(&rt, "file_store_names"));
+    assert!(rt;
+        is_begun
+            && !held.is_of_a_state(&rt)
+            && takes_each_thing(&rt, &held, name)
+            && exists_where_not_looked_up(&rt, &held, folder)
+            && clears(&rt, "file_store_names")
+    );
     Ok(())
 }

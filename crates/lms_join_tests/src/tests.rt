@@ -44,8 +44,7 @@ fn endorsed(
     levels: &[(LmsType, OtsType)],
     signer: &[u8],
 ) -> Result<Texts, Fail> {
-    let lms_key = signer.get(4..).ok_or("a public key")?;
-    signed(rt, levels, 0x55, 7, lms_key)
+    signed(rt, levels, 0x55, 7, signer.get(4..).unwrap_or(&[]))
 }
 
 /// What is joined of a top key's endorsement of a signer's key and a signature by that key.
@@ -65,25 +64,36 @@ fn joined(
     })
 }
 
-/// The first byte with whose lowest bit changed a signature of a message is accepted.
-fn accepted_change(
-    rt: &impl AllocGlobal,
-    texts: &Texts,
-    message: &[u8],
-) -> Result<Option<usize>, Fail> {
-    let mut changed = Vec::from_slice(rt.alloc(), &texts.signature)?;
-    for at in (0..texts.signature.len()).step_by(97) {
-        if let Some(byte) = changed.get_mut(at) {
-            *byte ^= 1;
-        }
-        if verify(&texts.public, message, &changed) {
-            return Ok(Some(at));
-        }
-        if let Some(byte) = changed.get_mut(at) {
-            *byte ^= 1;
-        }
+/// Changes the lowest bit of one byte.
+fn flip(text: &mut [u8], at: usize) {
+    if let Some(byte) = text.get_mut(at) {
+        *byte ^= 1;
     }
-    Ok(None)
+}
+
+/// The last of every 97 bytes with whose lowest bit changed a signature of a message is accepted.
+fn accepted_change(public: &[u8], message: &[u8], signature: &mut [u8]) -> Option<usize> {
+    let mut accepted = None;
+    for at in (0..signature.len()).step_by(97) {
+        flip(signature, at);
+        if verify(public, message, signature) {
+            accepted = Some(at);
+        }
+        flip(signature, at);
+    }
+    accepted
+}
+
+/// Whether this is what two keys' signatures of `abc` are joined to: a signature of their lengths
+/// under a key of this many levels, which is accepted for its message alone.
+fn is_whole(whole: &Texts, top: &Texts, signer: &Texts, levels: usize) -> bool {
+    let others = top.signature.len().saturating_add(signer.signature.len());
+    whole.signature.len() == others.saturating_add(52)
+        && usize::from(whole.public[3]) == levels
+        && join_public(&top.public, &signer.public) == Some(whole.public)
+        && verify(&whole.public, b"abc", &whole.signature)
+        && !verify(&whole.public, b"abd", &whole.signature)
+        && !verify(&top.public, b"abc", &whole.signature)
 }
 
 /// Signatures by keys of so many levels are joined to one of this length, which is accepted for its
@@ -93,34 +103,39 @@ fn check_joined(
     top_levels: &[(LmsType, OtsType)],
     signer_levels: &[(LmsType, OtsType)],
 ) -> Result<Texts, Fail> {
+    let levels = top_levels.len().saturating_add(signer_levels.len());
     let signer = signed(rt, signer_levels, 0x44, 3, b"abc")?;
     let top = endorsed(rt, top_levels, &signer.public)?;
     let whole = joined(rt, &top, &signer.public, &signer.signature)?;
-    let others = top.signature.len().saturating_add(signer.signature.len());
-    assert!(rt; whole.signature.len() == others.saturating_add(52));
-    let levels = top_levels.len().saturating_add(signer_levels.len());
-    assert!(rt; usize::from(whole.public[3]) == levels);
-    assert!(rt; join_public(&top.public, &signer.public) == Some(whole.public));
-    assert!(rt; verify(&whole.public, b"abc", &whole.signature));
-    assert!(rt; !verify(&whole.public, b"abd", &whole.signature));
-    assert!(rt; !verify(&top.public, b"abc", &whole.signature));
+    assert!(rt; is_whole(&whole, &top, &signer, levels), "{levels}");
     Ok(whole)
 }
 
 #[test]
 fn joins_two_keys(rt: HostRuntime) -> Result<(), Fail> {
-    let whole = check_joined(&rt, &[QUICK], &[QUICK])?;
-    assert!(rt; accepted_change(&rt, &whole, b"abc")?.is_none());
-    let _whole = check_joined(&rt, &[SHORT, QUICK], &[QUICK])?;
-    let _whole = check_joined(&rt, &[QUICK], &[QUICK, SHORT])?;
+    let Texts {
+        public,
+        mut signature,
+    } = check_joined(&rt, &[QUICK], &[QUICK])?;
+    let change = accepted_change(&public, b"abc", &mut signature);
+    assert!(rt; change.is_none(), "{change:?}");
     Ok(())
 }
 
+/// The levels of a top key and those of a signer's key.
+const LEVELS: [(&[(LmsType, OtsType)], &[(LmsType, OtsType)]); 5] = [
+    (&[SHORT, QUICK], &[QUICK]),
+    (&[QUICK], &[QUICK, SHORT]),
+    (&[QUICK; 4], &[QUICK; 4]),
+    (&[QUICK; 7], &[QUICK]),
+    (&[QUICK], &[QUICK; 7]),
+];
+
 #[test]
 fn joins_up_to_eight_levels(rt: HostRuntime) -> Result<(), Fail> {
-    let _whole = check_joined(&rt, &[QUICK; 4], &[QUICK; 4])?;
-    let _whole = check_joined(&rt, &[QUICK; 7], &[QUICK])?;
-    let _whole = check_joined(&rt, &[QUICK], &[QUICK; 7])?;
+    for (top, signer) in LEVELS {
+        drop(check_joined(&rt, top, signer)?);
+    }
     Ok(())
 }
 
@@ -151,22 +166,19 @@ fn check_vector(
 ) -> Result<(), Fail> {
     let public = hex::decode(rt.alloc(), vector.public)?;
     let whole = hex::decode(rt.alloc(), vector.signature)?;
-    let (_, top_key) = public.split_at_checked(4).ok_or("a public key")?;
-    let (_, rest) = whole.split_at_checked(4).ok_or("a signature")?;
-    let (upper, rest) = rest
-        .split_at_checked(1292)
-        .ok_or("the top tree's signature")?;
-    let (lms_key, lower) = rest.split_at_checked(56).ok_or("a signed key")?;
     let top = Texts {
-        public: public_key(1, top_key),
-        signature: signature(rt, 0, upper)?,
+        public: public_key(1, public.get(4..).unwrap_or(&[])),
+        signature: signature(rt, 0, whole.get(4..1296).unwrap_or(&[]))?,
     };
-    let signer = public_key(levels_below, lms_key);
+    let signer = public_key(levels_below, whole.get(1296..1352).unwrap_or(&[]));
+    let lower = whole.get(1352..).unwrap_or(&[]);
     let lower = signature(rt, levels_below.saturating_sub(1), lower)?;
-    assert!(rt; verify(&signer, vector.message.as_bytes(), &lower));
     let again = joined(rt, &top, &signer, &lower)?;
-    assert!(rt; public.as_slice() == again.public.as_slice());
-    assert!(rt; whole.as_slice() == again.signature.as_slice());
+    assert!(rt;
+        verify(&signer, vector.message.as_bytes(), &lower)
+            && public.as_slice() == again.public.as_slice()
+            && whole == again.signature
+    );
     Ok(())
 }
 
@@ -176,64 +188,58 @@ fn joins_keys_of_another_implementation(rt: HostRuntime) -> Result<(), Fail> {
     check_vector(&rt, &THREE, 2)
 }
 
-/// No endorsement is made of these, for this reason.
-fn check_refused(
-    rt: &impl Abort,
+/// Whether no endorsement is made of these, for this reason.
+fn is_refused(
     top_public: &[u8],
     endorsement: &[u8],
     signer_public: &[u8],
     fault: EndorsementFault,
-) {
-    let refused = Endorsement::new(top_public, endorsement, signer_public, ByEights).err();
-    assert!(rt; refused == Some(fault));
+) -> bool {
+    Endorsement::new(top_public, endorsement, signer_public, ByEights).err() == Some(fault)
 }
 
-/// The keys can be joined, and this endorsement is not accepted.
-fn check_not_accepted(
-    rt: &impl Abort,
-    top_public: &[u8],
-    endorsement: &[u8],
-    signer_public: &[u8],
-) {
+/// Whether the keys can be joined, and this endorsement is not accepted.
+fn is_not_accepted(top_public: &[u8], endorsement: &[u8], signer_public: &[u8]) -> bool {
     let fault = EndorsementFault::NotAccepted;
-    check_refused(rt, top_public, endorsement, signer_public, fault);
+    is_refused(top_public, endorsement, signer_public, fault)
 }
 
+/// Whether an endorsement is accepted without the byte after it, and neither with that byte nor
+/// without its own last one.
+fn wants_length(top_public: &[u8], longer: &[u8], signer_public: &[u8]) -> bool {
+    let length = longer.len().saturating_sub(1);
+    let endorsement = longer.get(..length).unwrap_or(&[]);
+    let shorter = longer.get(..length.saturating_sub(1)).unwrap_or(&[]);
+    Endorsement::new(top_public, endorsement, signer_public, ByEights).is_ok()
+        && is_not_accepted(top_public, longer, signer_public)
+        && is_not_accepted(top_public, shorter, signer_public)
+        && is_not_accepted(top_public, &[0, 0, 0], signer_public)
+}
+
+/// Whether a key without its last byte is joined with no other, whatever endorses it.
+fn is_not_joinable(top: &Texts, cut: &[u8]) -> bool {
+    let fault = EndorsementFault::NotJoinable;
+    is_refused(&top.public, &top.signature, cut, fault)
+        && is_refused(&top.public, &[], cut, fault)
+        && join_public(&top.public, cut).is_none()
+        && join_public(cut, &top.public).is_none()
+}
+
+/// A key's signatures of another key, of a signer's key with the four bytes before it, and of
+/// `abc`; another key's; and those of another length.
 #[test]
 fn refuses_what_is_not_endorsed(rt: HostRuntime) -> Result<(), Fail> {
     let signer = signed(&rt, &[QUICK], 0x44, 3, b"abc")?;
     let other = signed(&rt, &[QUICK], 0x45, 3, b"abc")?;
-    let top = endorsed(&rt, &[QUICK], &signer.public)?;
     let counted = signed(&rt, &[QUICK], 0x55, 7, &signer.public)?;
-    check_not_accepted(&rt, &top.public, &top.signature, &other.public);
-    check_not_accepted(&rt, &other.public, &top.signature, &signer.public);
-    check_not_accepted(&rt, &top.public, &signer.signature, &signer.public);
-    check_not_accepted(&rt, &top.public, &counted.signature, &signer.public);
-    let shorter = top.signature.len().saturating_sub(1);
-    let cut = top.signature.get(..shorter).unwrap_or(&[]);
-    check_not_accepted(&rt, &top.public, cut, &signer.public);
-    check_not_accepted(&rt, &top.public, &[0, 0, 0], &signer.public);
-    let longer = signature(&rt, 0, top.signature.get(4..).unwrap_or(&[]))?;
-    check_longer(&rt, &top.public, longer, &signer.public)?;
-    let cut = signer.public.get(..59).unwrap_or(&[]);
-    let fault = EndorsementFault::NotJoinable;
-    check_refused(&rt, &top.public, &top.signature, cut, fault);
-    check_refused(&rt, &top.public, &[], cut, fault);
-    assert!(rt; join_public(&top.public, cut).is_none() && join_public(cut, &top.public).is_none());
-    Ok(())
-}
-
-/// An endorsement is accepted, and with one byte more it is not.
-fn check_longer(
-    rt: &impl Abort,
-    top_public: &[u8],
-    endorsement: Vec<u8>,
-    signer_public: &[u8],
-) -> Result<(), Fail> {
-    assert!(rt; Endorsement::new(top_public, &endorsement, signer_public, ByEights).is_ok());
-    let mut longer = endorsement;
-    longer.push(0)?;
-    check_not_accepted(rt, top_public, &longer, signer_public);
+    let mut top = endorsed(&rt, &[QUICK], &signer.public)?;
+    let refuses = is_not_accepted(&top.public, &top.signature, &other.public)
+        && is_not_accepted(&other.public, &top.signature, &signer.public)
+        && is_not_accepted(&top.public, &signer.signature, &signer.public)
+        && is_not_accepted(&top.public, &counted.signature, &signer.public)
+        && is_not_joinable(&top, signer.public.get(..59).unwrap_or(&[]));
+    top.signature.push(0)?;
+    assert!(rt; refuses && wants_length(&top.public, &top.signature, &signer.public));
     Ok(())
 }
 
@@ -243,10 +249,12 @@ fn refuses_signatures_of_other_keys(rt: HostRuntime) -> Result<(), Fail> {
     let top = endorsed(&rt, &[QUICK], &signer.public)?;
     let two_levels = signed(&rt, &[QUICK; 2], 0x44, 3, b"abc")?;
     let other = signed(&rt, &[QUICK], 0x45, 3, b"abc")?;
-    assert!(rt; !is_joined(&rt, &top, &signer.public, &two_levels.signature)?);
-    assert!(rt; !is_joined(&rt, &top, &signer.public, &[0, 0, 0])?);
     let text = joined(&rt, &top, &signer.public, &other.signature)?;
-    assert!(rt; !verify(&text.public, b"abc", &text.signature));
+    assert!(rt;
+        !verify(&text.public, b"abc", &text.signature)
+            && !is_joined(&rt, &top, &signer.public, &two_levels.signature)?
+            && !is_joined(&rt, &top, &signer.public, &[0, 0, 0])?
+    );
     Ok(())
 }
 
@@ -262,50 +270,51 @@ fn is_joined(
     Ok(text.is_some())
 }
 
-/// A signature of two levels is not joined where it is cut, where its key is another's and where a
-/// byte of the signature of its lower key is changed; one whose message is another is.
-#[test]
-fn refuses_signatures_that_are_not_begun(rt: HostRuntime) -> Result<(), Fail> {
-    let signer = signed(&rt, &[QUICK; 2], 0x44, 3, b"abc")?;
-    let other = signed(&rt, &[QUICK; 2], 0x45, 3, b"abc")?;
-    let top = endorsed(&rt, &[QUICK], &signer.public)?;
-    assert!(rt; is_joined(&rt, &top, &signer.public, &signer.signature)?);
-    assert!(rt; !is_joined(&rt, &top, &signer.public, &other.signature)?);
-    let shorter = signer.signature.len().saturating_sub(1);
-    let cut = signer.signature.get(..shorter).unwrap_or(&[]);
-    assert!(rt; !is_joined(&rt, &top, &signer.public, cut)?);
-    assert!(rt; !is_joined_changed(&rt, &top, &signer, 100)?);
-    assert!(rt; is_joined_changed(&rt, &top, &signer, shorter)?);
-    Ok(())
-}
-
 /// Whether the signature is joined with the lowest bit of this byte changed.
 fn is_joined_changed(
     rt: &impl AllocGlobal,
     top: &Texts,
-    signer: &Texts,
+    signer: &[u8],
+    signature: &mut [u8],
     at: usize,
 ) -> Result<bool, Fail> {
-    let mut changed = Vec::from_slice(rt.alloc(), &signer.signature)?;
-    if let Some(byte) = changed.get_mut(at) {
-        *byte ^= 1;
-    }
-    is_joined(rt, top, &signer.public, &changed)
+    flip(signature, at);
+    let joins = is_joined(rt, top, signer, signature)?;
+    flip(signature, at);
+    Ok(joins)
+}
+
+/// A signature of two levels is not joined where it is cut, where its key is another's and where a
+/// byte of the signature of its lower key is changed; one whose message is another is.
+#[test]
+fn refuses_signatures_that_are_not_begun(rt: HostRuntime) -> Result<(), Fail> {
+    let Texts {
+        public,
+        mut signature,
+    } = signed(&rt, &[QUICK; 2], 0x44, 3, b"abc")?;
+    let other = signed(&rt, &[QUICK; 2], 0x45, 3, b"abc")?;
+    let top = endorsed(&rt, &[QUICK], &public)?;
+    let shorter = signature.len().saturating_sub(1);
+    assert!(rt;
+        is_joined(&rt, &top, &public, &signature)?
+            && !is_joined(&rt, &top, &public, &other.signature)?
+            && !is_joined(&rt, &top, &public, signature.get(..shorter).unwrap_or(&[]))?
+            && !is_joined_changed(&rt, &top, &public, &mut signature, 100)?
+            && is_joined_changed(&rt, &top, &public, &mut signature, shorter)?
+    );
+    Ok(())
 }
 
 #[test]
 fn faults_have_texts(rt: HostRuntime) -> Result<(), Fail> {
-    assert_eq!(rt;
-        EndorsementFault::NotJoinable
-            .to_string(rt.alloc())?
-            .as_str(),
-        "the keys can't be joined",
-    );
-    assert_eq!(rt;
-        EndorsementFault::NotAccepted
-            .to_string(rt.alloc())?
-            .as_str(),
-        "the endorsement is not accepted",
-    );
+    for (fault, text) in [
+        (EndorsementFault::NotJoinable, "the keys can't be joined"),
+        (
+            EndorsementFault::NotAccepted,
+            "the endorsement is not accepted",
+        ),
+    ] {
+        assert!(rt; fault.to_string(rt.alloc())?.as_str() == text, "{text}");
+    }
     Ok(())
 }

@@ -4,8 +4,8 @@ ghost use Rattle.std.specs.Prelude.{◌≡◌, IfOk, IfSome};
 mod texts;
 mod wrong;
 
-use lms_fixtures::{Sums, key_of, lease_of};
-use lms_hss::{Forest, HssKey, verify};
+use lms_fixtures::{Sums, forest_of, key_of, lease_of, signature_of};
+use lms_hss::{HssKey, verify};
 use lms_kept::{KeptSignature, KeptTrees, sign_lease};
 use lms_params::{LmsType, OtsType, OutOfMemory};
 use std::process::Abort;
@@ -33,35 +33,44 @@ const TALL_ABOVE: [(LmsType, OtsType); 2] = [
     (LmsType::H5, OtsType::W1),
 ];
 
-/// The trees of an index that a key has.
-fn compute(
+/// What is kept of the trees of an index that a key has.
+fn kept_text(
     rt: &(impl Abort + AllocGlobal + Threads + Sync),
-    key: HssKey,
+    key: &HssKey,
     at: u64,
     sums: &Sums,
-) -> Result<KeptTrees, Fail>
-    ensures { IfOk result (λ trees. trees.key ≡ key) }
-{
+) -> Result<Vec<u8>, OutOfMemory> {
     assert!(rt; at < key.capacity());
-    Ok(KeptTrees::compute(rt, rt.alloc(), key, at, sums)?)
+    KeptTrees::compute(rt, rt.alloc(), *key, at, sums)?.text(rt.alloc())
 }
 
-/// The trees of another index that the key has, or none where what was given is wrong.
+/// What these bytes keep, which the key takes.
+fn taken(rt: &impl AllocGlobal, key: &HssKey, text: &[u8]) -> Result<KeptTrees, Fail>
+    ensures { IfOk result (λ trees. trees.key ≡ key.now) }
+{
+    Ok(KeptTrees::read(rt.alloc(), *key, text)?.ok_or("a text of the key")?)
+}
+
+/// The trees of another index that the key has, or none where the bytes are another key's or the
+/// nodes in them are wrong.
 fn moved(
     rt: &(impl Abort + AllocGlobal + Threads + Sync),
     key: HssKey,
-    trees: KeptTrees,
+    text: &[u8],
     g: u64,
     sums: &Sums,
-) -> Result<Option<KeptTrees>, Fail>
-    requires { trees.key ≡ key }
+) -> Result<Option<KeptTrees>, OutOfMemory>
     ensures { IfOk result (λ moved. IfSome moved (λ trees. trees.key ≡ key)) }
 {
     assert!(rt; g < key.capacity());
-    Ok(trees.moved_to(rt, rt.alloc(), g, sums)?)
+    match KeptTrees::read(rt.alloc(), key, text)? {
+        Some(trees) => trees.moved_to(rt, rt.alloc(), g, sums),
+        None => Ok(None),
+    }
 }
 
-/// The signature of `abc` by an index that is served, or none where it is not accepted.
+/// The signature of `abc` by an index that is served, or none where it is not accepted. Memory is
+/// asked for a second time.
 fn signed(
     rt: &(impl Abort + AllocGlobal),
     key: HssKey,
@@ -71,49 +80,38 @@ fn signed(
     requires { trees.now.key ≡ key }
 {
     assert!(rt; trees.serves(g), "{g}");
-    let memory = Vec::with_capacity(rt.alloc(), key.sig_len())?;
+    let memory = match Vec::with_capacity(rt.alloc(), key.sig_len()) {
+        Ok(memory) => memory,
+        Err(_) => Vec::with_capacity(rt.alloc(), key.sig_len())?,
+    };
     Ok(trees.sign(memory, g, &RANDOMIZER, b"abc"))
 }
 
 /// The signature of `abc` by an index, from trees that are computed for it alone.
 fn expected(
-    rt: &(impl Abort + AllocGlobal + Threads + Sync),
+    rt: &(impl AllocGlobal + Threads + Sync),
     key: HssKey,
     g: u64,
-) -> Result<Vec<u8>, Fail> {
-    assert!(rt; g < key.capacity());
-    let forest = Forest::cover(rt, rt.alloc(), key, g, 1)?;
-    Ok(forest.sign(g, &RANDOMIZER, b"abc")?)
+) -> Result<Vec<u8>, &'static str> {
+    signature_of(&forest_of(rt, key, g, 1)?, g, &RANDOMIZER, b"abc")
 }
 
-/// An index is signed as by trees that are computed for it alone.
-fn check_index(
-    rt: &(impl Abort + AllocGlobal + Threads + Sync),
-    key: HssKey,
-    trees: &KeptTrees,
-    g: u64,
-) -> Result<(), Fail>
-    requires { trees.now.key ≡ key }
-{
-    let signature = signed(rt, key, trees, g)?.ok_or("an accepted signature")?;
-    assert!(rt; signature == expected(rt, key, g)?, "{g}");
-    Ok(())
-}
-
-/// What these bytes keep signs an index, moved on where it doesn't serve it, and is kept again.
+/// What these bytes keep signs an index as trees do that are computed for it alone, moved on where
+/// it doesn't serve it, and is kept again.
 fn check_next(
     rt: &(impl Abort + AllocGlobal + Threads + Sync),
-    key: HssKey,
+    key: &HssKey,
     text: &[u8],
     g: u64,
 ) -> Result<Vec<u8>, Fail> {
-    let kept = KeptTrees::read(rt.alloc(), key, text)?.ok_or("a text of the key")?;
+    let kept = taken(rt, key, text)?;
     let trees = if kept.serves(g) {
         kept
     } else {
-        moved(rt, key, kept, g, &Sums::new())?.ok_or("right nodes")?
+        moved(rt, *key, text, g, &Sums::new())?.ok_or("right nodes")?
     };
-    check_index(rt, key, &trees, g)?;
+    let signature = signed(rt, *key, &trees, g)?.ok_or("an accepted signature")?;
+    assert!(rt; signature == expected(rt, *key, g)?, "{g}");
     Ok(trees.text(rt.alloc())?)
 }
 
@@ -124,9 +122,9 @@ fn check_indices(
     indices: &[u64],
 ) -> Result<(), Fail> {
     let key = key_of(levels, 0x11)?;
-    let mut text = compute(rt, key, 0, &Sums::new())?.text(rt.alloc())?;
+    let mut text = kept_text(rt, &key, 0, &Sums::new())?;
     for g in indices {
-        text = check_next(rt, key, &text, *g)?;
+        text = check_next(rt, &key, &text, *g)?;
     }
     Ok(())
 }
@@ -174,15 +172,35 @@ fn signs_across_bottom_subtrees_above(rt: HostRuntime) -> Result<(), Fail> {
 #[test]
 fn begins_with_the_top_tree(rt: HostRuntime) -> Result<(), Fail> {
     let key = key_of(&THREE_LEVELS, 0x11)?;
+    let public = key.public_key(&rt, rt.alloc())?;
     let sums = Sums::new();
     let top = KeptTrees::top(&rt, rt.alloc(), key, &sums)?;
-    assert!(rt; sums.are(1, 32));
-    assert!(rt; top.public() == key.public_key(&rt, rt.alloc())?);
-    assert!(rt; !top.serves(0));
+    assert!(rt; sums.are(1, 32) && top.public() == public && !top.serves(0));
     let text = top.text(rt.alloc())?;
-    let _first = check_next(&rt, key, &text, 0)?;
-    let _later = check_next(&rt, key, &text, 2000)?;
+    for g in [0, 2000] {
+        drop(check_next(&rt, &key, &text, g)?);
+    }
     Ok(())
+}
+
+/// Signs by an index of a key, which is leased, with these bytes or none.
+fn by_lease(
+    rt: &(impl AllocGlobal + Threads + Sync),
+    key: HssKey,
+    g: u64,
+    text: Option<&[u8]>,
+    sums: &Sums,
+) -> Result<Result<KeptSignature, OutOfMemory>, &'static str> {
+    let lease = lease_of(rt.alloc(), key, g, 1)?;
+    Ok(sign_lease(rt, rt.alloc(), lease, &RANDOMIZER, b"abc", text, sums))
+}
+
+/// Whether there are trees to be kept, which serve an index, or, where none are to be, none.
+fn are_kept(trees: &Option<KeptTrees>, g: u64, keeps: bool) -> bool {
+    match trees {
+        Some(trees) => keeps && trees.serves(g),
+        None => !keeps,
+    }
 }
 
 /// A signature by an index of a key is that of trees which are computed for it alone, and there are
@@ -193,37 +211,52 @@ fn check_by_text(
     g: u64,
     text: Option<&[u8]>,
     keeps: bool,
-) -> Result<KeptSignature, Fail> {
-    let signed = sign_lease(
-        rt,
-        rt.alloc(),
-        lease_of(rt.alloc(), key, g, 1)?,
-        &RANDOMIZER,
-        b"abc",
-        text,
-        &Sums::new(),
-    )?;
-    assert!(rt; signed.index == g);
-    assert!(rt; signed.signature == expected(rt, key, g)?, "{g}");
-    assert!(rt; signed.trees.is_some() == keeps, "{g}");
-    Ok(signed)
+) -> Result<Option<KeptTrees>, Fail> {
+    let signed = by_lease(rt, key, g, text, &Sums::new())??;
+    assert!(rt;
+        signed.index == g
+            && signed.signature == expected(rt, key, g)?
+            && are_kept(&signed.trees, g, keeps),
+        "{g}"
+    );
+    Ok(signed.trees)
 }
 
 /// By no kept bytes; by some that serve the index; by some that are moved on; by those of another
 /// key, and by some that are damaged.
 #[test]
 fn signs_by_a_text_or_anew(rt: HostRuntime) -> Result<(), Fail> {
-    let key = key_of(&[QUICK; 2], 0x11)?;
-    let signed = check_by_text(&rt, key, 31, None, true)?;
-    let mut text = signed.trees.ok_or("trees")?.text(rt.alloc())?;
-    let _same = check_by_text(&rt, key, 30, Some(&text), false)?;
-    let next = check_by_text(&rt, key, 32, Some(&text), true)?;
-    assert!(rt; next.trees.ok_or("trees")?.serves(32));
-    let _other = check_by_text(&rt, key_of(&[LEVEL], 0x11)?, 31, Some(&text), true)?;
+    let (key, other) = (key_of(&[QUICK; 2], 0x11)?, key_of(&[LEVEL], 0x11)?);
+    let trees = check_by_text(&rt, key, 31, None, true)?.ok_or("trees")?;
+    let mut text = trees.text(rt.alloc())?;
+    drop(trees);
+    for (key, g, keeps) in [(key, 30, false), (key, 32, true), (other, 31, true)] {
+        drop(check_by_text(&rt, key, g, Some(&text), keeps)?);
+    }
     if let Some(byte) = text.last_mut() {
         *byte ^= 1;
     }
-    let _anew = check_by_text(&rt, key, 30, Some(&text), true)?;
+    drop(check_by_text(&rt, key, 30, Some(&text), true)?);
+    Ok(())
+}
+
+/// So many leaves are computed for the first index of a key, and, with each of these indices in
+/// turn, by so many calls so many in all.
+fn check_reports(
+    rt: &(impl Abort + AllocGlobal + Threads + Sync),
+    key: HssKey,
+    leaves: u64,
+    moves: &[(u64, u64, u64)],
+) -> Result<(), Fail> {
+    let sums = Sums::new();
+    let mut text = kept_text(rt, &key, 0, &sums)?;
+    assert!(rt; sums.are(1, leaves));
+    for to in moves {
+        let (g, calls, leaves) = *to;
+        let trees = moved(rt, key, &text, g, &sums)?.ok_or("right nodes")?;
+        assert!(rt; sums.are(calls, leaves), "{g}");
+        text = trees.text(rt.alloc())?;
+    }
     Ok(())
 }
 
@@ -231,22 +264,10 @@ fn signs_by_a_text_or_anew(rt: HostRuntime) -> Result<(), Fail> {
 /// of a tree of height 15, and the tree below it.
 #[test]
 fn reports_the_leaves_that_are_computed(rt: HostRuntime) -> Result<(), Fail> {
-    let key = key_of(&[QUICK; 2], 0x11)?;
-    let sums = Sums::new();
-    let first = compute(&rt, key, 0, &sums)?;
-    assert!(rt; sums.are(1, 64));
-    let next = moved(&rt, key, first, 32, &sums)?.ok_or("right nodes")?;
-    assert!(rt; sums.are(2, 64 + 32));
-    let same = moved(&rt, key, next, 63, &sums)?.ok_or("right nodes")?;
-    assert!(rt; sums.are(3, 64 + 32));
-    drop(same);
+    let two_levels = key_of(&[QUICK; 2], 0x11)?;
+    check_reports(&rt, two_levels, 64, &[(32, 2, 64 + 32), (63, 3, 64 + 32)])?;
     let tall = key_of(&TALL_ABOVE, 0x11)?;
-    let below = Sums::new();
-    let start = compute(&rt, tall, 0, &below)?;
-    let there = moved(&rt, tall, start, 32768, &below)?.ok_or("right nodes")?;
-    drop(there);
-    assert!(rt; below.are(2, 32768 + 32 + 1024 + 32));
-    Ok(())
+    check_reports(&rt, tall, 32768 + 32, &[(32768, 2, 32768 + 32 + 1024 + 32)])
 }
 
 /// Signs by an index with so many leaves computed, or, where memory is refused, with none.
@@ -258,13 +279,11 @@ fn check_leaves(
     leaves: u64,
 ) -> Result<Option<KeptTrees>, Fail> {
     let sums = Sums::new();
-    let lease = lease_of(rt.alloc(), key, g, 1)?;
-    let signed = sign_lease(rt, rt.alloc(), lease, &RANDOMIZER, b"abc", text, &sums);
-    let (computed, trees) = match signed {
+    let (computed, trees) = match by_lease(rt, key, g, text, &sums)? {
         Ok(signed) => (leaves, signed.trees),
         Err(OutOfMemory) => (0, None),
     };
-    assert_eq!(rt; sums.computed(), computed, "{g}");
+    assert!(rt; sums.computed() == computed, "{g}");
     Ok(trees)
 }
 
@@ -281,7 +300,8 @@ fn no_leaf_is_computed_where_memory_is_refused(rt: HostRuntime) -> Result<(), Fa
         Ok(text) => text,
         Err(OutOfMemory) => trees.text(rt.alloc())?,
     };
-    let _next = check_leaves(&rt, key, 32, Some(&text), 32)?;
+    drop(trees);
+    drop(check_leaves(&rt, key, 32, Some(&text), 32)?);
     Ok(())
 }
 
@@ -290,57 +310,25 @@ fn no_leaf_is_computed_where_memory_is_refused(rt: HostRuntime) -> Result<(), Fa
 #[test]
 fn signs_after_refused_memory(rt: HostRuntime) -> Result<(), Fail> {
     let key = key_of(&[(LmsType::H5, OtsType::W1); 2], 0x11)?;
-    assert!(rt; key.capacity() == 1024);
-    let trees = match KeptTrees::compute(&rt, rt.alloc(), key, 31, &Sums::new()) {
-        Ok(trees) => trees,
-        Err(OutOfMemory) => KeptTrees::compute(&rt, rt.alloc(), key, 31, &Sums::new())?,
-    };
-    let text = match trees.text(rt.alloc()) {
+    let text = match kept_text(&rt, &key, 31, &Sums::new()) {
         Ok(text) => text,
-        Err(OutOfMemory) => trees.text(rt.alloc())?,
+        Err(OutOfMemory) => kept_text(&rt, &key, 31, &Sums::new())?,
     };
-    let kept = match KeptTrees::read(rt.alloc(), key, &text) {
-        Ok(kept) => kept,
-        Err(OutOfMemory) => KeptTrees::read(rt.alloc(), key, &text)?,
-    };
-    let kept = kept.ok_or("a text of the key")?;
-    let next = match kept.moved_to(&rt, rt.alloc(), 32, &Sums::new()) {
+    let next = match moved(&rt, key, &text, 32, &Sums::new()) {
         Ok(next) => next,
-        Err(OutOfMemory) => trees.moved_to(&rt, rt.alloc(), 32, &Sums::new())?,
+        Err(OutOfMemory) => moved(&rt, key, &text, 32, &Sums::new())?,
     };
     let next = next.ok_or("right nodes")?;
-    assert!(rt; next.serves(32));
-    let memory = match Vec::with_capacity(rt.alloc(), key.sig_len()) {
-        Ok(memory) => memory,
-        Err(_) => Vec::with_capacity(rt.alloc(), key.sig_len())?,
-    };
-    let signature = next.sign(memory, 32, &RANDOMIZER, b"abc");
+    let signature = signed(&rt, key, &next, 32)?.ok_or("an accepted signature")?;
+    drop(next);
     let top = match KeptTrees::top(&rt, rt.alloc(), key, &Sums::new()) {
-        Ok(top) => top,
-        Err(OutOfMemory) => KeptTrees::top(&rt, rt.alloc(), key, &Sums::new())?,
+        Ok(top) => top.public(),
+        Err(OutOfMemory) => KeptTrees::top(&rt, rt.alloc(), key, &Sums::new())?.public(),
     };
-    let signature = signature.ok_or("an accepted signature")?;
-    assert!(rt; verify(&top.public(), b"abc", &signature));
-    let by_text = match sign_lease(
-        &rt,
-        rt.alloc(),
-        lease_of(rt.alloc(), key, 32, 1)?,
-        &RANDOMIZER,
-        b"abc",
-        Some(&text),
-        &Sums::new(),
-    ) {
+    let by_text = match by_lease(&rt, key, 32, Some(&text), &Sums::new())? {
         Ok(signed) => signed,
-        Err(OutOfMemory) => sign_lease(
-            &rt,
-            rt.alloc(),
-            lease_of(rt.alloc(), key, 32, 1)?,
-            &RANDOMIZER,
-            b"abc",
-            Some(&text),
-            &Sums::new(),
-        )?,
+        Err(OutOfMemory) => by_lease(&rt, key, 32, Some(&text), &Sums::new())??,
     };
-    assert!(rt; by_text.signature == signature);
+    assert!(rt; verify(&top, b"abc", &signature) && by_text.signature == signature);
     Ok(())
 }

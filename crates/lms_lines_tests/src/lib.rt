@@ -1,4 +1,4 @@
-//! Tests of `lms_lines`.
+//! Tests of `lms_lines`, and of witnesses in `lms_texts`.
 #![tactic(auto)]
 
 #[cfg(test)]

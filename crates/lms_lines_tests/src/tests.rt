@@ -3,6 +3,7 @@
 mod answers;
 mod pieces;
 mod signing;
+mod witnesses;
 
 use lms_batch::Job;
 use lms_lines::{JobsFault, read_jobs};
@@ -137,20 +138,16 @@ fn has_fault(alloc: Global, text: &[u8], fault: JobsFault) -> bool {
 }
 
 pub(crate) fn push_line(text: &mut Vec<u8>, message: &str, end: &str) -> Result<(), Fail> {
-    text.extend_from_slice(C.as_bytes())?;
-    text.push(b' ')?;
-    text.extend_from_slice(message.as_bytes())?;
-    text.extend_from_slice(end.as_bytes())?;
+    for part in [C, " ", message, end] {
+        text.extend_from_slice(part.as_bytes())?;
+    }
     Ok(())
 }
 
 fn line_of_digits(alloc: Global, digits: usize) -> Result<Vec<u8>, Fail> {
+    let message = "7".repeat(alloc, digits)?;
     let mut text = Vec::new(alloc);
-    push_line(&mut text, "", "")?;
-    for _ in 0..digits {
-        text.push(b'7')?;
-    }
-    text.push(b'\n')?;
+    push_line(&mut text, message.as_str(), "\n")?;
     Ok(text)
 }
 
@@ -191,13 +188,12 @@ fn has_both(alloc: Global, text: &[u8]) -> bool {
 #[test]
 fn jobs_are_read(rt: HostRuntime) -> Result<(), Fail> {
     let alloc = rt.alloc();
-    assert!(rt; has_count(alloc, b"", 0));
     let mut text = Vec::new(alloc);
     push_line(&mut text, "aBFf", "\n")?;
     push_line(&mut text, "", "")?;
-    assert!(rt; has_both(alloc, &text));
+    let are_read = has_count(alloc, b"", 0) && has_both(alloc, &text);
     text.push(b'\n')?;
-    assert!(rt; has_count(alloc, &text, 2));
+    assert!(rt; are_read && has_count(alloc, &text, 2));
     Ok(())
 }
 
@@ -215,12 +211,12 @@ fn has_longest(alloc: Global, text: &[u8]) -> bool {
 #[test]
 fn the_longest_message(rt: HostRuntime) -> Result<(), Fail> {
     let alloc = rt.alloc();
-    let longest = line_of_digits(alloc, 131_072)?;
-    assert!(rt; has_longest(alloc, &longest));
-    let longer = line_of_digits(alloc, 131_074)?;
     let fault = JobsFault::BadJob { line: 1 };
-    assert!(rt; has_fault(alloc, &longer, fault));
-    assert!(rt; fails(alloc, &mut io::repeat(b'7'), fault));
+    let is_endless_refused = fails(alloc, &mut io::repeat(b'7'), fault);
+    let longest = line_of_digits(alloc, 131_072)?;
+    let longer = line_of_digits(alloc, 131_074)?;
+    let is_longest_read = has_longest(alloc, &longest) && has_fault(alloc, &longer, fault);
+    assert!(rt; is_endless_refused && is_longest_read);
     Ok(())
 }
 
@@ -244,8 +240,9 @@ fn count_repeated(alloc: Global, line: &[u8], bytes: usize) -> Result<usize, Job
 fn the_longest_text(rt: HostRuntime) -> Result<(), Fail> {
     let alloc = rt.alloc();
     let line = line_of_digits(alloc, 131_072)?;
-    assert!(rt; count_repeated(alloc, &line, 134_285_312) == Ok(1024));
-    assert!(rt; count_repeated(alloc, &line, 134_285_313) == Err(JobsFault::TooManyJobs));
+    let longest = count_repeated(alloc, &line, 134_285_312);
+    let longer = count_repeated(alloc, &line, 134_285_313);
+    assert!(rt; longest == Ok(1024) && longer == Err(JobsFault::TooManyJobs));
     Ok(())
 }
 
@@ -254,8 +251,9 @@ fn bad_lines(rt: HostRuntime) -> Result<(), Fail> {
     let alloc = rt.alloc();
     for message in ["\r", "00\r", " ", " 00", "0", "0g", "00 ", "00\n", "00\n\n"] {
         let mut text = Vec::new(alloc);
-        push_line(&mut text, "", "\n")?;
-        push_line(&mut text, message, "\n")?;
+        for message in ["", message] {
+            push_line(&mut text, message, "\n")?;
+        }
         let line = if message.starts_with("00\n") { 3 } else { 2 };
         let fault = JobsFault::BadJob { line };
         assert!(rt; has_fault(alloc, &text, fault), "after {message:?}");
@@ -275,21 +273,23 @@ fn bad_lines(rt: HostRuntime) -> Result<(), Fail> {
 /// Whether a third line that is empty is the fault of a text that has over 1024 lines after it.
 fn has_third_fault(alloc: Global, more: &[u8]) -> Result<bool, Fail> {
     let mut bad = lines(alloc, 2)?;
-    bad.push(b'\n')?;
-    bad.extend_from_slice(more)?;
+    for part in [b"\n".as_slice(), more] {
+        bad.extend_from_slice(part)?;
+    }
     Ok(has_fault(alloc, &bad, JobsFault::BadJob { line: 3 }))
 }
 
 #[test]
 fn too_many_lines(rt: HostRuntime) -> Result<(), Fail> {
     let alloc = rt.alloc();
+    let fault = JobsFault::TooManyJobs;
     let mut text = lines(alloc, 1024)?;
-    assert!(rt; has_count(alloc, &text, 1024));
+    let are_most = has_count(alloc, &text, 1024);
     text.push(b'?')?;
-    assert!(rt; has_fault(alloc, &text, JobsFault::TooManyJobs));
+    let is_refused = has_fault(alloc, &text, fault);
     text = lines(alloc, 1025)?;
-    assert!(rt; has_fault(alloc, &text, JobsFault::TooManyJobs));
-    assert!(rt; has_third_fault(alloc, &text)?);
+    let is_third = has_third_fault(alloc, &text)?;
+    assert!(rt; are_most && is_refused && has_fault(alloc, &text, fault) && is_third);
     Ok(())
 }
 

@@ -5,7 +5,6 @@ use std::fmt::Display;
 use std::io::{Print, Read, Write};
 use std::sync::atomic::{AtomicBool, AtomicU64, Ordering};
 use std::sync::{Barrier, Mutex, Wait};
-use std::test::Fail;
 use std::thread::Threads;
 use std::time::{Clock, Duration};
 use std::{io, thread};
@@ -93,7 +92,7 @@ impl<'r, R: Wait + AllocGlobal> Print for Kept<'r, R> {
 }
 
 #[test]
-fn elsewhere_a_line_comes_every_ten_seconds(rt: HostRuntime) -> Result<(), Fail> {
+fn elsewhere_a_line_comes_every_ten_seconds(rt: HostRuntime) {
     let clock = SetClock::new();
     let errors = Kept::new(&rt);
     let meter = Meter::new(&clock, &errors, false);
@@ -101,23 +100,23 @@ fn elsewhere_a_line_comes_every_ten_seconds(rt: HostRuntime) -> Result<(), Fail>
     meter.done(10);
     clock.set(10999);
     meter.done(20);
-    assert!(rt; errors.is(""));
+    let is_silent = errors.is("");
     clock.set(11000);
     meter.done(1);
-    assert!(rt; errors.is("31 of 1000 leaves\n"));
+    let is_told = errors.is("31 of 1000 leaves\n");
     clock.set(20999);
     meter.done(100);
-    assert!(rt; errors.is("31 of 1000 leaves\n"));
+    let is_told_once = errors.is("31 of 1000 leaves\n");
     clock.set(22000);
     meter.done(869);
     meter.done(0);
     meter.wipe();
-    assert!(rt; errors.is("31 of 1000 leaves\n1000 of 1000 leaves\n"));
-    Ok(())
+    let is_told_twice = errors.is("31 of 1000 leaves\n1000 of 1000 leaves\n");
+    assert!(rt; is_silent && is_told && is_told_once && is_told_twice);
 }
 
 #[test]
-fn each_leaf_of_a_tall_tree_is_told(rt: HostRuntime) -> Result<(), Fail> {
+fn each_leaf_of_a_tall_tree_is_told(rt: HostRuntime) {
     let clock = SetClock::new();
     let errors = Kept::new(&rt);
     let meter = Meter::new(&clock, &errors, false);
@@ -127,11 +126,10 @@ fn each_leaf_of_a_tall_tree_is_told(rt: HostRuntime) -> Result<(), Fail> {
     clock.set(21000);
     meter.done(32319864);
     assert!(rt; errors.is("1234567 of 33554432 leaves\n33554431 of 33554432 leaves\n"));
-    Ok(())
 }
 
 #[test]
-fn on_a_terminal_a_line_goes_before_others_come(rt: HostRuntime) -> Result<(), Fail> {
+fn on_a_terminal_a_line_goes_before_others_come(rt: HostRuntime) {
     let clock = SetClock::new();
     let errors = Kept::new(&rt);
     let meter = Meter::new(&clock, &errors, true);
@@ -139,23 +137,22 @@ fn on_a_terminal_a_line_goes_before_others_come(rt: HostRuntime) -> Result<(), F
     meter.begin(4);
     clock.set(1499);
     meter.done(1);
-    output.write_all(b"index ")?;
-    assert!(rt; errors.is(""));
+    let is_begun = output.write_all(b"index ").is_ok() && errors.is("");
     clock.set(1500);
     meter.done(1);
     clock.set(2000);
     meter.done(2);
-    assert!(rt; errors.is("\r\x1b[K2 of 4 leaves\r\x1b[K4 of 4 leaves"));
-    output.write_all(b"0\n")?;
-    output.flush()?;
-    output.write_all(b"more\n")?;
-    assert!(rt; errors.is("\r\x1b[K2 of 4 leaves\r\x1b[K4 of 4 leaves\r\x1b[K"));
-    assert!(rt; output.stream.0.as_slice() == b"index |0\n|!more\n|".as_slice());
-    Ok(())
+    let is_told = errors.is("\r\x1b[K2 of 4 leaves\r\x1b[K4 of 4 leaves");
+    let is_written = output.write_all(b"0\n").is_ok()
+        && output.flush().is_ok()
+        && output.write_all(b"more\n").is_ok();
+    let is_wiped = errors.is("\r\x1b[K2 of 4 leaves\r\x1b[K4 of 4 leaves\r\x1b[K");
+    let is_whole = output.stream.0.as_slice() == b"index |0\n|!more\n|".as_slice();
+    assert!(rt; is_begun && is_told && is_written && is_wiped && is_whole);
 }
 
 #[test]
-fn on_a_terminal_a_line_goes_before_a_read(rt: HostRuntime) -> Result<(), Fail> {
+fn on_a_terminal_a_line_goes_before_a_read(rt: HostRuntime) {
     let clock = SetClock::new();
     let errors = Kept::new(&rt);
     let meter = Meter::new(&clock, &errors, true);
@@ -164,27 +161,35 @@ fn on_a_terminal_a_line_goes_before_a_read(rt: HostRuntime) -> Result<(), Fail> 
     clock.set(1500);
     meter.done(4);
     let mut block = [0; 8];
-    assert!(rt; input.read(&mut block)? == 4);
-    assert!(rt; &block[..4] == b"more".as_slice());
-    assert!(rt; errors.is("\r\x1b[K4 of 4 leaves\r\x1b[K"));
-    Ok(())
+    let count = input.read(&mut block).ok();
+    let is_more = &block[..4] == b"more".as_slice();
+    assert!(rt; count == Some(4) && is_more && errors.is("\r\x1b[K4 of 4 leaves\r\x1b[K"));
 }
 
 #[test]
-fn an_input_is_asked_for_once(rt: HostRuntime) -> Result<(), Fail> {
+fn an_input_is_asked_for_once(rt: HostRuntime) {
     let errors = Kept::new(&rt);
     let mut input = Asking::new(&errors, Some("waits for more"), b"more".as_slice());
-    assert!(rt; errors.is(""));
+    let is_silent = errors.is("");
     let mut block = [0; 3];
-    assert!(rt; input.read(&mut block)? == 3 && block == *b"mor");
-    assert!(rt; errors.is("waits for more\n"));
-    assert!(rt; input.read(&mut block)? == 1 && input.read(&mut block)? == 0);
+    let first = input.read(&mut block).ok();
+    let is_asked = first == Some(3) && block == *b"mor" && errors.is("waits for more\n");
+    let more = input.read(&mut block).ok();
+    let end = input.read(&mut block).ok();
     let mut unasked = Asking::new(&errors, None, b"more".as_slice());
-    assert!(rt; unasked.read(&mut block)? == 3);
-    assert!(rt; errors.is("waits for more\n"));
+    let without = unasked.read(&mut block).ok();
+    let is_asked_once = errors.is("waits for more\n");
     let mut refused = Asking::new(&Closed, Some("waits"), b"more".as_slice());
-    assert!(rt; refused.read(&mut block)? == 3);
-    Ok(())
+    let closed = refused.read(&mut block).ok();
+    assert!(rt;
+        is_silent
+            && is_asked
+            && more == Some(1)
+            && end == Some(0)
+            && without == Some(3)
+            && is_asked_once
+            && closed == Some(3)
+    );
 }
 
 /// Keeps what is printed. Where a count is awaited, and is kept, its thread waits for another one, and
@@ -256,7 +261,7 @@ fn wipes_at_once<R: Threads + Wait + AllocGlobal + Sync, C: Clock + Sync>(
 }
 
 #[test]
-fn what_is_printed_can_be_wiped_at_once(rt: HostRuntime) -> Result<(), Fail> {
+fn what_is_printed_can_be_wiped_at_once(rt: HostRuntime) {
     let clock = SetClock::new();
     let errors = Meeting::new(&rt);
     let meter = Meter::new(&clock, &errors, true);
@@ -264,7 +269,6 @@ fn what_is_printed_can_be_wiped_at_once(rt: HostRuntime) -> Result<(), Fail> {
     clock.set(1500);
     wipes_at_once(&rt, &meter, &errors);
     assert!(rt; errors.kept.is("\r\x1b[K4 of 4 leaves\r\x1b[K"));
-    Ok(())
 }
 
 /// What prints nothing, and says so.
@@ -287,14 +291,13 @@ impl Print for Closed {
 
 /// Output comes whole where standard error is closed.
 #[test]
-fn what_can_not_be_printed_is_left_out(rt: HostRuntime) -> Result<(), Fail> {
+fn what_can_not_be_printed_is_left_out(rt: HostRuntime) {
     let clock = SetClock::new();
     let meter = Meter::new(&clock, &Closed, true);
     let mut output = Wiping::new(&meter, Marked(Vec::new(rt.alloc())));
     meter.begin(4);
     clock.set(1500);
     meter.done(4);
-    output.write_all(b"index 0\n")?;
-    assert!(rt; output.stream.0.as_slice() == b"index 0\n|".as_slice());
-    Ok(())
+    let is_written = output.write_all(b"index 0\n").is_ok();
+    assert!(rt; is_written && output.stream.0.as_slice() == b"index 0\n|".as_slice());
 }

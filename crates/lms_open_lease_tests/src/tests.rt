@@ -1,46 +1,26 @@
-ghost use Rattle.std.specs.Prelude.{◌≡◌, ◌≤◌, []};
+ghost use Rattle.std.specs.Prelude.{◌≡◌, []};
 
 mod fixtures;
 
 use crate::tests::fixtures::{CHEAP, LEVELS, job, opened, public_key};
 use lms_batch::{Batch, Collector, Job, OpenLease, Receipt, SignFault, TakeFault};
 use lms_fixtures::key_of;
-use lms_hss::verify;
+use lms_hss::{HssKey, verify};
 use lms_params::{LmsType, OtsType, OutOfMemory};
 use lms_pool::{DrawSeat, IndexPass, MissingSeats};
 use lms_slow::{SlowKey, slow_sign};
-use std::alloc::Global;
+use std::alloc::{AllocError, Global};
 use std::test::Fail;
 use std::thread::Threads;
 
-/// The slow signer's signature of a job by an index of a key of these levels.
-fn slow(
-    alloc: Global,
-    levels: &[(LmsType, OtsType); 2],
-    g: u64,
-    job: &Job,
-) -> Result<Vec<u8>, Fail> {
+/// The slow signer's signature of a job by an index of the key of 5/8,5/8.
+fn slow(alloc: Global, g: u64, job: &Job) -> Result<Vec<u8>, AllocError> {
     let key = SlowKey {
-        levels,
+        levels: &LEVELS,
         seed: [0x11; 32],
         id: [0x22; 16],
     };
-    Ok(slow_sign(alloc, &key, g, &job.c, &job.message)?)
-}
-
-/// Signs a job at the next place. Takes no runtime, so it waits for nobody.
-fn signed<'j>(lease: &OpenLease, seat: &mut DrawSeat, job: &'j Job) -> Result<Receipt<'j>, Fail>
-    requires { seat.old.pool ≡ lease.now }
-    ensures { seat.new.pool ≡ lease.now }
-{
-    match lease.sign(seat, job) {
-        Ok(receipt) => Ok(receipt),
-        Err(SignFault::Ended) => Err(Fail::from("no place is left")),
-        Err(SignFault::OutOfMemory(pass)) => {
-            pass.burn();
-            Err(Fail::from("memory for a signature"))
-        }
-    }
+    slow_sign(alloc, &key, g, &job.c, &job.message)
 }
 
 /// Claims the next place, and signs a job there. Takes no runtime.
@@ -58,12 +38,9 @@ fn signed_after_claim<'j>(
     }
 }
 
-/// Signs a job at the next place, with the pass that is handed back where memory was refused.
-fn signed_at_last<'j>(
-    lease: &OpenLease,
-    seat: &mut DrawSeat,
-    job: &'j Job,
-) -> Result<Receipt<'j>, Fail>
+/// Signs a job at the next place, with the pass that is handed back where memory was refused. Takes
+/// no runtime, so it waits for nobody.
+fn signed<'j>(lease: &OpenLease, seat: &mut DrawSeat, job: &'j Job) -> Result<Receipt<'j>, Fail>
     requires { seat.old.pool ≡ lease.now }
     ensures { seat.new.pool ≡ lease.now }
 {
@@ -80,20 +57,13 @@ fn signed_with<'j>(lease: &OpenLease, pass: IndexPass, job: &'j Job) -> Result<R
 {
     match lease.sign_with(pass, job) {
         Ok(receipt) => Ok(receipt),
-        Err((_, pass)) => signed_again(lease, pass, job),
-    }
-}
-
-/// Signs a job with a pass at the second try.
-fn signed_again<'j>(lease: &OpenLease, pass: IndexPass, job: &'j Job) -> Result<Receipt<'j>, Fail>
-    requires { pass.pool ≡ lease.now }
-{
-    match lease.sign_with(pass, job) {
-        Ok(receipt) => Ok(receipt),
-        Err((_, pass)) => {
-            pass.burn();
-            Err(Fail::from("memory for a signature"))
-        }
+        Err((_, pass)) => match lease.sign_with(pass, job) {
+            Ok(receipt) => Ok(receipt),
+            Err((_, pass)) => {
+                pass.burn();
+                Err(Fail::from("memory for a signature"))
+            }
+        },
     }
 }
 
@@ -112,16 +82,17 @@ fn has_ended(lease: &OpenLease, seat: &mut DrawSeat, job: &Job) -> bool
     }
 }
 
-/// Whether a receipt is of this place and index, and its signature the slow signer's of the job.
-fn is_at(
-    alloc: Global,
-    receipt: &Receipt,
-    job: &Job,
-    place: u64,
-    index: u64,
-) -> Result<bool, Fail> {
-    let is_there = receipt.place() == place && receipt.index() == index;
-    Ok(is_there && receipt.signature() == slow(alloc, &LEVELS, index, job)?.as_slice())
+/// Whether a receipt is of this place and index.
+fn is_of(receipt: &Receipt, place: u64, index: u64) -> bool {
+    receipt.place() == place && receipt.index() == index
+}
+
+/// Whether a signature is the slow signer's of a job by an index.
+fn is_slow(alloc: Global, g: u64, job: &Job, signature: &[u8]) -> bool {
+    match slow(alloc, g, job) {
+        Ok(slow) => signature == slow.as_slice(),
+        Err(_) => false,
+    }
 }
 
 /// Whether the next receipt is right, and the one after it, made by a claim and a signature.
@@ -132,13 +103,18 @@ fn signs_twice(
     job: &Job,
     start: u64,
 ) -> Result<bool, Fail>
-    requires within { start ≤ 900 }
-    requires own { seat.old.pool ≡ lease.now }
+    requires { seat.old.pool ≡ lease.now }
     ensures { seat.new.pool ≡ lease.now }
 {
     let first = signed(lease, seat, job)?;
     let second = signed_after_claim(lease, seat, job)?;
-    Ok(is_at(alloc, &first, job, 0, start)? && is_at(alloc, &second, job, 1, start + 1)?)
+    let next = start.saturating_add(1);
+    let are_there = is_of(&first, 0, start) && is_of(&second, 1, next);
+    Ok(
+        are_there
+            && is_slow(alloc, start, job, first.signature())
+            && is_slow(alloc, next, job, second.signature()),
+    )
 }
 
 /// Ends a lease whose one seat is there: how many places were claimed, stopped and left.
@@ -183,10 +159,24 @@ fn stopped(lease: &OpenLease, seat: &mut DrawSeat, job: &Job) -> (u64, u64, bool
 fn signs_without_a_wait(rt: HostRuntime) -> Result<(), Fail> {
     let job = job(rt.alloc(), b"abc")?;
     let (lease, mut seat) = opened(&rt, &LEVELS, 0x11, 31, 4)?;
-    assert!(rt; signs_twice(rt.alloc(), &lease, &mut seat, &job, 31)?);
-    assert!(rt; stopped(&lease, &mut seat, &job) == (2, 2, true));
-    assert!(rt; finished(rt.alloc(), lease, seat)? == (2, 2, 0));
+    let is_right = signs_twice(rt.alloc(), &lease, &mut seat, &job, 31)?;
+    let counts = stopped(&lease, &mut seat, &job);
+    let ended = finished(rt.alloc(), lease, seat)?;
+    assert!(rt; is_right && counts == (2, 2, true) && ended == (2, 2, 0));
     Ok(())
+}
+
+/// A collector for jobs of a key from an index on. Memory that is refused once is asked for again.
+fn collector_of<'j>(
+    alloc: Global,
+    key: &HssKey,
+    start: u64,
+    jobs: &'j [Job],
+) -> Result<Collector<'j>, OutOfMemory> {
+    match Collector::new(alloc, *key, start, jobs) {
+        Ok(collector) => Ok(collector),
+        Err(OutOfMemory) => Collector::new(alloc, *key, start, jobs),
+    }
 }
 
 /// Why a receipt is not taken, `None` where it is.
@@ -219,10 +209,7 @@ fn receipt_of_another<'j>(
     place: u64,
     job: &'j Job,
 ) -> Result<Receipt<'j>, Fail> {
-    if place > 8 {
-        return Err(Fail::from("a place past 8"));
-    }
-    let (lease, seat) = opened(rt, &LEVELS, seed, start, place + 1)?;
+    let (lease, seat) = opened(rt, &LEVELS, seed, start, place.saturating_add(1))?;
     let mut seat = after_claims(&lease, seat, place);
     signed(&lease, &mut seat, job)
 }
@@ -259,12 +246,19 @@ fn is_refused_so<'j>(
 }
 
 /// Whether a batch begins with index 30 and has the slow signer's signature of its first job alone.
-fn has_the_first_alone(alloc: Global, batch: &Batch, first: &Job) -> Result<bool, Fail> {
-    let Batch::Partial { start, slots } = batch else {
-        return Ok(false);
-    };
-    let expected = [Some(slow(alloc, &LEVELS, 30, first)?), None];
-    Ok(*start == 30 && slots.as_slice() == expected.as_slice())
+fn has_the_first_alone(alloc: Global, batch: &Batch, first: &Job) -> bool {
+    match slow(alloc, 30, first) {
+        Ok(slow) => {
+            let expected = [Some(slow), None];
+            match batch {
+                Batch::Partial { start, slots } => {
+                    *start == 30 && slots.as_slice() == expected.as_slice()
+                }
+                Batch::Complete { .. } => false,
+            }
+        }
+        Err(_) => false,
+    }
 }
 
 /// Two jobs of these messages.
@@ -276,8 +270,9 @@ fn two_jobs(alloc: Global, first: &[u8], second: &[u8]) -> Result<[Job; 2], Fail
 
 #[test]
 fn a_place_takes_its_receipt_once(rt: HostRuntime) -> Result<(), Fail> {
+    let key = key_of(&LEVELS, 0x11)?;
     let jobs = two_jobs(rt.alloc(), b"abc", b"")?;
-    let mut collector = Collector::new(rt.alloc(), key_of(&LEVELS, 0x11)?, 30, &jobs)?;
+    let mut collector = collector_of(rt.alloc(), &key, 30, &jobs)?;
     for row in RECEIPTS {
         let (seed, start, place, of, _) = row;
         assert!(rt;
@@ -285,40 +280,26 @@ fn a_place_takes_its_receipt_once(rt: HostRuntime) -> Result<(), Fail> {
             "{seed} {start} {place} {of}"
         );
     }
-    assert!(rt; has_the_first_alone(rt.alloc(), &collector.finish(), &jobs[0])?);
+    assert!(rt; has_the_first_alone(rt.alloc(), &collector.finish(), &jobs[0]));
     Ok(())
 }
 
-/// Whether a signature is the slow signer's of a job by an index, and the verifier accepts it.
-fn is_signed_so(
-    alloc: Global,
-    public: &[u8],
-    g: u64,
-    job: &Job,
-    signature: &[u8],
-) -> Result<bool, Fail> {
-    let slow = slow(alloc, &LEVELS, g, job)?;
-    Ok(signature == slow.as_slice() && verify(public, &job.message, signature))
-}
-
 /// Whether a batch is complete from this index on, with the slow signer's valid signatures.
-fn is_complete(
-    rt: &(impl AllocGlobal + Threads + Sync),
-    batch: &Batch,
-    first: u64,
-    jobs: &[Job],
-) -> Result<bool, Fail>
-    requires { first ≤ 900 }
-{
-    let Batch::Complete { start, signatures } = batch else {
-        return Ok(false);
-    };
-    let public = public_key(rt, key_of(&LEVELS, 0x11)?)?;
-    let mut is_right = *start == first && signatures.len() == jobs.len();
-    for ((signature, job), g) in signatures.iter().zip(jobs).zip(first..1024) {
-        is_right = is_right && is_signed_so(rt.alloc(), &public, g, job, signature)?;
+fn is_complete(alloc: Global, public: &[u8], batch: &Batch, first: u64, jobs: &[Job]) -> bool {
+    match batch {
+        Batch::Complete { start, signatures } => {
+            let mut is_right = *start == first && signatures.len() == jobs.len();
+            let mut g = first;
+            for (signature, job) in signatures.iter().zip(jobs) {
+                is_right = is_right
+                    && is_slow(alloc, g, job, signature)
+                    && verify(public, &job.message, signature);
+                g = g.saturating_add(1);
+            }
+            is_right
+        }
+        Batch::Partial { .. } => false,
     }
-    Ok(is_right)
 }
 
 /// Whether a collector takes two receipts, one after the other.
@@ -327,52 +308,38 @@ fn takes_both<'j>(collector: &mut Collector<'j>, first: Receipt<'j>, second: Rec
     refusal(collector, second).is_none() && is_taken
 }
 
-/// Whether a collector takes receipts of its two jobs, by indices 31 and 32, the second one first.
-fn takes_the_second_first<'j>(
+/// Whether a collector takes receipts of its two jobs, by the first two indices from `start` on: in
+/// their order, or the second one first.
+fn takes_two<'j>(
     rt: &(impl AllocGlobal + Threads + Sync),
     collector: &mut Collector<'j>,
+    levels: &[(LmsType, OtsType)],
+    start: u64,
     jobs: &'j [Job; 2],
+    in_order: bool,
 ) -> Result<bool, Fail> {
-    let (lease, mut seat) = opened(rt, &LEVELS, 0x11, 31, 2)?;
+    let (lease, mut seat) = opened(rt, levels, 0x11, start, 2)?;
     let first = signed(&lease, &mut seat, &jobs[0])?;
-    let second = signed(&lease, &mut seat, &jobs[1])?;
-    Ok(takes_both(collector, second, first))
+    let second = signed_after_claim(&lease, &mut seat, &jobs[1])?;
+    let are_there = is_of(&first, 0, start) && is_of(&second, 1, start.saturating_add(1));
+    let are_taken = if in_order {
+        takes_both(collector, first, second)
+    } else {
+        takes_both(collector, second, first)
+    };
+    Ok(are_taken && are_there)
 }
 
 #[test]
 fn a_batch_is_in_the_order_of_its_jobs(rt: HostRuntime) -> Result<(), Fail> {
+    let key = key_of(&LEVELS, 0x11)?;
+    let public = public_key(&rt, key)?;
     let jobs = two_jobs(rt.alloc(), b"a", b"b")?;
-    let mut collector = Collector::new(rt.alloc(), key_of(&LEVELS, 0x11)?, 31, &jobs)?;
-    assert!(rt; takes_the_second_first(&rt, &mut collector, &jobs)?);
-    assert!(rt; is_complete(&rt, &collector.finish(), 31, &jobs)?);
+    let mut collector = collector_of(rt.alloc(), &key, 31, &jobs)?;
+    let are_taken = takes_two(&rt, &mut collector, &LEVELS, 31, &jobs, false)?;
+    let batch = collector.finish();
+    assert!(rt; are_taken && is_complete(rt.alloc(), &public, &batch, 31, &jobs));
     Ok(())
-}
-
-/// A collector for jobs from index 5 of 5/2,5/2 on. Memory that is refused once is asked for again.
-fn collector_of(alloc: Global, jobs: &[Job]) -> Result<Collector<'_>, Fail> {
-    let key = key_of(&CHEAP, 0x11)?;
-    match Collector::new(alloc, key, 5, jobs) {
-        Ok(collector) => Ok(collector),
-        Err(OutOfMemory) => Ok(Collector::new(alloc, key, 5, jobs)?),
-    }
-}
-
-/// Whether a receipt is of this place and index.
-fn is_of(receipt: &Receipt, place: u64, index: u64) -> bool {
-    receipt.place() == place && receipt.index() == index
-}
-
-/// Whether a collector takes two receipts of 5/2,5/2 where any request for memory may be refused.
-fn takes_at_last<'j>(
-    rt: &(impl AllocGlobal + Threads + Sync),
-    collector: &mut Collector<'j>,
-    jobs: &'j [Job; 2],
-) -> Result<bool, Fail> {
-    let (lease, mut seat) = opened(rt, &CHEAP, 0x11, 5, 2)?;
-    let first = signed_at_last(&lease, &mut seat, &jobs[0])?;
-    let second = signed_after_claim(&lease, &mut seat, &jobs[1])?;
-    let are_there = is_of(&first, 0, 5) && is_of(&second, 1, 6);
-    Ok(takes_both(collector, first, second) && are_there)
 }
 
 /// Whether a batch is complete, from this index on.
@@ -389,9 +356,11 @@ fn is_complete_from(batch: &Batch, first: u64) -> bool {
 /// The merge check refuses each request for memory in turn.
 #[test]
 fn a_lease_signs_after_refused_memory(rt: HostRuntime) -> Result<(), Fail> {
+    let key = key_of(&CHEAP, 0x11)?;
     let jobs = two_jobs(rt.alloc(), b"abc", b"")?;
-    let mut collector = collector_of(rt.alloc(), &jobs)?;
-    assert!(rt; takes_at_last(&rt, &mut collector, &jobs)?);
-    assert!(rt; is_complete_from(&collector.finish(), 5));
+    let mut collector = collector_of(rt.alloc(), &key, 5, &jobs)?;
+    let are_taken = takes_two(&rt, &mut collector, &CHEAP, 5, &jobs, true)?;
+    let batch = collector.finish();
+    assert!(rt; are_taken && is_complete_from(&batch, 5));
     Ok(())
 }

@@ -2,7 +2,7 @@ ghost use Rattle.std.specs.Prelude.{◌≡◌, ◌≤◌, ◌+◌};
 ghost use Rattle.lms_shared_book.specs.Desks.{most_desks, BlankFits};
 
 use lms_book::{Book, BookFault, Entry, Lease, Left, MemoryStore};
-use lms_fixtures::{book_of, key_of, reserved, store_at};
+use lms_fixtures::{book_at, book_of, key_of, reserved, store_at};
 use lms_params::{LmsType, OtsType, OutOfMemory};
 use lms_shared_book::{Blanks, BookLedger, Desk, MissingDesks, SharedBook};
 use std::alloc::{AllocGlobal, Global};
@@ -14,14 +14,16 @@ use std::test::Fail;
 use std::thread;
 use std::thread::Threads;
 
-/// A store that holds the image of 5/8 and this counter.
-fn small_store(alloc: Global, counter: u64) -> Result<MemoryStore, &'static str> {
-    store_at(alloc, key_of(&[(LmsType::H5, OtsType::W8)], 0x11)?, counter)
-}
+/// A level of 5/8, with 32 indices.
+const SMALL: [(LmsType, OtsType); 1] = [(LmsType::H5, OtsType::W8)];
 
-/// A store that holds the image of an unused key of 10/8.
-fn tall_store(alloc: Global) -> Result<MemoryStore, &'static str> {
-    store_at(alloc, key_of(&[(LmsType::H10, OtsType::W8)], 0x11)?, 0)
+/// The book of a key of these levels whose next index is this one.
+fn book_from(
+    alloc: Global,
+    levels: &[(LmsType, OtsType)],
+    counter: u64,
+) -> Result<Book<MemoryStore>, &'static str> {
+    book_at(alloc, key_of(levels, 0x11)?, counter)
 }
 
 fn blanks(parts: u64) -> Blanks
@@ -40,12 +42,16 @@ fn counts<E: BookLedger, G: Ledger, B: Ledger>(desk: &Desk<E, G, B>) -> (u64, u6
     (desk.entries(), desk.received(), desk.burnt())
 }
 
-/// What the desk of this place counted.
-fn counts_at<E: BookLedger, G: Ledger, B: Ledger>(
+/// Whether the desk of this place counted so.
+fn has_counted<E: BookLedger, G: Ledger, B: Ledger>(
     desks: &[Desk<E, G, B>],
     place: usize,
-) -> Option<(u64, u64, u64)> {
-    desks.get(place).map(|desk| counts(desk))
+    counted: (u64, u64, u64),
+) -> bool {
+    match desks.get(place) {
+        Some(desk) => counts(desk) == counted,
+        None => false,
+    }
 }
 
 /// The first index of a lease and the number of its indices.
@@ -55,24 +61,30 @@ fn spent(lease: Lease) -> (u64, u64) {
     range
 }
 
-/// Reserves at the desk of this place, and gives the lease back: the first index and the number of
-/// indices.
-fn reserved_at<E: BookLedger, G: Ledger, B: Ledger>(
+/// Whether a reservation of n indices, 1 to 1024, at the desk of this place answers so: the first
+/// index and the number of indices.
+fn reserves<E: BookLedger, G: Ledger, B: Ledger>(
     rt: &impl Wait,
     shared: &SharedBook<MemoryStore, E, G, B>,
     desks: &mut [Desk<E, G, B>],
     place: usize,
     n: u64,
-) -> Option<Result<(u64, u64), BookFault>>
-    requires some { 1 ≤ n }
-    requires at_most { n ≤ 1024 }
-{
-    let desk = desks.get_mut(place)?;
-    let lease = match shared.reserve(rt, desk, n) {
-        Err(BookFault::OutOfMemory) => shared.reserve(rt, desk, n),
-        answer => answer,
-    };
-    Some(lease.map(|lease| spent(lease)))
+    expected: Result<(u64, u64), BookFault>,
+) -> bool {
+    let n = n.clamp(1, 1024);
+    match desks.get_mut(place) {
+        Some(desk) => {
+            let lease = match shared.reserve(rt, desk, n) {
+                Err(BookFault::OutOfMemory) => shared.reserve(rt, desk, n),
+                answer => answer,
+            };
+            match lease {
+                Ok(lease) => expected == Ok(spent(lease)),
+                Err(fault) => expected == Err(fault),
+            }
+        }
+        None => false,
+    }
 }
 
 /// Settles with all desks, and compares the history.
@@ -83,7 +95,7 @@ fn settled<E: BookLedger, G: Ledger, B: Ledger>(
     history: &[Entry],
 ) -> Result<(), Fail> {
     let book = shared.settle(desks).ok().ok_or("all desks are there")?;
-    assert_eq!(rt; book.history(), history);
+    assert!(rt; book.history() == history);
     Ok(())
 }
 
@@ -117,12 +129,11 @@ fn two_desks<E: BookLedger, G: Ledger, B: Ledger>(
     requires same { book ≡ E.book }
 {
     let (shared, mut desks) = shared_at_last::<E, G, B>(rt.alloc(), book, blanks)?;
-    assert_eq!(rt;
-        reserved_at(rt, &shared, &mut desks, 1, 2),
-        Some(Ok((8, 2)))
+    assert!(rt;
+        reserves(rt, &shared, &mut desks, 1, 2, Ok((8, 2)))
+            && has_counted(&desks, 0, (0, 0, 0))
+            && has_counted(&desks, 1, (1, 2, 0))
     );
-    assert_eq!(rt; counts_at(&desks, 0), Some((0, 0, 0)));
-    assert_eq!(rt; counts_at(&desks, 1), Some((1, 2, 0)));
     let history = [Entry::Given { len: 3 }, Entry::Given { len: 2 }];
     settled(rt, shared, desks, &history)
 }
@@ -131,8 +142,8 @@ fn two_desks<E: BookLedger, G: Ledger, B: Ledger>(
 /// the second call works.
 #[test]
 fn a_book_is_shared_after_refused_memory(rt: HostRuntime) -> Result<(), Fail> {
-    let mut book = book_of(rt.alloc(), small_store(rt.alloc(), 5)?)?;
-    assert_eq!(rt; reserved(&mut book, 3), Ok((5, 3)));
+    let mut book = book_from(rt.alloc(), &SMALL, 5)?;
+    assert!(rt; reserved(&mut book, 3) == Ok((5, 3)));
     two_desks::<Brand, Brand, Brand>(&rt, book, blanks(3))
 }
 
@@ -148,13 +159,16 @@ fn settled_at_last<E: BookLedger, G: Ledger, B: Ledger>(
     let Err((missing, shared, mut desks)) = shared.settle(desks) else {
         return Err(Fail::from("a desk is missing"));
     };
-    assert_eq!(rt; missing, MissingDesks { present: 2 });
-    assert_eq!(rt;
-        missing.to_string(rt.alloc())?.as_str(),
-        "desks are missing: 2 came"
+    let says_so = match missing.to_string(rt.alloc()) {
+        Ok(text) => text.as_str() == "desks are missing: 2 came",
+        Err(_) => false,
+    };
+    assert!(rt;
+        says_so
+            && missing == MissingDesks { present: 2 }
+            && has_counted(&desks, 0, (2, 7, 0))
+            && has_counted(&desks, 1, (1, 0, 3))
     );
-    assert_eq!(rt; counts_at(&desks, 0), Some((2, 7, 0)));
-    assert_eq!(rt; counts_at(&desks, 1), Some((1, 0, 3)));
     desks.push(last)?;
     settled(rt, shared, desks, history)
 }
@@ -173,25 +187,18 @@ fn three_desks<E: BookLedger, G: Ledger, B: Ledger>(
     let key = book.key();
     let shared = SharedBook::<MemoryStore, E, G, B>::share(rt.alloc(), book, blanks, 3);
     let (shared, mut desks) = shared.ok().ok_or("memory for desks")?;
-    assert!(rt; shared.key() == key);
-    assert_eq!(rt;
-        reserved_at(rt, &shared, &mut desks, 0, 2),
-        Some(Ok((0, 2)))
-    );
     let burnt = BookFault::Store { start: 2, len: 3 };
-    assert_eq!(rt;
-        reserved_at(rt, &shared, &mut desks, 1, 3),
-        Some(Err(burnt))
+    assert!(rt;
+        shared.key() == key
+            && reserves(rt, &shared, &mut desks, 0, 2, Ok((0, 2)))
+            && reserves(rt, &shared, &mut desks, 1, 3, Err(burnt))
+            && holds(rt, &shared, (0, 5, 2, 2))
+            && reserves(rt, &shared, &mut desks, 0, 5, Ok((5, 5)))
+            && has_counted(&desks, 0, (2, 7, 0))
+            && has_counted(&desks, 1, (1, 0, 3))
+            && has_counted(&desks, 2, (0, 0, 0))
+            && holds(rt, &shared, (0, 10, 10, 3))
     );
-    assert_eq!(rt; base_counter_stored_entries(rt, &shared), (0, 5, 2, 2));
-    assert_eq!(rt;
-        reserved_at(rt, &shared, &mut desks, 0, 5),
-        Some(Ok((5, 5)))
-    );
-    assert_eq!(rt; counts_at(&desks, 0), Some((2, 7, 0)));
-    assert_eq!(rt; counts_at(&desks, 1), Some((1, 0, 3)));
-    assert_eq!(rt; counts_at(&desks, 2), Some((0, 0, 0)));
-    assert_eq!(rt; base_counter_stored_entries(rt, &shared), (0, 10, 10, 3));
     let history = [
         Entry::Given { len: 2 },
         Entry::Burnt { len: 3 },
@@ -200,47 +207,51 @@ fn three_desks<E: BookLedger, G: Ledger, B: Ledger>(
     settled_at_last(rt, shared, desks, &history)
 }
 
-/// What a shared book says of its reservations: base, counter, what is stored, entries. Its key is
-/// that of the reservations.
-fn base_counter_stored_entries<E: BookLedger, G: Ledger, B: Ledger>(
-    rt: &(impl Abort + Wait),
+/// Whether a shared book says so of its reservations: base, counter, what is stored, entries. Its
+/// key is that of the reservations.
+fn holds<E: BookLedger, G: Ledger, B: Ledger>(
+    rt: &impl Wait,
     shared: &SharedBook<MemoryStore, E, G, B>,
-) -> (u64, u64, u64, usize) {
+    numbers: (u64, u64, u64, usize),
+) -> bool {
     let key = shared.key();
-    assert!(rt; shared.with(rt, |found| found.key() == key));
-    shared.with(
+    let (found_key, found) = shared.with(
         rt,
         |found| (
-            found.base(),
-            found.counter(),
-            found.stored(),
-            found.history().len(),
+            found.key(),
+            (
+                found.base(),
+                found.counter(),
+                found.stored(),
+                found.history().len(),
+            ),
         ),
-    )
+    );
+    found_key == key && found == numbers
 }
 
 #[test]
 fn desks_count_what_they_got(rt: HostRuntime) -> Result<(), Fail> {
-    let mut store = small_store(rt.alloc(), 0)?;
+    let mut store = store_at(rt.alloc(), key_of(&SMALL, 0x11)?, 0)?;
     store.fail_replace(2, Left::Old);
     let book = book_of(rt.alloc(), store)?;
     three_desks::<Brand, Brand, Brand>(&rt, book, blanks(4))
 }
 
-/// Reserves at each desk once.
+/// Whether each desk reserves once.
 fn each_reserves<E: BookLedger, G: Ledger, B: Ledger>(
-    rt: &(impl Abort + Wait),
+    rt: &impl Wait,
     shared: &SharedBook<MemoryStore, E, G, B>,
     desks: &mut [Desk<E, G, B>],
-) {
+) -> bool {
+    let mut is_right = true;
     for place in 0..desks.len() {
         let start = place as u64;
-        assert_eq!(rt;
-            reserved_at(rt, shared, desks, place, 1),
-            Some(Ok((start, 1)))
-        );
-        assert_eq!(rt; counts_at(desks, place), Some((1, 1, 0)));
+        is_right = is_right
+            && reserves(rt, shared, desks, place, 1, Ok((start, 1)))
+            && has_counted(desks, place, (1, 1, 0));
     }
+    is_right
 }
 
 /// So many desks, each of which reserves once.
@@ -259,8 +270,7 @@ fn many_desks<E: BookLedger, G: Ledger, B: Ledger>(
 {
     let shared = SharedBook::<MemoryStore, E, G, B>::share(rt.alloc(), book, blanks, desks);
     let (shared, mut all) = shared.ok().ok_or("memory for desks")?;
-    assert_eq!(rt; all.len(), desks);
-    each_reserves(rt, &shared, &mut all);
+    assert!(rt; all.len() == desks && each_reserves(rt, &shared, &mut all));
     settled(rt, shared, all, &[Entry::Given { len: 1 }; 64][..desks])
 }
 
@@ -268,7 +278,7 @@ fn desks_of_a_new_book(rt: &(impl Abort + AllocGlobal + Wait), desks: usize) -> 
     requires some { 1 ≤ desks }
     requires at_most { desks ≤ most_desks }
 {
-    let book = book_of(rt.alloc(), tall_store(rt.alloc())?)?;
+    let book = book_from(rt.alloc(), &[(LmsType::H10, OtsType::W8)], 0)?;
     many_desks::<Brand, Brand, Brand>(rt, book, blanks(desks as u64 + 1), desks)
 }
 
@@ -299,25 +309,37 @@ fn reserve_eight<E: BookLedger, G: Ledger, B: Ledger>(
     (desk, starts)
 }
 
-/// The desks of four threads, where the starts that they got are 0 to 31, each once.
-fn gathered<E: BookLedger, G: Ledger, B: Ledger>(
-    rt: &(impl Abort + AllocGlobal),
-    visits: Vec<(Desk<E, G, B>, [Option<u64>; 8])>,
-) -> Result<Vec<Desk<E, G, B>>, Fail> {
-    let mut desks = Vec::new(rt.alloc());
-    let mut is_given = [false; 32];
-    for (desk, starts) in visits {
-        assert_eq!(rt; counts(&desk), (8, 8, 0));
-        desks.push(desk)?;
-        for start in starts {
-            let start = start.ok_or("a lease that the book knows")?;
-            let place = is_given.get_mut(start as usize).ok_or("an index below 32")?;
-            assert!(rt; !*place);
-            *place = true;
+/// Marks these starts as given. Whether each is below 32 and was not given before.
+fn marks(given: &mut [bool; 32], starts: [Option<u64>; 8]) -> bool {
+    let mut is_right = true;
+    for start in starts {
+        match start {
+            Some(start) => match given.get_mut(start as usize) {
+                Some(place) => {
+                    is_right = is_right && !*place;
+                    *place = true;
+                }
+                None => is_right = false,
+            },
+            None => is_right = false,
         }
     }
-    assert_eq!(rt; is_given, [true; 32]);
-    Ok(desks)
+    is_right
+}
+
+/// The desks of four threads, and whether the starts that they got are 0 to 31, each once.
+fn gathered<E: BookLedger, G: Ledger, B: Ledger>(
+    alloc: Global,
+    visits: Vec<(Desk<E, G, B>, [Option<u64>; 8])>,
+) -> Result<(Vec<Desk<E, G, B>>, bool), Fail> {
+    let mut desks = Vec::new(alloc);
+    let mut given = [false; 32];
+    let mut is_right = true;
+    for (desk, starts) in visits {
+        is_right = is_right && counts(&desk) == (8, 8, 0) && marks(&mut given, starts);
+        desks.push(desk)?;
+    }
+    Ok((desks, is_right && given == [true; 32]))
 }
 
 /// Settles with no desk, which is refused, and then with all.
@@ -330,7 +352,7 @@ fn settled_after_none<E: BookLedger, G: Ledger, B: Ledger>(
     let Err((missing, shared, _none)) = shared.settle(Vec::new(rt.alloc())) else {
         return Err(Fail::from("no desk is there"));
     };
-    assert_eq!(rt; missing, MissingDesks { present: 0 });
+    assert!(rt; missing == MissingDesks { present: 0 });
     settled(rt, shared, desks, history)
 }
 
@@ -349,18 +371,18 @@ fn four_threads<E: BookLedger + Send + Sync, G: Ledger + Send + Sync, B: Ledger 
     let (shared, desks) = shared.ok().ok_or("memory for desks")?;
     let lent = &shared;
     let visits = thread::map_vec(rt, desks, &|desk| reserve_eight(rt, lent, desk))?;
-    let mut desks = gathered(rt, visits)?;
+    let (mut desks, are_given) = gathered(rt.alloc(), visits)?;
     let exhausted = BookFault::Exhausted { left: 0 };
-    assert_eq!(rt;
-        reserved_at(rt, &shared, &mut desks, 0, 1),
-        Some(Err(exhausted))
+    assert!(rt;
+        are_given
+            && reserves(rt, &shared, &mut desks, 0, 1, Err(exhausted))
+            && has_counted(&desks, 0, (8, 8, 0))
     );
-    assert_eq!(rt; counts_at(&desks, 0), Some((8, 8, 0)));
     settled_after_none(rt, shared, desks, &[Entry::Given { len: 1 }; 32])
 }
 
 #[test]
 fn leases_are_known(rt: HostRuntime) -> Result<(), Fail> {
-    let book = book_of(rt.alloc(), small_store(rt.alloc(), 0)?)?;
+    let book = book_from(rt.alloc(), &SMALL, 0)?;
     four_threads::<Brand, Brand, Brand>(&rt, book, blanks(5))
 }

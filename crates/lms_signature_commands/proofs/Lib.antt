@@ -1,15 +1,6 @@
-pub mod BatchInMemory
-pub mod Batches
 pub mod Logged
 pub mod NodesStaying
-pub mod ServeInMemory
-pub mod ServedLines
-pub mod Serving
-pub mod ServingAlone
-pub mod ServingCalls
-pub mod ServingTurns
 pub mod SignInMemory
 pub mod SigningTurns
-pub mod Using
 pub mod VerifyInMemory
 pub mod VerifyTurns

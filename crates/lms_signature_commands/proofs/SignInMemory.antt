@@ -16,7 +16,7 @@ use Rattle.lms_commands.proofs.AtState.{AreStill, lock_refused, unsigned_watched
 use Rattle.lms_commands.proofs.Telling.{Adds, KeepsOnly, Told, and_kept, and_then, keeps_only, nothing_done}
 use Rattle.lms_commands.proofs.Telling.{read_refused, same_held, told, unlocked, until_printing, was_state}
 use Rattle.lms_commands.proofs.Telling.{written_file}
-use Rattle.lms_signature_commands.proofs.Using.{UsesSo, uses_so}
+use Rattle.lms_commands.proofs.Using.{UsesSo, uses_so}
 
 -- a file is read, and a signature of these bytes is written to another, or its write fails
 module _ {name state out : Bytes} {given c text : List ℕ} {answer : Writing} {earlier last : WorldCalls}

@@ -1,12 +1,4 @@
-pub mod BatchInMemory
-pub mod BatchLogs
-pub mod Batches
 pub mod Judging
-pub mod ServeInMemory
-pub mod ServedLines
-pub mod Serving
-pub mod ServingTurns
-pub mod SharedBooks
 pub mod SignInMemory
 pub mod SignLogs
 pub mod Signing

@@ -1,3 +1,6 @@
+//! What tests of this crate share, and that whole trees and bands sign as the slow signer does.
+ghost use Rattle.std.specs.Prelude.{◌≡◌, IfOk};
+
 mod kept;
 mod moves;
 mod nodes;
@@ -37,9 +40,9 @@ fn signature<N: NodeSource>(
     c: &[u8; 32],
     msg: &[u8],
 ) -> Result<Vec<u8>, AllocError> {
+    assert!(rt; tree.first() <= q && q <= tree.last());
     let key = tree.key();
     let mut text = vec![in rt.alloc(); 0; lms_sig_len(key.lms, key.ots)]?;
-    assert!(rt; tree.first() <= q && q <= tree.last());
     sign_into(tree, q, c, msg, &mut text);
     Ok(text)
 }
@@ -56,57 +59,57 @@ fn slow_signature(alloc: Global, key: TreeKey, q: u32) -> Result<Vec<u8>, AllocE
     slow_sign(alloc, &slow, u64::from(q), &RANDOMIZER, b"abc")
 }
 
-/// A leaf's signature equals the slow signer's and is accepted, for its message alone.
-fn check_leaf(rt: &(impl Abort + AllocGlobal), tree: &WholeTree, q: u32) -> Result<Vec<u8>, Fail> {
-    let text = signature(rt, tree, q, &RANDOMIZER, b"abc")?;
-    let slow = slow_signature(rt.alloc(), tree.key(), q)?;
-    assert_eq!(rt; Some(text.as_slice()), slow.get(4..), "{q}");
-    let public = public_bytes(tree);
-    assert!(rt; verify(&public, b"abc", &text), "{q}");
-    assert!(rt; !verify(&public, b"abd", &text), "{q}");
-    Ok(text)
-}
-
-/// A tree of 5/8 serves 32 leaves, whose signatures have 1292 bytes.
-fn check_served(rt: &impl Abort, tree: &WholeTree) {
-    assert!(rt; tree.first() == 0 && tree.last() == 31);
-    let public = public_bytes(tree);
-    let length = PublicKey::parse(&public).map(|key| key.signature_len());
-    assert!(rt; length == Some(1292));
-    assert!(rt; PublicKey::parse(public.get(..55).unwrap_or(&[])).is_none());
-}
-
-/// A leaf of a tree of 5/8 as above, whose path ends with this node.
-fn check_path_end(
-    rt: &(impl Abort + AllocGlobal),
-    tree: &WholeTree,
-    q: u32,
-    last: &[u8; 32],
-) -> Result<(), Fail> {
-    let text = check_leaf(rt, tree, q)?;
-    assert!(rt; text.len() == 1292 && text.ends_with(last), "{q}");
-    Ok(())
-}
-
-/// The slow signer's tree of a key.
-fn slow_tree(key: TreeKey) -> SlowTree {
+/// Node r of the slow signer's tree of a key, from node 1 on.
+fn slow_node(key: TreeKey, r: u32) -> [u8; 32] {
     let TreeKey { lms, ots, i, seed } = key;
-    SlowTree {
+    let slow = SlowTree {
         lms,
         ots,
         seed,
         id: i,
-    }
+    };
+    slow.node(r.max(1))
+}
+
+/// Whether a signature is one of `abc` alone.
+fn is_accepted(public: &[u8; 56], text: &[u8]) -> bool {
+    verify(public, b"abc", text) && !verify(public, b"abd", text)
+}
+
+/// Whether a leaf's signature equals the slow signer's and is accepted, for its message alone, and
+/// its path ends with a child of the root. The tree has height 5.
+fn signs_as_slow(
+    rt: &(impl Abort + AllocGlobal),
+    tree: &WholeTree,
+    q: u32,
+) -> Result<bool, AllocError> {
+    let end = slow_node(tree.key(), if q < 16 { 3 } else { 2 });
+    let text = signature(rt, tree, q, &RANDOMIZER, b"abc")?;
+    let slow = slow_signature(rt.alloc(), tree.key(), q)?;
+    Ok(
+        slow.get(4..) == Some(text.as_slice())
+            && text.ends_with(&end)
+            && is_accepted(&public_bytes(tree), &text),
+    )
+}
+
+/// Whether a tree of 5/8 serves 32 leaves, whose signatures have 1292 bytes.
+fn is_served(tree: &WholeTree) -> bool {
+    let public = public_bytes(tree);
+    let length = PublicKey::parse(&public).map(|key| key.signature_len());
+    tree.first() == 0
+        && tree.last() == 31
+        && length == Some(1292)
+        && lms_sig_len(LmsType::H5, OtsType::W8) == 1292
+        && PublicKey::parse(public.get(..55).unwrap_or(&[])).is_none()
 }
 
 #[test]
 fn signs_with_every_leaf(rt: HostRuntime) -> Result<(), Fail> {
-    let key = key_of(LmsType::H5, OtsType::W8);
-    let tree = WholeTree::build(&rt, rt.alloc(), key)?;
-    check_served(&rt, &tree);
-    let slow = slow_tree(key);
+    let tree = WholeTree::build(&rt, rt.alloc(), key_of(LmsType::H5, OtsType::W8))?;
+    assert!(rt; is_served(&tree));
     for q in 0..32 {
-        check_path_end(&rt, &tree, q, &slow.node(if q < 16 { 3 } else { 2 }))?;
+        assert!(rt; signs_as_slow(&rt, &tree, q)?, "{q}");
     }
     Ok(())
 }
@@ -115,9 +118,10 @@ fn signs_with_every_leaf(rt: HostRuntime) -> Result<(), Fail> {
 fn signs_under_every_width(rt: HostRuntime) -> Result<(), Fail> {
     for ots in [OtsType::W1, OtsType::W2, OtsType::W4] {
         let tree = WholeTree::build(&rt, rt.alloc(), key_of(LmsType::H5, ots))?;
-        for q in [0, 31] {
-            let _text = check_leaf(&rt, &tree, q)?;
-        }
+        assert!(rt;
+            signs_as_slow(&rt, &tree, 0)? && signs_as_slow(&rt, &tree, 31)?,
+            "{ots:?}"
+        );
     }
     Ok(())
 }
@@ -125,39 +129,31 @@ fn signs_under_every_width(rt: HostRuntime) -> Result<(), Fail> {
 /// Nodes of a tree of height 5, each with a leaf and its place in that leaf's path.
 const NODES: [(u32, u32, u16); 4] = [(2, 16, 4), (31, 28, 1), (32, 1, 0), (63, 30, 0)];
 
-/// Whether a public key ends with the root of a key's tree, computed alone.
-fn has_root(public: &[u8; 56], key: TreeKey) -> bool {
-    public.ends_with(&key.subtree_root(1))
+/// Node r of a key's tree, computed alone. There are such nodes in a tree of every height.
+fn node_of(rt: &impl Abort, key: TreeKey, r: u32) -> [u8; 32] {
+    assert!(rt; 1 <= r && r < 64);
+    key.subtree_root(r)
 }
 
-/// Node r of a tree of 5/8 is at this place of leaf q's path.
-fn check_node(
-    rt: &(impl Abort + AllocGlobal),
-    tree: &WholeTree,
-    r: u32,
-    q: u32,
-    place: u16,
-) -> Result<(), Fail> {
-    let text = signature(rt, tree, q, &RANDOMIZER, b"abc")?;
-    let start = 1132 + 32 * usize::from(place);
-    assert!(rt; 1 <= r && r < 64);
-    let value = tree.key().subtree_root(r);
-    assert!(rt;
-        text.get(start..start + 32) == Some(value.as_slice()),
-        "{r}"
-    );
-    Ok(())
+/// Whether a public key ends with the root of a key's tree, computed alone.
+fn has_root(rt: &impl Abort, public: &[u8; 56], key: TreeKey) -> bool {
+    public.ends_with(&node_of(rt, key, 1))
 }
 
 #[test]
 fn finds_single_nodes(rt: HostRuntime) -> Result<(), Fail> {
     let key = key_of(LmsType::H5, OtsType::W8);
     let tree = WholeTree::build(&rt, rt.alloc(), key)?;
-    assert!(rt; has_root(&public_bytes(&tree), key));
+    assert!(rt; has_root(&rt, &public_bytes(&tree), key) && key.leaf(31) == node_of(&rt, key, 63));
     for (r, q, place) in NODES {
-        check_node(&rt, &tree, r, q, place)?;
+        let value = node_of(&rt, key, r);
+        let start = 1132 + 32 * usize::from(place);
+        let text = signature(&rt, &tree, q, &RANDOMIZER, b"abc")?;
+        assert!(rt;
+            text.get(start..start + 32) == Some(value.as_slice()),
+            "{r}"
+        );
     }
-    assert!(rt; key.leaf(31) == key.subtree_root(63));
     Ok(())
 }
 
@@ -167,9 +163,11 @@ fn band(
     key: TreeKey,
     first: u32,
     last: u32,
-) -> Result<BandTree, Fail> {
+) -> Result<BandTree, OutOfMemory>
+    ensures { IfOk result (λ tree. tree ≡ record { key = key; first = first; last = last }) }
+{
     assert!(rt; first <= last && last < 1 << key.lms.height() && last - first < 1024);
-    Ok(BandTree::build(rt, rt.alloc(), key, first, last)?)
+    BandTree::build(rt, rt.alloc(), key, first, last)
 }
 
 /// Keys, ranges of their leaves, and how many nodes are held to serve these.
@@ -186,25 +184,22 @@ fn keeps_few_nodes(rt: HostRuntime) -> Result<(), Fail> {
     for (lms, ots, first, last, kept) in BANDS {
         let tree = band(&rt, key_of(lms, ots), first, last)?;
         assert!(rt;
-            tree.first() == first && tree.last() == last,
+            tree.first() == first && tree.last() == last && tree.kept() == kept,
             "{first} {last}"
         );
-        assert!(rt; tree.kept() == kept, "{first} {last}");
     }
     Ok(())
 }
 
-/// A band's signature by a leaf is that of the whole tree.
-fn check_band(
+/// Whether a band's signature by a leaf is that of the whole tree.
+fn signs_alike(
     rt: &(impl Abort + AllocGlobal),
     whole: &WholeTree,
     tree: &BandTree,
     q: u32,
-) -> Result<Vec<u8>, Fail> {
+) -> Result<bool, AllocError> {
     let text = signature(rt, tree, q, &RANDOMIZER, b"abc")?;
-    let expected = signature(rt, whole, q, &RANDOMIZER, b"abc")?;
-    assert!(rt; text.as_slice() == expected.as_slice(), "{q}");
-    Ok(text)
+    Ok(signature(rt, whole, q, &RANDOMIZER, b"abc")? == text)
 }
 
 /// A band signs by each of its leaves as the whole tree does.
@@ -213,9 +208,9 @@ fn check_leaves(
     whole: &WholeTree,
     tree: &BandTree,
 ) -> Result<(), Fail> {
-    assert_eq!(rt; public_bytes(tree), public_bytes(whole));
+    assert!(rt; public_bytes(tree) == public_bytes(whole));
     for q in tree.first()..=tree.last() {
-        let _text = check_band(rt, whole, tree, q)?;
+        assert!(rt; signs_alike(rt, whole, tree, q)?, "{q}");
     }
     Ok(())
 }
@@ -225,26 +220,22 @@ fn signs_from_a_band(rt: HostRuntime) -> Result<(), Fail> {
     let key = key_of(LmsType::H5, OtsType::W4);
     let whole = WholeTree::build(&rt, rt.alloc(), key)?;
     for (first, last) in [(0, 31), (7, 8), (31, 31)] {
-        let tree = band(&rt, key, first, last)?;
-        check_leaves(&rt, &whole, &tree)?;
+        check_leaves(&rt, &whole, &band(&rt, key, first, last)?)?;
     }
     Ok(())
 }
 
-/// Whether these hexadecimal digits are the SHA-256 of these bytes.
-fn has_digest(text: &[u8], digits: &str) -> bool {
-    let digest: Result<[u8; 32], _> = FromHex::from_hex(digits);
-    digest.is_ok_and(|digest| Sha256::digest(text) == digest)
+/// Whether this is the hash that these hexadecimal digits stand for.
+fn is_hash(hash: &[u8], digits: &str) -> bool {
+    let expected: Result<[u8; 32], _> = FromHex::from_hex(digits);
+    match expected {
+        Ok(expected) => hash == expected.as_slice(),
+        Err(_) => false,
+    }
 }
 
-/// The public key of the tree of 15/2 has the root that a program in Python computes with hashlib.
-fn check_root(rt: &impl Abort, public: &[u8; 56]) -> Result<(), Fail> {
-    let root: [u8; 32] = FromHex::from_hex(
-        "28e3dc7b80074fec49ce0b1ae3ee30d584559e28f04b471ad793d8b0c5b5809c",
-    )?;
-    assert!(rt; public.ends_with(&root));
-    Ok(())
-}
+/// The root of the tree of 15/2, which a program in Python computes with hashlib.
+const ROOT: &str = "28e3dc7b80074fec49ce0b1ae3ee30d584559e28f04b471ad793d8b0c5b5809c";
 
 /// Leaves on both sides of the edge between two bottom subtrees of 15/2, each with the node at
 /// place 10 of its path and the SHA-256 of its signature of `abc`, which that program makes, too.
@@ -275,21 +266,25 @@ fn at_edge() -> [(u32, u32, &'static str); 4] {
     AT_EDGE
 }
 
-/// A band of a tree of 15/2 signs as the whole tree does, with node r at place 10 of the path.
-fn check_path(
+/// Whether a band of a tree of 15/2 signs as the whole tree does, an accepted signature with node r
+/// at place 10 of the path and this SHA-256.
+fn has_path(
     rt: &(impl Abort + AllocGlobal),
     whole: &WholeTree,
     tree: &BandTree,
     q: u32,
     r: u32,
     digest: &str,
-) -> Result<(), Fail> {
-    let text = check_band(rt, whole, tree, q)?;
-    assert!(rt; 1 <= r && r < 64);
-    let value = whole.key().subtree_root(r);
-    assert!(rt; text.get(4620..4652) == Some(value.as_slice()), "{q}");
-    assert!(rt; has_digest(&text, digest), "{q}");
-    Ok(())
+) -> Result<bool, AllocError> {
+    let value = node_of(rt, whole.key(), r);
+    let is_alike = signs_alike(rt, whole, tree, q)?;
+    let text = signature(rt, tree, q, &RANDOMIZER, b"abc")?;
+    Ok(
+        is_alike
+            && text.get(4620..4652) == Some(value.as_slice())
+            && is_hash(&Sha256::digest(text.as_slice()), digest)
+            && verify(&public_bytes(tree), b"abc", &text),
+    )
 }
 
 /// A band across that edge against the whole tree.
@@ -299,29 +294,22 @@ fn check_edge(
     key: TreeKey,
 ) -> Result<(), Fail> {
     let tree = band(rt, key, 1000, 1100)?;
-    assert_eq!(rt; public_bytes(&tree), public_bytes(whole));
+    assert!(rt; public_bytes(&tree) == public_bytes(whole));
     for (q, r, digest) in at_edge() {
-        check_path(rt, whole, &tree, q, r, digest)?;
+        assert!(rt; has_path(rt, whole, &tree, q, r, digest)?, "{q}");
     }
     Ok(())
 }
 
-/// The last leaf, from a band that ends there.
-fn check_last_leaf(
+/// Whether a band that ends with the last leaf signs by it as the whole tree does, with a signature
+/// of this SHA-256.
+fn signs_by_the_last_leaf(
     rt: &(impl Abort + AllocGlobal + Threads + Sync),
     whole: &WholeTree,
     key: TreeKey,
-) -> Result<(), Fail> {
-    let tree = band(rt, key, 31744, 32767)?;
-    let text = check_band(rt, whole, &tree, 32767)?;
-    assert!(rt;
-        has_digest(
-            &text,
-            "0fe4729f00b875e3713b0cd9988833e3d23f6afb7d2aa8236cac00e70dc33d32"
-        )
-    );
-    assert!(rt; verify(&public_bytes(&tree), b"abc", &text));
-    Ok(())
+) -> Result<bool, Fail> {
+    let digest = "0fe4729f00b875e3713b0cd9988833e3d23f6afb7d2aa8236cac00e70dc33d32";
+    Ok(has_path(rt, whole, &band(rt, key, 31744, 32767)?, 32767, 62, digest)?)
 }
 
 /// A tree of 15/2, whole and in bands.
@@ -330,9 +318,12 @@ fn check_tall_tree(
     key: TreeKey,
 ) -> Result<(), Fail> {
     let whole = WholeTree::build(rt, rt.alloc(), key)?;
-    check_root(rt, &public_bytes(&whole))?;
     check_edge(rt, &whole, key)?;
-    check_last_leaf(rt, &whole, key)
+    assert!(rt;
+        is_hash(public_bytes(&whole).get(24..).unwrap_or(&[]), ROOT)
+            && signs_by_the_last_leaf(rt, &whole, key)?
+    );
+    Ok(())
 }
 
 #[test]
@@ -349,7 +340,7 @@ fn builds_after_refused_memory(rt: HostRuntime) -> Result<(), Fail> {
         Ok(tree) => tree,
         Err(OutOfMemory) => WholeTree::build(&rt, rt.alloc(), key)?,
     };
-    assert!(rt; has_root(&public_bytes(&tree), key));
+    assert!(rt; has_root(&rt, &public_bytes(&tree), key));
     Ok(())
 }
 
@@ -357,10 +348,10 @@ fn builds_after_refused_memory(rt: HostRuntime) -> Result<(), Fail> {
 #[test]
 fn builds_a_band_after_refused_memory(rt: HostRuntime) -> Result<(), Fail> {
     let key = key_of(LmsType::H5, OtsType::W1);
-    let tree = match BandTree::build(&rt, rt.alloc(), key, 3, 9) {
+    let tree = match band(&rt, key, 3, 9) {
         Ok(tree) => tree,
-        Err(OutOfMemory) => BandTree::build(&rt, rt.alloc(), key, 3, 9)?,
+        Err(OutOfMemory) => band(&rt, key, 3, 9)?,
     };
-    assert!(rt; has_root(&public_bytes(&tree), key));
+    assert!(rt; has_root(&rt, &public_bytes(&tree), key));
     Ok(())
 }

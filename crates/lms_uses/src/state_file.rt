@@ -6,7 +6,7 @@ ghost use Rattle.lms_hss.specs.Keys.{hss_key_of};
 ghost use Rattle.lms_image.specs.Image.{image_of};
 ghost use Rattle.lms_book.specs.States.{LeaseState};
 ghost use Rattle.lms_book.specs.Books.{Reserves};
-ghost use Rattle.lms_file_store.specs.FileStores.{AreWritten};
+ghost use Rattle.lms_files.specs.Files.{AreWritten};
 
 use anyhow::{Result, bail};
 use lms_book::{Book, Image, Lease, StateStore, encode_image};

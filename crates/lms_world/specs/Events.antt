@@ -4,7 +4,7 @@ use Rattle.std.specs.Prelude.{String, string_bytes}
 use Rattle.std.specs.Global.{Global, Vec}
 use Rattle.lms_book.specs.Stops.{StoreView}
 use Rattle.lms_file_store.specs.declared.fault.LockFault.{LockFault}
-use Rattle.lms_file_store.specs.declared.places.Output.{Output}
+use Rattle.lms_files.specs.declared.places.Output.{Output}
 use Rattle.lms_file_store.specs.declared.fault.LockFault.TheVariants as fault
 use Rattle.lms_world.specs.Names.{Bytes}
 use Rattle.lms_world.specs.declared.fault.WorldFault.{WorldFault}

@@ -19,5 +19,6 @@ pub use crate::memory::{MemoryContents, MemoryDraft, MemoryLock, MemoryWorld};
 pub use crate::note::{Note, Quoted};
 pub use crate::printer::Printer;
 pub use crate::world::World;
-pub use lms_file_store::{LockFault, MOST_WITNESS, Output};
+pub use lms_file_store::LockFault;
+pub use lms_files::{MOST_WITNESS, Output};
 pub use lms_params::OutOfMemory;

@@ -6,7 +6,7 @@ mod witness;
 
 use lms_disk::DiskWorld;
 use lms_file_store::TryLock;
-use lms_world::{Contents, Taker, World, WorldFault};
+use lms_world::{Contents, MemoryLock, MemoryWorld, Taker, World, WorldFault};
 use std::alloc::{Allocator, Global};
 use std::fs::{Metadata, OpenFile, OpenOptions};
 use std::io::{ErrorKind, Read, Seek, SeekFrom, Write};
@@ -145,10 +145,24 @@ impl<'a, R: Files> Files for PoorFiles<'a, R> {
 }
 
 /// Makes an empty folder, in place of one that an earlier run left.
-fn empty_folder(rt: &HostRuntime, folder: &str) -> Result<(), Fail> {
+fn begins(rt: &HostRuntime, folder: &str) -> bool {
     let _ = fs::remove_dir_all(rt, folder);
-    fs::create_dir(rt, folder)?;
-    Ok(())
+    makes_folder(rt, folder)
+}
+
+/// Makes a folder.
+fn makes_folder(rt: &HostRuntime, name: &str) -> bool {
+    fs::create_dir(rt, name).is_ok()
+}
+
+/// Makes these the bytes of a file.
+fn puts(rt: &HostRuntime, name: &str, bytes: &[u8]) -> bool {
+    fs::write(rt, name, bytes).is_ok()
+}
+
+/// Removes a folder with all that is in it.
+fn clears(rt: &HostRuntime, folder: &str) -> bool {
+    fs::remove_dir_all(rt, folder).is_ok()
 }
 
 /// Whether a world reads these bytes from the file of a name.
@@ -238,120 +252,100 @@ fn holds(rt: &HostRuntime, name: &str, bytes: &[u8]) -> bool {
     }
 }
 
-/// Three times 1 MiB and some bytes more.
-fn large_text(alloc: Global) -> Result<String, Fail> {
-    Ok("pattern".repeat(alloc, 449_391)?)
+/// Whether the store of a lock in memory is taken and put back.
+fn lends_a_store(alloc: Global, world: &mut MemoryWorld, lock: &MemoryLock) -> bool {
+    match world.take_store(alloc, lock) {
+        Ok(store) => {
+            world.put_back(lock, store);
+            true
+        }
+        Err(_) => false,
+    }
 }
 
 const LARGE: &str = "disk_world_large/text";
 
-/// Many bytes are read and written whole.
+/// Whether a world writes these bytes to the file of a name, and reads them and hands them over.
+fn keeps_whole<W: World>(alloc: Global, world: &mut W, name: &str, bytes: &[u8]) -> bool {
+    writes(alloc, world, name, bytes)
+        && reads(alloc, world, name, bytes)
+        && hands_over(alloc, world, name, bytes)
+}
+
+/// Many bytes are read and written whole: three times 1 MiB and some more.
 #[test]
 fn a_large_file_is_whole(rt: HostRuntime) -> Result<(), Fail> {
-    empty_folder(&rt, "disk_world_large")?;
-    let text = large_text(rt.alloc())?;
-    assert!(rt;
-        writes(
-            rt.alloc(),
-            &mut DiskWorld::new(rt.alloc(), &rt),
-            LARGE,
-            text.as_bytes()
-        )
-    );
-    assert!(rt; holds(&rt, LARGE, text.as_bytes()));
-    assert!(rt;
-        reads(
-            rt.alloc(),
-            &mut DiskWorld::new(rt.alloc(), &rt),
-            LARGE,
-            text.as_bytes()
-        )
-    );
-    assert!(rt;
-        hands_over(
-            rt.alloc(),
-            &mut DiskWorld::new(rt.alloc(), &rt),
-            LARGE,
-            text.as_bytes()
-        )
-    );
+    let text = "pattern".repeat(rt.alloc(), 449_391)?;
     let poor = PoorFiles {
         files: &rt,
         hides_names: false,
     };
-    assert!(rt;
-        reads(
-            rt.alloc(),
-            &mut DiskWorld::new(rt.alloc(), &poor),
-            LARGE,
-            text.as_bytes()
-        )
+    let is_begun = begins(&rt, "disk_world_large");
+    let is_kept = keeps_whole(
+        rt.alloc(),
+        &mut DiskWorld::new(rt.alloc(), &rt),
+        LARGE,
+        text.as_bytes(),
+    );
+    let is_there = holds(&rt, LARGE, text.as_bytes()) && fs::remove_file(&rt, LARGE).is_ok();
+    let is_poorly_kept = keeps_whole(
+        rt.alloc(),
+        &mut DiskWorld::new(rt.alloc(), &poor),
+        LARGE,
+        text.as_bytes(),
+    );
+    let is_poorly_there = holds(&rt, LARGE, text.as_bytes());
+    let is_flushed = flushes(
+        rt.alloc(),
+        &mut DiskWorld::new(rt.alloc(), &poor),
+        LARGE,
+        b"a public key",
     );
     assert!(rt;
-        hands_over(
-            rt.alloc(),
-            &mut DiskWorld::new(rt.alloc(), &poor),
-            LARGE,
-            text.as_bytes()
-        )
+        is_begun
+            && is_kept
+            && is_there
+            && is_poorly_kept
+            && is_poorly_there
+            && is_flushed
+            && holds(&rt, LARGE, b"a public key")
+            && clears(&rt, "disk_world_large")
     );
-    fs::remove_file(&rt, LARGE)?;
-    assert!(rt;
-        writes(
-            rt.alloc(),
-            &mut DiskWorld::new(rt.alloc(), &poor),
-            LARGE,
-            text.as_bytes()
-        )
-    );
-    assert!(rt; holds(&rt, LARGE, text.as_bytes()));
-    assert!(rt;
-        flushes(
-            rt.alloc(),
-            &mut DiskWorld::new(rt.alloc(), &poor),
-            LARGE,
-            b"a public key"
-        )
-    );
-    assert!(rt; holds(&rt, LARGE, b"a public key"));
-    fs::remove_dir_all(&rt, "disk_world_large")?;
     Ok(())
 }
 
 /// A file that reports a size of 0 and holds more is read whole.
 #[test]
-fn a_file_that_tells_no_size_is_whole(rt: HostRuntime) -> Result<(), Fail> {
+fn a_file_that_tells_no_size_is_whole(rt: HostRuntime) {
     let name = "/proc/self/stat";
-    assert!(rt; fs::metadata(&rt, name)?.len() == 0);
-    assert!(rt;
-        !DiskWorld::new(rt.alloc(), &rt)
-            .read(rt.alloc(), name)?
-            .is_empty()
-    );
-    Ok(())
+    let tells_none = match fs::metadata(&rt, name) {
+        Ok(found) => found.len() == 0,
+        Err(_) => false,
+    };
+    let found = DiskWorld::new(rt.alloc(), &rt).read(rt.alloc(), name);
+    let is_read = match found {
+        Ok(text) => !text.is_empty(),
+        Err(_) => false,
+    };
+    assert!(rt; tells_none && is_read);
 }
 
 /// A folder can be opened, and not be read.
 #[test]
-fn a_folder_breaks_off(rt: HostRuntime) -> Result<(), Fail> {
-    empty_folder(&rt, "disk_world_folder")?;
-    assert!(rt;
-        breaks_off(
-            rt.alloc(),
-            &mut DiskWorld::new(rt.alloc(), &rt),
-            "disk_world_folder"
-        )
+fn a_folder_breaks_off(rt: HostRuntime) {
+    let is_begun = begins(&rt, "disk_world_folder");
+    let is_broken_off = breaks_off(
+        rt.alloc(),
+        &mut DiskWorld::new(rt.alloc(), &rt),
+        "disk_world_folder",
     );
-    assert!(rt;
-        !hands_over(
-            rt.alloc(),
-            &mut DiskWorld::new(rt.alloc(), &rt),
-            "disk_world_folder/none",
-            b""
-        )
+    let is_handed_over = hands_over(
+        rt.alloc(),
+        &mut DiskWorld::new(rt.alloc(), &rt),
+        "disk_world_folder/none",
+        b"",
     );
-    fs::remove_dir_all(&rt, "disk_world_folder")?;
-    Ok(())
+    assert!(rt; is_begun && is_broken_off && !is_handed_over && clears(&rt, "disk_world_folder"));
 }
 
 /// Whether the state of a name exists, once it is locked. `None` where it is not.
@@ -363,23 +357,32 @@ fn is_there(rt: &HostRuntime, name: &str) -> Option<bool> {
     }
 }
 
-#[test]
-fn what_can_not_be_looked_up_exists(rt: HostRuntime) -> Result<(), Fail> {
-    empty_folder(&rt, "disk_world_names")?;
-    fs::write(&rt, "disk_world_names/file", b"".as_slice())?;
-    let long = "n".repeat(rt.alloc(), 5000)?;
-    assert!(rt; is_there(&rt, "disk_world_names/state") == Some(false));
-    assert!(rt; is_there(&rt, "disk_world_names/file") == Some(true));
-    assert!(rt; is_there(&rt, "disk_world_names/file/state").is_none());
-    assert!(rt; is_there(&rt, long.as_str()).is_none());
+/// Whether the state of a name is removed once it is locked, and exists then where names are hidden.
+fn is_there_when_removed(rt: &HostRuntime, name: &str) -> bool {
     let poor = PoorFiles {
-        files: &rt,
+        files: rt,
         hides_names: true,
     };
     let mut world = DiskWorld::new(rt.alloc(), &poor);
-    let lock = world.lock(rt.alloc(), "disk_world_names/file")?;
-    fs::remove_file(&rt, "disk_world_names/file")?;
-    assert!(rt; world.exists(&lock));
-    fs::remove_dir_all(&rt, "disk_world_names")?;
+    match world.lock(rt.alloc(), name) {
+        Ok(lock) => fs::remove_file(rt, name).is_ok() && world.exists(&lock),
+        Err(_) => false,
+    }
+}
+
+#[test]
+fn what_can_not_be_looked_up_exists(rt: HostRuntime) -> Result<(), Fail> {
+    let name = "disk_world_names/file";
+    let long = "n".repeat(rt.alloc(), 5000)?;
+    assert!(rt;
+        begins(&rt, "disk_world_names")
+            && puts(&rt, name, b"")
+            && is_there(&rt, "disk_world_names/state") == Some(false)
+            && is_there(&rt, name) == Some(true)
+            && is_there(&rt, "disk_world_names/file/state").is_none()
+            && is_there(&rt, long.as_str()).is_none()
+            && is_there_when_removed(&rt, name)
+            && clears(&rt, "disk_world_names")
+    );
     Ok(())
 }

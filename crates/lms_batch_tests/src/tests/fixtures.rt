@@ -1,9 +1,6 @@
-//! Levels and jobs of the tests. Memory that is refused once is asked for again.
-use lms_batch::Job;
+//! Levels and public keys of the tests. Memory that is refused once is asked for again.
 use lms_hss::HssKey;
-use lms_params::{LmsType, OtsType};
-use std::alloc::Global;
-use std::test::Fail;
+use lms_params::{LmsType, OtsType, OutOfMemory};
 use std::thread::Threads;
 
 /// The levels 5/8,5/8, with 1024 indices.
@@ -16,20 +13,9 @@ pub(crate) const CHEAP: [(LmsType, OtsType); 2] = [(LmsType::H5, OtsType::W2); 2
 pub(crate) fn public_key(
     rt: &(impl AllocGlobal + Threads + Sync),
     key: HssKey,
-) -> Result<[u8; 60], Fail> {
+) -> Result<[u8; 60], OutOfMemory> {
     match key.public_key(rt, rt.alloc()) {
         Ok(public) => Ok(public),
-        Err(_) => Ok(key.public_key(rt, rt.alloc())?),
+        Err(_) => key.public_key(rt, rt.alloc()),
     }
-}
-
-/// A job of this message, whose first byte fills its randomizer.
-pub(crate) fn job(alloc: Global, message: &[u8]) -> Result<Job, Fail> {
-    let first = message.first().copied().unwrap_or(0x33);
-    let bytes = Vec::from_slice(alloc, message);
-    let message = bytes.or_else(|_| Vec::from_slice(alloc, message))?;
-    Ok(Job {
-        c: [first; 32],
-        message,
-    })
 }

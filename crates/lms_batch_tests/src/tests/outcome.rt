@@ -2,8 +2,7 @@
 use lms_batch::{Batch, BatchFault, Job};
 use lms_book::{Book, Entry, MemoryStore};
 use lms_fixtures::{forest_of, signature_of};
-use lms_hss::{HssKey, verify};
-use std::alloc::Global;
+use lms_hss::{Forest, HssKey, verify};
 use std::test::Fail;
 use std::thread::Threads;
 
@@ -64,7 +63,7 @@ impl Outcome {
     }
 
     /// Whether the batch of this place is complete, with the signatures of these jobs from this
-    /// index on.
+    /// index on, as trees make them that are computed for these indices alone.
     pub(super) fn is_complete(
         &self,
         rt: &(impl AllocGlobal + Threads + Sync),
@@ -72,12 +71,14 @@ impl Outcome {
         first: u64,
         jobs: &[Job],
     ) -> Result<bool, Fail> {
-        match self.batch(place) {
+        let forest = forest_of(rt, self.key, first, jobs.len() as u64)?;
+        let is_complete = match self.batch(place) {
             Some(Batch::Complete { start, signatures }) => {
-                Ok(*start == first && are_signatures(rt, self.key, first, jobs, signatures)?)
+                *start == first && are_signatures(&forest, first, jobs, signatures)
             }
-            _ => Ok(false),
-        }
+            _ => false,
+        };
+        Ok(is_complete)
     }
 
     /// Whether the batch of this place is complete and has no signatures, from 0 on.
@@ -94,23 +95,28 @@ impl Outcome {
     }
 }
 
-/// Whether these are the signatures of jobs by a key's indices from one on, as trees make them that
-/// are computed for these indices alone.
-fn are_signatures(
-    rt: &(impl AllocGlobal + Threads + Sync),
-    key: HssKey,
+/// Whether this is the signature of a job by an index, as these trees make it.
+pub(super) fn is_signature(forest: &Forest, g: u64, job: &Job, signature: &[u8]) -> bool {
+    match signature_of(forest, g, &job.c, &job.message) {
+        Ok(own) => own.as_slice() == signature,
+        Err(_) => false,
+    }
+}
+
+/// Whether these are the signatures of jobs by the indices from one on, as these trees make them.
+pub(super) fn are_signatures(
+    forest: &Forest,
     first: u64,
     jobs: &[Job],
     signatures: &[Vec<u8>],
-) -> Result<bool, Fail> {
-    let forest = forest_of(rt, key, first, jobs.len() as u64)?;
+) -> bool {
     let mut is_right = signatures.len() == jobs.len();
     let mut g = first;
     for (signature, job) in signatures.iter().zip(jobs) {
-        is_right = is_right && *signature == signature_of(&forest, g, &job.c, &job.message)?;
+        is_right = is_right && is_signature(forest, g, job, signature);
         g = g.saturating_add(1);
     }
-    Ok(is_right)
+    is_right
 }
 
 /// The first index of a batch that is complete, with signatures of the jobs that are accepted.
@@ -125,17 +131,12 @@ fn start_of_valid(public: &[u8], batch: &Batch, jobs: &[Job]) -> Option<u64> {
     if is_valid { Some(*start) } else { None }
 }
 
-/// The first indices of all batches in order, `None` for one that is not valid.
-pub(super) fn starts_of(
-    alloc: Global,
-    public: &[u8],
-    outcome: &Outcome,
-    jobs: &[Job],
-) -> Result<Vec<Option<u64>>, Fail> {
-    let mut starts = Vec::new(alloc);
-    for place in 0..outcome.answers.len() {
-        starts.push(outcome.start_of(place, public, jobs))?;
+/// The first indices of eight batches in order, `None` for one that is not valid.
+pub(super) fn starts_of(outcome: &Outcome, public: &[u8], jobs: &[Job]) -> [Option<u64>; 8] {
+    let mut starts: [Option<u64>; 8] = [None; 8];
+    for (place, start) in (0..8).zip(starts.iter_mut()) {
+        *start = outcome.start_of(place, public, jobs);
     }
     starts.sort_unstable();
-    Ok(starts)
+    starts
 }

@@ -1,6 +1,6 @@
-//! Stores of the tests.
-use lms_book::MemoryStore;
-use lms_fixtures::{key_of, store_at, store_of};
+//! Stores of the tests, and books over them.
+use lms_book::{Book, Left, MemoryStore};
+use lms_fixtures::{book_of, key_of, store_at, store_of};
 use lms_params::{LmsType, OtsType};
 use std::alloc::Global;
 use std::test::Fail;
@@ -35,7 +35,36 @@ pub(crate) fn first_store(alloc: Global, image: &str) -> Result<MemoryStore, Fai
     Ok(store_of(alloc, &hex::decode(alloc, image)?)?)
 }
 
-/// A store that holds the image of another key of 5/8, with no index used.
-pub(crate) fn another_store(alloc: Global) -> Result<MemoryStore, &'static str> {
-    store_at(alloc, key_of(&LEVELS, 0x12)?, 0)
+/// A book over a store that holds this image of version 1.
+pub(crate) fn first_book(alloc: Global, image: &str) -> Result<Book<MemoryStore>, Fail> {
+    Ok(book_of(alloc, first_store(alloc, image)?)?)
+}
+
+/// Plans that the k-th write of a store from now, 1 to 8, fails, or that the program crashes in it.
+pub(crate) fn plan(store: &mut MemoryStore, k: usize, left: Left, stops: bool) {
+    let k = k.clamp(1, 8);
+    if stops {
+        store.stop_replace(k, left);
+    } else {
+        store.fail_replace(k, left);
+    }
+}
+
+/// Plans that the k-th read of a store from now, 1 to 8, fails.
+pub(crate) fn plan_read(store: &mut MemoryStore, k: usize) {
+    store.fail_read(k.clamp(1, 8));
+}
+
+/// A book over an unused key of 5/8, whose store fails or stops at these writes: their numbers, what
+/// they leave, and whether the program crashes.
+pub(crate) fn failing_book(
+    alloc: Global,
+    writes: &[(usize, Left, bool)],
+) -> Result<Book<MemoryStore>, &'static str> {
+    let mut store = small_store(alloc, 0)?;
+    for write in writes {
+        let (k, left, stops) = *write;
+        plan(&mut store, k, left, stops);
+    }
+    book_of(alloc, store)
 }

@@ -1,15 +1,8 @@
+use crate::tests::fixtures::{plan, plan_read};
 use lms_book::{Left, MemoryStore, ReadFault, StateStore};
+use lms_fixtures::store_of;
 use std::alloc::Global;
 use std::test::Fail;
-
-/// A store that holds `a`, with the capacity for 8 writes. Memory that is refused once is asked for
-/// again, here and below.
-fn store_of_a(alloc: Global) -> Result<MemoryStore, Fail> {
-    match MemoryStore::new(alloc, Some(b"a".as_slice()), 8) {
-        Ok(store) => Ok(store),
-        Err(_) => Ok(MemoryStore::new(alloc, Some(b"a".as_slice()), 8)?),
-    }
-}
 
 /// Whether a store takes these bytes.
 fn takes(store: &mut MemoryStore, text: &[u8]) -> bool {
@@ -31,10 +24,10 @@ fn fails(alloc: Global, store: &mut MemoryStore) -> bool {
 
 #[test]
 fn a_store_fails_as_planned(rt: HostRuntime) -> Result<(), Fail> {
-    let mut store = store_of_a(rt.alloc())?;
-    store.fail_replace(3, Left::New);
-    store.stop_replace(5, Left::New);
-    store.fail_replace(2, Left::Old);
+    let mut store = store_of(rt.alloc(), b"a")?;
+    plan(&mut store, 3, Left::New, false);
+    plan(&mut store, 5, Left::New, true);
+    plan(&mut store, 2, Left::Old, false);
     let held = [
         (b"b", true, b"b"),
         (b"c", false, b"b"),
@@ -46,13 +39,14 @@ fn a_store_fails_as_planned(rt: HostRuntime) -> Result<(), Fail> {
     for (text, taken, left) in held {
         assert!(rt; takes(&mut store, text) == taken && holds(&store, left));
     }
-    assert!(rt; fails(rt.alloc(), &mut store), "stopped");
+    let has_stopped = fails(rt.alloc(), &mut store);
     let mut store = store.restart();
-    assert!(rt; takes(&mut store, b"h") && holds(&store, b"h"));
+    assert!(rt; has_stopped && takes(&mut store, b"h") && holds(&store, b"h"));
     Ok(())
 }
 
-/// Whether a store gives these bytes.
+/// Whether a store gives these bytes. Memory that is refused once is asked for again, here and
+/// below.
 fn gives(alloc: Global, store: &mut MemoryStore, text: &[u8]) -> bool {
     let given = match store.read(alloc) {
         Err(ReadFault::OutOfMemory) => store.read(alloc),
@@ -66,14 +60,17 @@ fn gives(alloc: Global, store: &mut MemoryStore, text: &[u8]) -> bool {
 
 #[test]
 fn a_store_reads_unless_it_is_to_fail(rt: HostRuntime) -> Result<(), Fail> {
-    let mut store = store_of_a(rt.alloc())?;
-    assert!(rt; gives(rt.alloc(), &mut store, b"a"));
-    store.fail_read(1);
-    store.fail_read(2);
-    for _ in 0..2 {
-        assert!(rt; fails(rt.alloc(), &mut store));
-    }
-    assert!(rt; gives(rt.alloc(), &mut store, b"a"));
+    let alloc = rt.alloc();
+    let mut store = store_of(alloc, b"a")?;
+    let is_read = gives(alloc, &mut store, b"a");
+    plan_read(&mut store, 1);
+    plan_read(&mut store, 2);
+    assert!(rt;
+        is_read
+            && fails(alloc, &mut store)
+            && fails(alloc, &mut store)
+            && gives(alloc, &mut store, b"a")
+    );
     Ok(())
 }
 
@@ -83,14 +80,11 @@ fn a_store_refuses_what_it_has_no_capacity_for(rt: HostRuntime) -> Result<(), Fa
         Ok(store) => store,
         Err(_) => MemoryStore::new(rt.alloc(), None, 1)?,
     };
-    assert!(rt; store.text().is_none());
-    assert!(rt; fails(rt.alloc(), &mut store), "no text");
-    assert!(rt; !takes(&mut store, &[7; 257]), "257 bytes");
-    assert!(rt; store.text().is_none());
-    assert!(rt; takes(&mut store, &[7; 256]));
-    assert!(rt; !takes(&mut store, b"a"), "past the capacity");
-    assert!(rt; holds(&store, &[7; 256]));
+    let is_empty = store.text().is_none() && fails(rt.alloc(), &mut store);
+    let is_too_long = !takes(&mut store, &[7; 257]) && store.text().is_none();
+    let is_full = takes(&mut store, &[7; 256]) && !takes(&mut store, b"a");
+    let is_as_it_was = holds(&store, &[7; 256]);
     let mut store = store.restart();
-    assert!(rt; takes(&mut store, b"a"));
+    assert!(rt; is_empty && is_too_long && is_full && is_as_it_was && takes(&mut store, b"a"));
     Ok(())
 }

@@ -27,26 +27,32 @@ fn locks_beside(rt: &HostRuntime, name: &str, other: &str, fault: Option<LockFau
 #[test]
 fn one_holds_the_lock(rt: HostRuntime) {
     let (state, other) = ("file_store_lock/state", "file_store_lock/other");
-    assert!(rt; begins(&rt, "file_store_lock"));
-    assert!(rt; locks_beside(&rt, state, state, Some(LockFault::InUse)));
-    assert!(rt; locks_beside(&rt, state, other, None));
-    assert!(rt; lock_fault(&rt, state).is_none());
-    assert!(rt; clears(&rt, "file_store_lock"));
+    assert!(rt;
+        begins(&rt, "file_store_lock")
+            && locks_beside(&rt, state, state, Some(LockFault::InUse))
+            && locks_beside(&rt, state, other, None)
+            && lock_fault(&rt, state).is_none()
+            && clears(&rt, "file_store_lock")
+    );
 }
 
 #[test]
 fn a_link_is_locked_as_its_state(rt: HostRuntime) {
     let (link, state) = ("file_store_links/link", "file_store_links/real/state");
-    assert!(rt; begins_with_a_link(&rt));
-    assert!(rt; locks_beside(&rt, link, state, Some(LockFault::InUse)));
-    assert!(rt; clears(&rt, "file_store_links"));
+    assert!(rt;
+        begins_with_a_link(&rt)
+            && locks_beside(&rt, link, state, Some(LockFault::InUse))
+            && clears(&rt, "file_store_links")
+    );
 }
 
 #[test]
 fn what_can_not_be_reached_has_no_lock(rt: HostRuntime) {
-    assert!(rt; begins(&rt, "file_store_faults"));
-    assert!(rt; puts(&rt, "file_store_faults/file", b"a"));
-    assert!(rt; links(&rt, "nowhere", "file_store_faults/link"));
+    assert!(rt;
+        begins(&rt, "file_store_faults")
+            && puts(&rt, "file_store_faults/file", b"a")
+            && links(&rt, "nowhere", "file_store_faults/link")
+    );
     for name in [
         "file_store_faults/file/state",
         "file_store_faults/none/state",
@@ -68,7 +74,7 @@ fn a_fault_says_why_there_is_no_lock(rt: HostRuntime) -> Result<(), Fail> {
         (LockFault::OutOfMemory, "out of memory"),
     ] {
         let said = format!(in rt.alloc(); "{fault}")?;
-        assert!(rt; said.as_str() == text);
+        assert!(rt; said.as_str() == text, "{text}");
     }
     Ok(())
 }

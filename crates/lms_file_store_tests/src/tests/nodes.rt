@@ -51,16 +51,19 @@ fn kept_beside<'a>(rt: &'a HostRuntime, name: &str) -> Result<Kept<'a>, Fail> {
 
 #[test]
 fn what_is_kept_is_read(rt: HostRuntime) -> Result<(), Fail> {
-    assert!(rt; begins(&rt, "kept_nodes_reads"));
+    let is_begun = begins(&rt, "kept_nodes_reads");
     let kept = kept_beside(&rt, "kept_nodes_reads/state")?;
-    assert!(rt; kept.gives_none(usize::MAX));
-    assert!(rt; kept.keeps(b"a") && kept.keeps(b""));
-    assert!(rt; kept.keeps(&[7; 5000]) && kept.gives(usize::MAX, &[7; 5000]));
-    assert!(rt; holds(&rt, "kept_nodes_reads/state.nodes", &[7; 5000]));
-    assert!(rt; is_missing(&rt, "kept_nodes_reads/state.nodes.new"));
-    assert!(rt; is_missing(&rt, "kept_nodes_reads/state"));
-    assert!(rt; clears(&rt, "kept_nodes_reads"));
-    assert!(rt; kept.gives_none(usize::MAX) && !kept.takes(b"new"));
+    let is_read = kept.gives_none(usize::MAX)
+        && kept.keeps(b"a")
+        && kept.keeps(b"")
+        && kept.keeps(&[7; 5000])
+        && kept.gives(usize::MAX, &[7; 5000]);
+    let is_there = holds(&rt, "kept_nodes_reads/state.nodes", &[7; 5000])
+        && is_missing(&rt, "kept_nodes_reads/state.nodes.new")
+        && is_missing(&rt, "kept_nodes_reads/state");
+    let is_cleared = clears(&rt, "kept_nodes_reads");
+    let fails = kept.gives_none(usize::MAX) && !kept.takes(b"new");
+    assert!(rt; is_begun && is_read && is_there && is_cleared && fails);
     Ok(())
 }
 
@@ -78,8 +81,10 @@ fn second_try<'a>(rt: &'a HostRuntime, name: &str) -> Result<Kept<'a>, Fail> {
 fn nodes_are_kept_after_refused_memory(rt: HostRuntime) -> Result<(), Fail> {
     let _ = makes_folder(&rt, "kept_nodes_memory");
     let kept = second_try(&rt, "kept_nodes_memory/state")?;
-    assert!(rt; kept.takes(b"new") || kept.takes(b"new"));
-    assert!(rt; kept.gives(3, b"new") || kept.gives(3, b"new"));
+    assert!(rt;
+        (kept.takes(b"new") || kept.takes(b"new"))
+            && (kept.gives(3, b"new") || kept.gives(3, b"new"))
+    );
     let _ = clears(&rt, "kept_nodes_memory");
     Ok(())
 }

@@ -1,7 +1,7 @@
 //! Files that are no state. What is never written over, and what a fault leaves, is tested of the
 //! program.
 use super::disk::{begins, clears, holds, is_link, is_missing, links, puts};
-use lms_file_store::{FileId, Output, plan_output, write_flushed, write_output};
+use lms_files::{FileId, Output, plan_output, write_flushed, write_output};
 use std::fs;
 
 /// Whether these become the bytes of a file, over which none may be written that was `read`.
@@ -38,52 +38,60 @@ fn id_of(rt: &HostRuntime, name: &str) -> Option<FileId> {
 #[test]
 fn what_is_written_is_there(rt: HostRuntime) {
     let name = "outputs_there/file";
-    assert!(rt; begins(&rt, "outputs_there"));
-    assert!(rt; is_written(&rt, name, b"a signature") && is_written(&rt, name, b""));
-    assert!(rt; links(&rt, "none", "outputs_there/link"));
-    assert!(rt; is_written(&rt, "outputs_there/link", &[7; 5000]));
-    assert!(rt; holds(&rt, "outputs_there/none", &[7; 5000]));
-    assert!(rt; is_link(&rt, "outputs_there/link"));
-    assert!(rt; clears(&rt, "outputs_there"));
+    assert!(rt;
+        begins(&rt, "outputs_there")
+            && is_written(&rt, name, b"a signature")
+            && is_written(&rt, name, b"")
+            && links(&rt, "none", "outputs_there/link")
+            && is_written(&rt, "outputs_there/link", &[7; 5000])
+            && holds(&rt, "outputs_there/none", &[7; 5000])
+            && is_link(&rt, "outputs_there/link")
+            && clears(&rt, "outputs_there")
+    );
 }
 
 /// A draft that was left is neither used nor removed.
 #[test]
 fn drafts_of_others_stay(rt: HostRuntime) {
-    let left = ["outputs_drafts/file.draft0", "outputs_drafts/file.draft1"];
-    assert!(rt; begins(&rt, "outputs_drafts"));
-    for name in left {
-        assert!(rt; puts(&rt, name, b"left"));
-    }
-    assert!(rt; is_written(&rt, "outputs_drafts/file", b"a signature"));
-    for name in left {
-        assert!(rt; holds(&rt, name, b"left"));
-    }
-    assert!(rt; is_missing(&rt, "outputs_drafts/file.draft2"));
-    assert!(rt; clears(&rt, "outputs_drafts"));
+    let (first, second) = ("outputs_drafts/file.draft0", "outputs_drafts/file.draft1");
+    assert!(rt;
+        begins(&rt, "outputs_drafts")
+            && puts(&rt, first, b"left")
+            && puts(&rt, second, b"left")
+            && is_written(&rt, "outputs_drafts/file", b"a signature")
+            && holds(&rt, first, b"left")
+            && holds(&rt, second, b"left")
+            && is_missing(&rt, "outputs_drafts/file.draft2")
+            && clears(&rt, "outputs_drafts")
+    );
+}
+
+/// Whether a name leads to this file, and nothing is written over it where that was read.
+fn is_unwritten(rt: &HostRuntime, way: &str, id: FileId) -> bool {
+    let read = [id];
+    id_of(rt, way) == Some(id) && !writes(rt, way, b"a signature", &read)
 }
 
 #[test]
 fn what_was_read_is_not_written(rt: HostRuntime) {
-    let name = "outputs_read/file";
-    assert!(rt; begins(&rt, "outputs_read") && puts(&rt, name, b"a message"));
-    assert!(rt; puts(&rt, "outputs_read/other", b"another"));
-    assert!(rt; links(&rt, "file", "outputs_read/link"));
-    assert!(rt; id_of(&rt, "outputs_read").is_none());
-    let Some(id) = id_of(&rt, name) else {
-        assert!(rt; false, "the file has no number");
-        return;
+    let (name, other) = ("outputs_read/file", "outputs_read/other");
+    let is_begun = begins(&rt, "outputs_read")
+        && puts(&rt, name, b"a message")
+        && puts(&rt, other, b"another")
+        && links(&rt, "file", "outputs_read/link")
+        && id_of(&rt, "outputs_read").is_none();
+    let is_kept = match id_of(&rt, name) {
+        Some(id) => {
+            let read = [id];
+            is_unwritten(&rt, name, id)
+                && is_unwritten(&rt, "outputs_read/link", id)
+                && is_unwritten(&rt, "outputs_read/../outputs_read/file", id)
+                && holds(&rt, name, b"a message")
+                && writes(&rt, other, b"a signature", &read)
+        }
+        None => false,
     };
-    for way in [
-        name,
-        "outputs_read/link",
-        "outputs_read/../outputs_read/file",
-    ] {
-        assert!(rt; id_of(&rt, way) == Some(id), "{way}");
-        assert!(rt; !writes(&rt, way, b"a signature", &[id]), "{way}");
-    }
-    assert!(rt; holds(&rt, name, b"a message"));
-    assert!(rt; writes(&rt, "outputs_read/other", b"a signature", &[id]));
-    assert!(rt; writes(&rt, name, b"a signature", &[]));
-    assert!(rt; clears(&rt, "outputs_read"));
+    assert!(rt;
+        is_begun && is_kept && writes(&rt, name, b"a signature", &[]) && clears(&rt, "outputs_read")
+    );
 }

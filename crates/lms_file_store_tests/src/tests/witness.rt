@@ -51,12 +51,14 @@ impl Watched<'_> {
 
     /// Whether a draft is made, and is gone once it is let go.
     fn lets_go(&self, draft: &str) -> bool {
-        let Ok(made) = self.held.draft_witness(self.rt, self.rt.alloc()) else {
-            return false;
-        };
-        let blank = holds(self.rt, draft, &[b' '; 128]);
-        made.discard(self.rt);
-        blank && is_missing(self.rt, draft)
+        match self.held.draft_witness(self.rt, self.rt.alloc()) {
+            Ok(made) => {
+                let blank = holds(self.rt, draft, &[b' '; 128]);
+                made.discard(self.rt);
+                blank && is_missing(self.rt, draft)
+            }
+            Err(_) => false,
+        }
     }
 
     /// Whether one is made in a file of this name, whose path is answered, and is read.
@@ -103,59 +105,82 @@ fn shows(rt: &HostRuntime, name: &str, text: Option<&[u8]>) -> bool {
 #[test]
 fn a_witness_is_read(rt: HostRuntime) -> Result<(), Fail> {
     let name = "witness_read/state.witness";
-    assert!(rt; begins(&rt, "witness_read"));
+    let is_begun = begins(&rt, "witness_read");
     let watched = watched_at(&rt, "witness_read/state")?;
-    assert!(rt; watched.gives_none());
-    assert!(rt; puts(&rt, name, b"a line\n") && watched.gives(b"a line\n"));
-    assert!(rt; puts(&rt, name, b"") && watched.gives(b""));
-    assert!(rt; puts(&rt, name, &[7; 128]) && watched.gives(&[7; 128]));
-    assert!(rt; shows(&rt, "witness_read/state", Some(&[7; 128])));
-    assert!(rt; puts(&rt, name, &[7; 129]) && watched.is_unread());
-    assert!(rt; look_at_witness(&rt, rt.alloc(), "witness_read/state").is_err());
-    assert!(rt; clears(&rt, "witness_read") && begins(&rt, "witness_read"));
-    assert!(rt; links(&rt, "/proc/self/status", name) && watched.is_unread());
-    assert!(rt; clears(&rt, "witness_read"));
+    let is_short_read = watched.gives_none()
+        && puts(&rt, name, b"a line\n")
+        && watched.gives(b"a line\n")
+        && puts(&rt, name, b"")
+        && watched.gives(b"");
+    let is_longest_read = puts(&rt, name, &[7; 128])
+        && watched.gives(&[7; 128])
+        && shows(&rt, "witness_read/state", Some(&[7; 128]));
+    let is_longer_refused = puts(&rt, name, &[7; 129])
+        && watched.is_unread()
+        && look_at_witness(&rt, rt.alloc(), "witness_read/state").is_err()
+        && clears(&rt, "witness_read");
+    let is_unsized_refused = begins(&rt, "witness_read")
+        && links(&rt, "/proc/self/status", name)
+        && watched.is_unread()
+        && clears(&rt, "witness_read");
+    assert!(rt;
+        is_begun && is_short_read && is_longest_read && is_longer_refused && is_unsized_refused
+    );
     Ok(())
 }
 
 #[test]
 fn a_witness_is_replaced(rt: HostRuntime) -> Result<(), Fail> {
     let draft = "witness_next/state.witness.new";
-    assert!(rt; begins(&rt, "witness_next"));
+    let is_begun = begins(&rt, "witness_next");
     let watched = watched_at(&rt, "witness_next/state")?;
-    assert!(rt; watched.takes(b"new") && watched.takes(&[7; 128]) && watched.takes(b""));
-    assert!(rt; is_missing(&rt, draft));
-    assert!(rt; watched.lets_go(draft) && watched.gives(b""));
-    assert!(rt; clears(&rt, "witness_next"));
+    assert!(rt;
+        is_begun
+            && watched.takes(b"new")
+            && watched.takes(&[7; 128])
+            && watched.takes(b"")
+            && is_missing(&rt, draft)
+            && watched.lets_go(draft)
+            && watched.gives(b"")
+            && clears(&rt, "witness_next")
+    );
     Ok(())
 }
 
 /// The link is beside the state that a link leads to, and not beside that link.
 #[test]
 fn a_witness_is_made(rt: HostRuntime) -> Result<(), Fail> {
-    assert!(rt; begins_with_a_link(&rt));
-    let watched = watched_at(&rt, "file_store_links/link")?;
-    assert!(rt; shows(&rt, "file_store_links/link", None));
-    assert!(rt; watched.is_made("file_store_links/file"));
-    assert!(rt; shows(&rt, "file_store_links/link", Some(b"made")));
-    assert!(rt; is_missing(&rt, "file_store_links/link.witness"));
-    assert!(rt; watched.is_unmade("file_store_links/second", ErrorKind::AlreadyExists));
-    assert!(rt; is_missing(&rt, "file_store_links/second"));
-    assert!(rt; watched.takes(b"next") && holds(&rt, "file_store_links/file", b"next"));
-    assert!(rt; clears(&rt, "file_store_links"));
+    let name = "file_store_links/link";
+    let is_begun = begins_with_a_link(&rt);
+    let watched = watched_at(&rt, name)?;
+    assert!(rt;
+        is_begun
+            && shows(&rt, name, None)
+            && watched.is_made("file_store_links/file")
+            && shows(&rt, name, Some(b"made"))
+            && is_missing(&rt, "file_store_links/link.witness")
+            && watched.is_unmade("file_store_links/second", ErrorKind::AlreadyExists)
+            && is_missing(&rt, "file_store_links/second")
+            && watched.takes(b"next")
+            && holds(&rt, "file_store_links/file", b"next")
+            && clears(&rt, "file_store_links")
+    );
     Ok(())
 }
 
 /// Nor is a witness made beside a link that leads nowhere, which may be one.
 #[test]
 fn a_new_witness_replaces_no_link(rt: HostRuntime) -> Result<(), Fail> {
-    assert!(rt; begins(&rt, "witness_new"));
+    let is_begun = begins(&rt, "witness_new");
     let watched = watched_at(&rt, "witness_new/state")?;
-    assert!(rt; links(&rt, "nowhere", "witness_new/state.witness"));
-    assert!(rt; watched.is_unmade("witness_new/other", ErrorKind::AlreadyExists));
-    assert!(rt; is_missing(&rt, "witness_new/other"));
-    assert!(rt; is_missing(&rt, "witness_new/nowhere"));
-    assert!(rt; clears(&rt, "witness_new"));
+    assert!(rt;
+        is_begun
+            && links(&rt, "nowhere", "witness_new/state.witness")
+            && watched.is_unmade("witness_new/other", ErrorKind::AlreadyExists)
+            && is_missing(&rt, "witness_new/other")
+            && is_missing(&rt, "witness_new/nowhere")
+            && clears(&rt, "witness_new")
+    );
     Ok(())
 }
 
@@ -196,10 +221,12 @@ fn a_witness_is_kept_after_refused_memory(rt: HostRuntime) -> Result<(), Fail> {
     let _ = clears(&rt, "witness_memory");
     let _ = makes_folder(&rt, "witness_memory");
     let watched = second_try(&rt, "witness_memory/state")?;
-    assert!(rt; watched.makes_in_two_tries("witness_memory/file"));
-    assert!(rt; watched.gives_in_two_tries(b"made"));
-    assert!(rt; watched.takes_in_two_tries(b"next", b"made"));
-    assert!(rt; watched.gives_in_two_tries(b"next"));
+    assert!(rt;
+        watched.makes_in_two_tries("witness_memory/file")
+            && watched.gives_in_two_tries(b"made")
+            && watched.takes_in_two_tries(b"next", b"made")
+            && watched.gives_in_two_tries(b"next")
+    );
     let _ = clears(&rt, "witness_memory");
     Ok(())
 }

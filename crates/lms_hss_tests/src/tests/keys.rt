@@ -1,9 +1,8 @@
-use crate::tests::{LEVEL, THREE_LEVELS, slow_key};
+//! Keys and their levels.
+use crate::tests::{LEVEL, THREE_LEVELS, signed};
 use lms_fixtures::key_of;
 use lms_hss::{HssKey, KeyFault, Levels, LevelsText, same_key};
 use lms_params::{LmsType, OtsType};
-use lms_slow::slow_public;
-use std::alloc::Global;
 use std::test::Fail;
 
 const TALL: (LmsType, OtsType) = (LmsType::H15, OtsType::W8);
@@ -29,14 +28,10 @@ fn refuses_levels_by_the_first_fault(rt: HostRuntime) {
     }
 }
 
-/// The text of these levels.
-fn text_of(alloc: Global, levels: &[(LmsType, OtsType)]) -> Result<String, Fail> {
-    Ok(format!(in alloc; "{}", LevelsText(levels))?)
-}
-
 #[test]
 fn prints_levels(rt: HostRuntime) -> Result<(), Fail> {
-    assert!(rt; text_of(rt.alloc(), &THREE_LEVELS)?.as_str() == "5/8,5/4,5/2");
+    let text = format!(in rt.alloc(); "{}", LevelsText(&THREE_LEVELS))?;
+    assert!(rt; text.as_str() == "5/8,5/4,5/2");
     Ok(())
 }
 
@@ -70,10 +65,13 @@ const SIZES: [(&[(LmsType, OtsType)], u64, usize); 10] = [
 #[test]
 fn knows_capacities_and_lengths(rt: HostRuntime) -> Result<(), Fail> {
     for (levels, capacity, sig_len) in SIZES {
-        let taken = Levels::new(levels)?;
-        assert_eq!(rt; taken.as_slice(), levels);
         let key = key_of(levels, 0x11)?;
-        assert_eq!(rt; (key.capacity(), key.sig_len()), (capacity, sig_len));
+        assert!(rt;
+            key.levels.as_slice() == levels
+                && key.capacity() == capacity
+                && key.sig_len() == sig_len,
+            "{capacity} {sig_len}"
+        );
     }
     Ok(())
 }
@@ -105,8 +103,7 @@ const PLACES: [(&[(LmsType, OtsType)], u64, [u32; 8]); 11] = [
 fn knows_the_places_of_an_index(rt: HostRuntime) -> Result<(), Fail> {
     for (levels, g, places) in PLACES {
         let key = key_of(levels, 0x11)?;
-        assert!(rt; g < key.capacity());
-        assert_eq!(rt; key.places(g), places, "{g}");
+        assert!(rt; g < key.capacity() && key.places(g) == places, "{g}");
     }
     Ok(())
 }
@@ -114,29 +111,31 @@ fn knows_the_places_of_an_index(rt: HostRuntime) -> Result<(), Fail> {
 #[test]
 fn makes_the_public_key(rt: HostRuntime) -> Result<(), Fail> {
     let public = key_of(&THREE_LEVELS, 0x11)?.public_key(&rt, rt.alloc())?;
-    let slow = slow_public(rt.alloc(), &slow_key(&THREE_LEVELS))?;
-    assert!(rt; public.as_slice() == slow.as_slice());
+    let slow = signed(&rt, &THREE_LEVELS, 0, b"abc")?;
+    assert!(rt; public.as_slice() == slow.public.as_slice());
     Ok(())
 }
 
-/// Keys that are not that of `LEVEL`.
-fn other_keys() -> Result<[HssKey; 5], Fail> {
-    let levels = Levels::new(&[LEVEL])?;
-    Ok([
-        key_of(&[LEVEL; 2], 0x11)?,
-        key_of(&[(LmsType::H5, OtsType::W1)], 0x11)?,
-        key_of(&[(LmsType::H10, OtsType::W8)], 0x11)?,
-        HssKey::new(levels, [0x12; 32], [0x22; 16]),
-        HssKey::new(levels, [0x11; 32], [0x23; 16]),
-    ])
-}
+/// Levels, and a byte of the seed and one of the identifier, of a key that is that of `LEVEL` and
+/// of keys that are not.
+const KEYS: [(&[(LmsType, OtsType)], u8, u8, bool); 6] = [
+    (&[LEVEL], 0x11, 0x22, true),
+    (&[LEVEL; 2], 0x11, 0x22, false),
+    (&[(LmsType::H5, OtsType::W1)], 0x11, 0x22, false),
+    (&[(LmsType::H10, OtsType::W8)], 0x11, 0x22, false),
+    (&[LEVEL], 0x12, 0x22, false),
+    (&[LEVEL], 0x11, 0x23, false),
+];
 
 #[test]
 fn tells_keys_apart(rt: HostRuntime) -> Result<(), Fail> {
     let key = key_of(&[LEVEL], 0x11)?;
-    assert!(rt; same_key(&key, &key_of(&[LEVEL], 0x11)?));
-    for other in other_keys()? {
-        assert!(rt; !same_key(&key, &other) && same_key(&other, &other));
+    for (levels, seed, id, is_same) in KEYS {
+        let other = HssKey::new(Levels::new(levels)?, [seed; 32], [id; 16]);
+        assert!(rt;
+            same_key(&key, &other) == is_same && same_key(&other, &other),
+            "{seed} {id}"
+        );
     }
     Ok(())
 }

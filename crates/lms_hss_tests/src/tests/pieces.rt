@@ -1,10 +1,8 @@
 //! Messages that come in pieces, and messages that another hasher takes.
-use crate::tests::{LEVEL, RANDOMIZER, slow_key, vectors};
+use crate::tests::{LEVEL, signed};
 use lms_hss::{ByEights, ChainEnds, OneByOne, Verifier, verify, verify_with};
-use lms_slow::vectors::Vector;
-use lms_slow::{slow_public, slow_sign};
+use lms_slow::PlantedTexts;
 use sha2::{Digest, Sha256};
-use std::process::Abort;
 use std::test::Fail;
 
 /// The verdict on a message that comes in pieces of this length, after an empty one.
@@ -54,44 +52,18 @@ fn is_verdict_with<C: ChainEnds>(
 }
 
 /// Whether this is the verdict on a message in all ways.
-fn is_verdict(public: &[u8], message: &[u8], signature: &[u8], valid: bool) -> bool {
+pub(super) fn is_verdict(public: &[u8], message: &[u8], signature: &[u8], valid: bool) -> bool {
     verify(public, message, signature) == valid
         && is_verdict_with(public, message, signature, valid, OneByOne)
         && is_verdict_with(public, message, signature, valid, ByEights)
 }
 
-/// A signature by another implementation is valid in all ways, and of its message without the first
-/// byte in none.
-fn check_vector(rt: &(impl Abort + AllocGlobal), vector: Vector) -> Result<(), Fail> {
-    let public = hex::decode(rt.alloc(), vector.public)?;
-    let signature = hex::decode(rt.alloc(), vector.signature)?;
-    let message = vector.message.as_bytes();
-    let shorter = message.get(1..).unwrap_or(&[]);
-    assert!(rt;
-        is_verdict(&public, message, &signature, true),
-        "{message:?}"
-    );
-    assert!(rt;
-        is_verdict(&public, shorter, &signature, false),
-        "{message:?}"
-    );
-    Ok(())
-}
-
-#[test]
-fn gives_one_verdict_in_all_ways(rt: HostRuntime) -> Result<(), Fail> {
-    for vector in vectors() {
-        check_vector(&rt, vector)?;
-    }
-    Ok(())
-}
-
 #[test]
 fn takes_messages_longer_than_a_block(rt: HostRuntime) -> Result<(), Fail> {
-    let key = slow_key(&[LEVEL]);
-    let public = slow_public(rt.alloc(), &key)?;
-    let signature = slow_sign(rt.alloc(), &key, 5, &RANDOMIZER, &[0x5a; 200])?;
-    assert!(rt; is_verdict(&public, &[0x5a; 200], &signature, true));
-    assert!(rt; is_verdict(&public, &[0x5a; 199], &signature, false));
+    let PlantedTexts { public, signature } = signed(&rt, &[LEVEL], 5, &[0x5a; 200])?;
+    assert!(rt;
+        is_verdict(&public, &[0x5a; 200], &signature, true)
+            && is_verdict(&public, &[0x5a; 199], &signature, false)
+    );
     Ok(())
 }

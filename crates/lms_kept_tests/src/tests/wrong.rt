@@ -1,11 +1,9 @@
 //! Bytes with the right check value and wrong nodes, as only a holder of the seed can make them.
-ghost use Rattle.std.specs.Prelude.{◌≡◌, IfOk};
-
-use crate::tests::{QUICK, TALL_ABOVE, compute, expected, moved, signed};
+use crate::tests::{QUICK, TALL_ABOVE, expected, kept_text, moved, signed, taken};
 use lms_fixtures::{Sums, key_of};
 use lms_hss::{HssKey, verify};
 use lms_kept::KeptTrees;
-use lms_params::{LmsType, OtsType};
+use lms_params::OutOfMemory;
 use sha2::{Digest, Sha256};
 use std::process::Abort;
 use std::test::Fail;
@@ -64,6 +62,12 @@ fn set(text: &mut [u8], start: usize, value: &[u8; 32]) {
     }
 }
 
+/// Changes the lowest bit of each of them.
+fn change(text: &mut [u8], start: usize) {
+    let changed = at(text, start).map(|byte| byte ^ 1);
+    set(text, start, &changed);
+}
+
 /// A node over its two children (RFC 8554, 5.3).
 fn node(r: u32, left: &[u8; 32], right: &[u8; 32]) -> [u8; 32] {
     let mut hasher = Sha256::new();
@@ -83,8 +87,7 @@ fn place(r: u32) -> usize {
 
 /// Changes the node of leaf 1 of a top tree of height 5, and all nodes above it with it.
 fn change_consistently(key: &HssKey, text: &mut [u8]) {
-    let changed = at(text, place(33)).map(|byte| byte ^ 1);
-    set(text, place(33), &changed);
+    change(text, place(33));
     for r in [16, 8, 4, 2, 1] {
         let value = node(r, &at(text, place(2 * r)), &at(text, place(2 * r + 1)));
         set(text, place(r), &value);
@@ -94,11 +97,16 @@ fn change_consistently(key: &HssKey, text: &mut [u8]) {
     check_again(key, text);
 }
 
-/// What changed bytes keep, which the key takes.
-fn taken(rt: &impl AllocGlobal, key: HssKey, text: &[u8]) -> Result<KeptTrees, Fail>
-    ensures { IfOk result (λ trees. trees.key ≡ key) }
-{
-    Ok(KeptTrees::read(rt.alloc(), key, text)?.ok_or("the right check value")?)
+/// The signature of `abc` by what these bytes keep, which the key takes, or none where it is not
+/// accepted.
+fn signed_by(
+    rt: &(impl Abort + AllocGlobal),
+    key: HssKey,
+    text: &[u8],
+    g: u64,
+) -> Result<Option<Vec<u8>>, Fail> {
+    let trees = taken(rt, &key, text)?;
+    signed(rt, key, &trees, g)
 }
 
 /// A changed node in a leaf's path makes its signature one that is not accepted, and so none; by
@@ -106,14 +114,19 @@ fn taken(rt: &impl AllocGlobal, key: HssKey, text: &[u8]) -> Result<KeptTrees, F
 #[test]
 fn gives_no_signature_by_a_changed_node(rt: HostRuntime) -> Result<(), Fail> {
     let key = key_of(&[QUICK], 0x11)?;
-    let mut text = compute(&rt, key, 0, &Sums::new())?.text(rt.alloc())?;
-    let changed = at(&text, place(33)).map(|byte| byte ^ 1);
-    set(&mut text, place(33), &changed);
+    let mut text = kept_text(&rt, &key, 0, &Sums::new())?;
+    change(&mut text, place(33));
     check_again(&key, &mut text);
-    let trees = taken(&rt, key, &text)?;
-    assert!(rt; signed(&rt, key, &trees, 0)?.is_none());
-    assert!(rt; signed(&rt, key, &trees, 2)? == Some(expected(&rt, key, 2)?));
+    assert!(rt;
+        signed_by(&rt, key, &text, 0)?.is_none()
+            && signed_by(&rt, key, &text, 2)? == Some(expected(&rt, key, 2)?)
+    );
     Ok(())
+}
+
+/// Whether a signature is one of `abc` under this public key and not under another.
+fn is_under(public: &[u8; 60], other: &[u8; 60], signature: &[u8]) -> bool {
+    verify(public, b"abc", signature) && !verify(other, b"abc", signature)
 }
 
 /// Where all nodes above are changed with it, the worst is a signature that the key's public key
@@ -122,16 +135,19 @@ fn gives_no_signature_by_a_changed_node(rt: HostRuntime) -> Result<(), Fail> {
 fn signs_what_is_refused_at_worst(rt: HostRuntime) -> Result<(), Fail> {
     let key = key_of(&[QUICK], 0x11)?;
     let public = key.public_key(&rt, rt.alloc())?;
-    let mut text = compute(&rt, key, 0, &Sums::new())?.text(rt.alloc())?;
+    let mut text = kept_text(&rt, &key, 0, &Sums::new())?;
     change_consistently(&key, &mut text);
-    let trees = taken(&rt, key, &text)?;
-    assert!(rt; trees.public() != public);
-    let wrong = signed(&rt, key, &trees, 0)?.ok_or("a signature under the changed root")?;
+    let changed = taken(&rt, &key, &text)?.public();
+    let wrong = signed_by(&rt, key, &text, 0)?.ok_or("a signature under the changed root")?;
     let right = expected(&rt, key, 0)?;
-    assert!(rt; verify(&trees.public(), b"abc", &wrong) && !verify(&public, b"abc", &wrong));
-    assert!(rt; verify(&public, b"abc", &right) && !verify(&trees.public(), b"abc", &right));
     // But for the path, which begins after 4 + 4 + 4292 + 4 bytes, it is the right one.
-    assert!(rt; wrong.len() == right.len() && wrong.get(..4304) == right.get(..4304));
+    assert!(rt;
+        changed != public
+            && is_under(&changed, &public, &wrong)
+            && is_under(&public, &changed, &right)
+            && wrong.len() == right.len()
+            && wrong.get(..4304) == right.get(..4304)
+    );
     Ok(())
 }
 
@@ -140,18 +156,21 @@ fn signs_what_is_refused_at_worst(rt: HostRuntime) -> Result<(), Fail> {
 #[test]
 fn signs_the_same_public_keys_at_worst(rt: HostRuntime) -> Result<(), Fail> {
     let key = key_of(&[QUICK; 2], 0x11)?;
-    let mut text = compute(&rt, key, 0, &Sums::new())?.text(rt.alloc())?;
+    let mut text = kept_text(&rt, &key, 0, &Sums::new())?;
     change_consistently(&key, &mut text);
     // Index 64 goes through leaf 2 of the top tree, which has node 16, over the changed leaf, in
     // its path.
-    let trees = moved(&rt, key, taken(&rt, key, &text)?, 64, &Sums::new())?.ok_or(
-        "no subtree above",
-    )?;
-    let wrong = signed(&rt, key, &trees, 64)?.ok_or("a signature under the changed root")?;
+    let trees = moved(&rt, key, &text, 64, &Sums::new())?.ok_or("no subtree above")?;
+    let next = trees.text(rt.alloc())?;
+    drop(trees);
+    let wrong = signed_by(&rt, key, &next, 64)?.ok_or("a signature under the changed root")?;
     let right = expected(&rt, key, 64)?;
-    assert!(rt; wrong.len() == right.len() && wrong != right);
-    assert!(rt; wrong.get(..4304) == right.get(..4304));
-    assert!(rt; wrong.get(4464..) == right.get(4464..));
+    assert!(rt;
+        wrong.len() == right.len()
+            && wrong != right
+            && wrong.get(..4304) == right.get(..4304)
+            && wrong.get(4464..) == right.get(4464..)
+    );
     Ok(())
 }
 
@@ -159,23 +178,28 @@ fn signs_the_same_public_keys_at_worst(rt: HostRuntime) -> Result<(), Fail> {
 #[test]
 fn goes_on_to_no_other_subtree(rt: HostRuntime) -> Result<(), Fail> {
     let key = key_of(&TALL_ABOVE, 0x11)?;
-    let mut text = compute(&rt, key, 0, &Sums::new())?.text(rt.alloc())?;
+    let mut text = kept_text(&rt, &key, 0, &Sums::new())?;
     // Node 33 is the root of the second bottom subtree, whose first leaf index 32768 goes through.
-    let start = TOP + 32 * 32;
-    let changed = at(&text, start).map(|byte| byte ^ 1);
-    set(&mut text, start, &changed);
+    change(&mut text, TOP + 32 * 32);
     check_again(&key, &mut text);
-    assert!(rt; moved(&rt, key, taken(&rt, key, &text)?, 32768, &Sums::new())?.is_none());
-    let beside = moved(&rt, key, taken(&rt, key, &text)?, 131072, &Sums::new())?;
-    assert!(rt; beside.is_some());
+    assert!(rt;
+        moved(&rt, key, &text, 32768, &Sums::new())?.is_none()
+            && moved(&rt, key, &text, 131072, &Sums::new())?.is_some()
+    );
     Ok(())
 }
 
 /// Whether the key takes these bytes once their check value is made anew.
-fn is_taken(rt: &impl AllocGlobal, key: &HssKey, text: &[u8]) -> Result<bool, Fail> {
-    let mut text = Vec::from_slice(rt.alloc(), text)?;
-    check_again(key, &mut text);
-    Ok(KeptTrees::read(rt.alloc(), *key, &text)?.is_some())
+fn is_taken(rt: &impl AllocGlobal, key: &HssKey, text: &mut [u8]) -> Result<bool, OutOfMemory> {
+    check_again(key, text);
+    Ok(KeptTrees::read(rt.alloc(), *key, text)?.is_some())
+}
+
+/// Changes bits of one byte.
+fn flip(text: &mut [u8], at: usize, bits: u8) {
+    if let Some(byte) = text.get_mut(at) {
+        *byte ^= bits;
+    }
 }
 
 /// Other first bytes, another version, an index past the last one, no level, half of one, and more
@@ -183,28 +207,27 @@ fn is_taken(rt: &impl AllocGlobal, key: &HssKey, text: &[u8]) -> Result<bool, Fa
 #[test]
 fn takes_no_other_form(rt: HostRuntime) -> Result<(), Fail> {
     let key = key_of(&[QUICK; 2], 0x11)?;
-    let text = compute(&rt, key, 0, &Sums::new())?.text(rt.alloc())?;
-    assert!(rt; is_taken(&rt, &key, &text)?);
-    for place in [0, 3, 4, 7, 8, 13] {
-        let mut other = Vec::from_slice(rt.alloc(), &text)?;
-        if let Some(byte) = other.get_mut(place) {
-            *byte ^= 4;
-        }
-        assert!(rt; !is_taken(&rt, &key, &other)?, "{place}");
+    let mut text = kept_text(&rt, &key, 0, &Sums::new())?;
+    for (place, bits) in [(0, 0), (0, 4), (3, 4), (4, 4), (7, 4), (8, 4), (13, 4)] {
+        flip(&mut text, place, bits);
+        let is_form = is_taken(&rt, &key, &mut text)?;
+        flip(&mut text, place, bits);
+        assert!(rt; is_form == (bits == 0), "{place}");
     }
+    text.push(0)?;
     // 16 bytes and those of the top tree, each with 32 bytes for the check value.
     for (length, is_form) in [
-        (16, false),
-        (16 + 1024, false),
-        (16 + 2048, true),
-        (16 + 2049, false),
+        (16 + 32, false),
+        (16 + 1024 + 32, false),
+        (16 + 2048 + 32, true),
+        (16 + 2049 + 32, false),
+        (text.len(), false),
     ] {
-        let other = Vec::from_slice(rt.alloc(), text.get(..length + 32).unwrap_or(&[]))?;
-        assert!(rt; other.len() == length + 32);
-        assert!(rt; is_taken(&rt, &key, &other)? == is_form, "{length}");
+        let mut other = Vec::from_slice(rt.alloc(), text.get(..length).unwrap_or(&[]))?;
+        assert!(rt;
+            other.len() == length && is_taken(&rt, &key, &mut other)? == is_form,
+            "{length}"
+        );
     }
-    let mut longer = Vec::from_slice(rt.alloc(), &text)?;
-    longer.push(0)?;
-    assert!(rt; !is_taken(&rt, &key, &longer)?);
     Ok(())
 }

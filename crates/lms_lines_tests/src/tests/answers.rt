@@ -21,9 +21,13 @@ fn batch(alloc: Global) -> Result<Batch, Fail> {
 /// A batch whose second signature is not there.
 fn partial_batch(alloc: Global) -> Result<Batch, Fail> {
     let mut slots = Vec::new(alloc);
-    slots.push(Some([0xab].to_vec(alloc)?))?;
-    slots.push(None)?;
-    slots.push(Some([0].to_vec(alloc)?))?;
+    for signature in [Some(b"\xab".as_slice()), None, Some(b"\x00".as_slice())] {
+        let slot = match signature {
+            Some(bytes) => Some(bytes.to_vec(alloc)?),
+            None => None,
+        };
+        slots.push(slot)?;
+    }
     Ok(Batch::Partial {
         start: u64::MAX,
         slots,
@@ -53,43 +57,41 @@ fn writes_long(alloc: Global, batch: &Batch, length: usize, front: &[u8]) -> boo
 }
 
 #[test]
-fn answers_are_written(rt: HostRuntime) -> Result<(), Fail> {
+fn answers_are_written_and_counted(rt: HostRuntime) -> Result<(), Fail> {
     let alloc = rt.alloc();
-    assert!(rt; writes(alloc, &batch(alloc)?, b"9 0102\n10 \n11 ff\n"));
-    let partial = b"18446744073709551615 ab\n18446744073709551617 00\n";
-    assert!(rt; writes(alloc, &partial_batch(alloc)?, partial));
-    assert!(rt; writes_long(alloc, &long_batch(alloc)?, 5292, b"30 00"));
-    Ok(())
-}
-
-#[test]
-fn signatures_are_counted(rt: HostRuntime) -> Result<(), Fail> {
-    let alloc = rt.alloc();
-    assert!(rt; count_signatures(&batch(alloc)?) == 3);
-    assert!(rt; count_signatures(&partial_batch(alloc)?) == 2);
+    let (whole, partial) = (batch(alloc)?, partial_batch(alloc)?);
+    let text = b"18446744073709551615 ab\n18446744073709551617 00\n";
+    let is_long_written = writes_long(alloc, &long_batch(alloc)?, 5292, b"30 00");
+    assert!(rt;
+        is_long_written
+            && writes(alloc, &whole, b"9 0102\n10 \n11 ff\n")
+            && writes(alloc, &partial, text)
+            && count_signatures(&whole) == 3
+            && count_signatures(&partial) == 2
+    );
     Ok(())
 }
 
 /// Whether a writer that takes so many bytes, one a write, gets as many of the 17 of a text, and a
 /// fault says that they are not all.
-fn writes_a_beginning(alloc: Global, writes: usize, fails: bool) -> Result<bool, Fail> {
-    let batch = batch(alloc)?;
+fn writes_a_beginning(alloc: Global, batch: &Batch, writes: usize, fails: bool) -> bool {
     let mut writer = sink_of(alloc, writes, fails);
-    let answer = write_batch(&mut writer, &batch);
+    let answer = write_batch(&mut writer, batch);
     let wanted = if writes < 17 { Err(WriteFault) } else { Ok(()) };
-    Ok(
-        answer == wanted
-            && b"9 0102\n10 \n11 ff\n".starts_with(&writer.taken)
-            && writer.taken.len() == writes.min(17),
-    )
+    answer == wanted
+        && b"9 0102\n10 \n11 ff\n".starts_with(&writer.taken)
+        && writer.taken.len() == writes.min(17)
 }
 
 #[test]
 fn a_failed_writer_has_a_beginning(rt: HostRuntime) -> Result<(), Fail> {
-    let alloc = rt.alloc();
+    let batch = batch(rt.alloc())?;
     for fails in [false, true] {
         for writes in 0..30 {
-            assert!(rt; writes_a_beginning(alloc, writes, fails)?, "{writes}");
+            assert!(rt;
+                writes_a_beginning(rt.alloc(), &batch, writes, fails),
+                "{writes}"
+            );
         }
     }
     Ok(())

@@ -1,7 +1,5 @@
 //! What no contract says of pieces: that they come as soon as a line's end was read, and are as
 //! large as they may be then.
-ghost use Rattle.std.specs.Prelude.{◌≤◌};
-
 use crate::tests::{line_of_digits, source_of};
 use lms_lines::{JobsFault, Pieces, end_of_lines};
 use std::alloc::Global;
@@ -83,11 +81,9 @@ fn is_next(
     reader: &mut impl Read,
     most: usize,
     expected: (&[u8], usize, bool),
-) -> bool
-    requires { 1 ≤ most }
-{
+) -> bool {
     let (text, lines, is_last) = expected;
-    match pieces.next(alloc, reader, most) {
+    match pieces.next(alloc, reader, most.clamp(1, 1024)) {
         Ok(piece) => {
             piece.text.as_slice() == text && piece.lines == lines && piece.is_last == is_last
         }
@@ -101,39 +97,31 @@ fn cuts_so(
     reader: &mut impl Read,
     most: usize,
     expected: &[(&'static str, usize)],
-) -> Result<bool, JobsFault>
-    requires { 1 ≤ most }
-{
-    let mut pieces = Pieces::new(alloc)?;
-    let mut left = expected.len();
-    let mut is_right = true;
-    for (text, lines) in expected {
-        left = left.saturating_sub(1);
-        let piece = (text.as_bytes(), *lines, left == 0);
-        is_right = is_right && is_next(alloc, &mut pieces, reader, most, piece);
+) -> bool {
+    match Pieces::new(alloc) {
+        Ok(mut pieces) => {
+            let mut left = expected.len();
+            let mut is_right = true;
+            for (text, lines) in expected {
+                left = left.saturating_sub(1);
+                let piece = (text.as_bytes(), *lines, left == 0);
+                is_right = is_right && is_next(alloc, &mut pieces, reader, most, piece);
+            }
+            is_right
+        }
+        Err(_) => false,
     }
-    Ok(is_right)
 }
 
 #[test]
-fn pieces_come_as_they_are_read(rt: HostRuntime) -> Result<(), Fail> {
+fn pieces_come_as_they_are_read(rt: HostRuntime) {
     for (text, step, most, expected) in ROWS {
         let mut source = source_of(text.as_bytes(), step, 100);
         assert!(rt;
-            cuts_so(rt.alloc(), &mut source, most.clamp(1, 1024), expected)?,
+            cuts_so(rt.alloc(), &mut source, most, expected),
             "{text:?} by {step}, {most}"
         );
     }
-    Ok(())
-}
-
-/// So many lines of two bytes.
-fn short_lines(alloc: Global, count: usize) -> Result<Vec<u8>, Fail> {
-    let mut text = Vec::new(alloc);
-    for _ in 0..count {
-        text.extend_from_slice(b"7\n")?;
-    }
-    Ok(text)
 }
 
 /// How many lines and bytes a reader's next piece has, and whether it is the last one.
@@ -146,63 +134,78 @@ fn counts_of_next(
     Ok((piece.lines, piece.text.len(), piece.is_last))
 }
 
-/// Whether so many lines that are read at once are cut after 1024 of them, and what follows is
-/// handed out without another read, which would fail.
-fn cuts_after_most(alloc: Global, lines: usize) -> Result<bool, Fail> {
-    let text = short_lines(alloc, lines)?;
-    let mut source = source_of(&text, 65_536, 1);
-    let mut pieces = Pieces::new(alloc)?;
-    let mut is_right = counts_of_next(alloc, &mut pieces, &mut source) == Ok((1024, 2048, false));
-    if lines > 1024 {
-        let more = lines.saturating_sub(1024);
-        let counts = (more, more.saturating_mul(2), false);
-        is_right = is_right && counts_of_next(alloc, &mut pieces, &mut source) == Ok(counts);
+/// Whether a text of so many lines of two bytes, which is read at once, is cut after 1024 of them,
+/// and what follows is handed out without another read, which would fail.
+fn cuts_after_most(alloc: Global, text: &[u8], lines: usize) -> bool {
+    let mut source = source_of(text, 65_536, 1);
+    match Pieces::new(alloc) {
+        Ok(mut pieces) => {
+            let most = counts_of_next(alloc, &mut pieces, &mut source);
+            let mut is_right = most == Ok((1024, 2048, false));
+            let more = lines.saturating_sub(1024);
+            if more > 0 {
+                let counts = (more, more.saturating_mul(2), false);
+                is_right = is_right
+                    && counts_of_next(alloc, &mut pieces, &mut source) == Ok(counts);
+            }
+            let end = counts_of_next(alloc, &mut pieces, &mut source);
+            is_right && end == Err(JobsFault::Read)
+        }
+        Err(_) => false,
     }
-    let end = counts_of_next(alloc, &mut pieces, &mut source);
-    Ok(is_right && end == Err(JobsFault::Read))
 }
 
 #[test]
 fn many_lines_are_read_at_once(rt: HostRuntime) -> Result<(), Fail> {
     for lines in [1024, 1025, 2000] {
-        assert!(rt; cuts_after_most(rt.alloc(), lines)?, "{lines}");
+        let text = "7\n".repeat(rt.alloc(), lines)?;
+        assert!(rt;
+            cuts_after_most(rt.alloc(), text.as_str().as_bytes(), lines),
+            "{lines}"
+        );
     }
     Ok(())
 }
 
-/// How many pieces a text has before a read of it fails, by three bytes a read, and whether nothing
+/// Whether a text has so many pieces before a read of it fails, by three bytes a read, and nothing
 /// comes in the place of the fault, then and at the next call.
-fn pieces_before_fault(alloc: Global, text: &[u8], reads: usize) -> Result<(usize, bool), Fail> {
+fn has_pieces_before_fault(alloc: Global, text: &[u8], reads: usize, count: usize) -> bool {
     let mut source = source_of(text, 3, reads);
-    let mut pieces = Pieces::new(alloc)?;
-    for count in 0..9 {
-        let found = counts_of_next(alloc, &mut pieces, &mut source);
-        if found.is_err() {
+    match Pieces::new(alloc) {
+        Ok(mut pieces) => {
+            let mut is_right = true;
+            for _ in 0..count {
+                is_right = is_right && counts_of_next(alloc, &mut pieces, &mut source).is_ok();
+            }
+            let found = counts_of_next(alloc, &mut pieces, &mut source);
             let again = counts_of_next(alloc, &mut pieces, &mut source);
             let fault = Err(JobsFault::Read);
-            return Ok((count, found == fault && again == fault));
+            is_right && found == fault && again == fault
         }
+        Err(_) => false,
     }
-    Ok((9, false))
 }
 
 /// The third read gives no end of a line, but the fourth; the fifth gives a line without one, which
 /// is handed out only where the input ends.
 #[test]
-fn a_failed_read_gives_no_piece(rt: HostRuntime) -> Result<(), Fail> {
+fn a_failed_read_gives_no_piece(rt: HostRuntime) {
+    let text = b"1\n2\n3\n45678\n9";
     for (reads, count) in [(0, 0), (1, 1), (2, 2), (3, 2), (4, 3), (5, 3)] {
-        let found = pieces_before_fault(rt.alloc(), b"1\n2\n3\n45678\n9", reads)?;
-        assert!(rt; found == (count, true), "{reads}");
+        assert!(rt;
+            has_pieces_before_fault(rt.alloc(), text, reads, count),
+            "{reads}"
+        );
     }
-    Ok(())
 }
 
 /// Whether the first piece of a text is all of it, one line, and whether the input has ended then.
-fn is_one_line(alloc: Global, text: &[u8], is_last: bool) -> Result<bool, JobsFault> {
+fn is_one_line(alloc: Global, text: &[u8], is_last: bool) -> bool {
     let mut source = source_of(text, 50_000, 9);
-    let mut pieces = Pieces::new(alloc)?;
-    let piece = (text, 1, is_last);
-    Ok(is_next(alloc, &mut pieces, &mut source, 1024, piece))
+    match Pieces::new(alloc) {
+        Ok(mut pieces) => { is_next(alloc, &mut pieces, &mut source, 1024, (text, 1, is_last)) }
+        Err(_) => false,
+    }
 }
 
 /// The first fault of an input.
@@ -216,10 +219,11 @@ fn first_fault(alloc: Global, reader: &mut impl Read) -> Option<JobsFault> {
 /// How many bytes are left of a text, by so many a read, where its first line is refused.
 fn left_of_refused(alloc: Global, text: &[u8], step: usize) -> Option<usize> {
     let mut source = source_of(text, step, 200);
-    if first_fault(alloc, &mut source) != Some(JobsFault::BadJob { line: 1 }) {
-        return None;
+    if first_fault(alloc, &mut source) == Some(JobsFault::BadJob { line: 1 }) {
+        Some(source.rest.len())
+    } else {
+        None
     }
-    Some(source.rest.len())
 }
 
 /// A line of 131,137 bytes is handed out, with or without its end; one of a byte more is refused,
@@ -227,17 +231,23 @@ fn left_of_refused(alloc: Global, text: &[u8], step: usize) -> Option<usize> {
 #[test]
 fn a_line_that_is_too_long_is_refused(rt: HostRuntime) -> Result<(), Fail> {
     let alloc = rt.alloc();
+    let endless = first_fault(alloc, &mut io::repeat(b'7'));
     let mut line = line_of_digits(alloc, 131_072)?;
-    assert!(rt; is_one_line(alloc, &line, false)?);
+    let is_ended = is_one_line(alloc, &line, false);
     let _end = line.pop();
-    assert!(rt; line.len() == 131_137 && is_one_line(alloc, &line, true)?);
+    let is_last = line.len() == 131_137 && is_one_line(alloc, &line, true);
     line.push(b'7')?;
-    assert!(rt; left_of_refused(alloc, &line, 50_000) == Some(0));
+    let left = left_of_refused(alloc, &line, 50_000);
     for _ in 0..9_000 {
         line.push(b'7')?;
     }
-    assert!(rt; left_of_refused(alloc, &line, 1_000) == Some(140_138 - 132_000));
-    assert!(rt; first_fault(alloc, &mut io::repeat(b'7')) == Some(JobsFault::BadJob { line: 1 }));
+    assert!(rt;
+        endless == Some(JobsFault::BadJob { line: 1 })
+            && is_ended
+            && is_last
+            && left == Some(0)
+            && left_of_refused(alloc, &line, 1_000) == Some(140_138 - 132_000)
+    );
     Ok(())
 }
 

@@ -1,4 +1,4 @@
-ghost use Rattle.std.specs.Prelude.{◌≡◌, ◌≤◌};
+ghost use Rattle.std.specs.Prelude.{◌≡◌};
 ghost use Rattle.lms_shared_book.specs.Desks.{BlankFits};
 
 mod kept;
@@ -13,7 +13,6 @@ use lms_params::{LmsType, OtsType};
 use lms_shared_book::{Blanks, BookLedger, Desk, SharedBook};
 use std::alloc::{AllocGlobal, Global};
 use std::marker::Brand;
-use std::process::Abort;
 use std::sync::Wait;
 use std::sync::ledger::{Blank, Ledger};
 use std::test::Fail;
@@ -71,13 +70,10 @@ fn is_answer(text: &[u8], length: usize, index: u64) -> bool {
 }
 
 /// Whether a text has four answer lines of this length, from this index on.
-fn has_four_answers(text: &[u8], length: usize, first: u64) -> bool
-    requires some { 1 ≤ length }
-    requires at_most { length ≤ 20000 }
-{
+fn has_four_answers(text: &[u8], length: usize, first: u64) -> bool {
     let mut index = first;
-    let mut is_right = text.len() == 4 * length;
-    for line in text.chunks(length) {
+    let mut is_right = text.len() == length.saturating_mul(4);
+    for line in text.chunks(length.max(1)) {
         is_right = is_right && is_answer(line, length, index);
         index = index.saturating_add(1);
     }
@@ -103,44 +99,42 @@ fn refuses<E: BookLedger, G: Ledger, B: Ledger>(
     answer == Err(fault) && writer.taken.is_empty() && counts(desk) == before
 }
 
-/// Whether four lines are answered from this index on, by lines of this length.
+/// Whether these four lines are answered from this index on, by lines of this length.
 fn answers_four<E: BookLedger, G: Ledger, B: Ledger>(
     rt: &(impl AllocGlobal + Threads + Wait + Sync),
     service: &SigningService<MemoryStore, E, G, B>,
     desk: &mut Desk<E, G, B>,
+    text: &[u8],
     length: usize,
     first: u64,
-) -> Result<bool, Fail>
-    requires some { 1 ≤ length }
-    requires at_most { length ≤ 20000 }
-{
-    let text = lines(rt.alloc(), 4)?;
+) -> bool {
     let mut writer = sink_of(rt.alloc(), 100_000, true);
-    let done = signed(rt, service, desk, &text, &mut writer);
+    let done = signed(rt, service, desk, text, &mut writer);
     let all = Done {
         signed: 4,
         asked: 4,
     };
-    Ok(done == Ok(all) && has_four_answers(&writer.taken, length, first))
+    done == Ok(all) && has_four_answers(&writer.taken, length, first)
 }
 
-/// Whether a writer that takes 5300 bytes gets the first answer and the beginning of the second.
+/// Whether a writer that takes 5300 bytes gets the first answer to these four lines and the
+/// beginning of the second.
 fn writes_a_beginning<E: BookLedger, G: Ledger, B: Ledger>(
     rt: &(impl AllocGlobal + Threads + Wait + Sync),
     service: &SigningService<MemoryStore, E, G, B>,
     desk: &mut Desk<E, G, B>,
+    text: &[u8],
     first: u64,
     fails: bool,
-) -> Result<bool, Fail> {
-    let text = lines(rt.alloc(), 4)?;
+) -> bool {
     let mut writer = sink_of(rt.alloc(), 5300, fails);
-    let answer = signed(rt, service, desk, &text, &mut writer);
+    let answer = signed(rt, service, desk, text, &mut writer);
     let (line, more) = writer.taken.split_at(writer.taken.len().min(LINE));
     let second = first.saturating_add(1);
     let is_beginning = is_answer(line, LINE, first)
         && begins_answer(more, second)
         && more.len() == 8;
-    Ok(answer == Err(LinesFault::Write) && is_beginning)
+    answer == Err(LinesFault::Write) && is_beginning
 }
 
 /// Whether no line is signed where the text can't be read past so many blocks, and nothing is
@@ -160,54 +154,69 @@ fn is_unread<E: BookLedger, G: Ledger, B: Ledger>(
     answer == Err(fault) && writer.taken.is_empty() && counts(desk) == before
 }
 
-/// Whether no line of four is signed where the text can't be read, from the first block or a later
-/// one on.
+/// Whether none of these four lines is signed where the text can't be read, from the first block or
+/// a later one on.
 fn is_never_signed_unread<E: BookLedger, G: Ledger, B: Ledger>(
     rt: &(impl AllocGlobal + Threads + Wait + Sync),
     service: &SigningService<MemoryStore, E, G, B>,
     desk: &mut Desk<E, G, B>,
-) -> Result<bool, Fail> {
-    let text = lines(rt.alloc(), 4)?;
+    text: &[u8],
+) -> bool {
     let mut is_right = true;
     for reads in 0..5 {
-        is_right = is_right && is_unread(rt, service, desk, &text, reads);
+        is_right = is_right && is_unread(rt, service, desk, text, reads);
     }
-    Ok(is_right)
+    is_right
 }
 
-/// Whether more lines than the key has indices are refused, from index 46 on.
-fn refuses_too_many<E: BookLedger, G: Ledger, B: Ledger>(
+/// Whether lines are signed from index 30 on, and more lines than the key has indices are refused,
+/// from index 46 on.
+fn sign_batches<E: BookLedger, G: Ledger, B: Ledger>(
     rt: &(impl AllocGlobal + Threads + Wait + Sync),
     service: &SigningService<MemoryStore, E, G, B>,
     desk: &mut Desk<E, G, B>,
 ) -> Result<bool, Fail> {
-    let many = lines(rt.alloc(), 1024)?;
+    let bad = LinesFault::Jobs(JobsFault::BadJob { line: 1 });
     let exhausted = LinesFault::Batch(BatchFault::Book(BookFault::Exhausted { left: 978 }));
-    Ok(refuses(rt, service, desk, &many, exhausted))
+    let four = lines(rt.alloc(), 4)?;
+    let many = lines(rt.alloc(), 1024)?;
+    Ok(
+        refuses(rt, service, desk, b"\n", bad)
+            && is_never_signed_unread(rt, service, desk, &four)
+            && writes_a_beginning(rt, service, desk, &four, 30, true)
+            && answers_four(rt, service, desk, &four, LINE, 34)
+            && writes_a_beginning(rt, service, desk, &four, 38, false)
+            && answers_four(rt, service, desk, &four, LINE, 42)
+            && refuses(rt, service, desk, &many, exhausted)
+            && counts(desk) == (4, 16, 0),
+    )
 }
 
-/// Signs lines from index 30 on.
-fn sign_batches<E: BookLedger, G: Ledger, B: Ledger>(
-    rt: &(impl Abort + AllocGlobal + Threads + Wait + Sync),
+/// Whether a writer that fails after so many writes, or takes nothing, has a beginning of these
+/// answers to four lines, and all of them where it takes as many writes as they are.
+fn leaves_a_beginning<E: BookLedger, G: Ledger, B: Ledger>(
+    rt: &(impl AllocGlobal + Threads + Wait + Sync),
     service: &SigningService<MemoryStore, E, G, B>,
     desk: &mut Desk<E, G, B>,
-) -> Result<(), Fail> {
-    let bad = LinesFault::Jobs(JobsFault::BadJob { line: 1 });
-    assert!(rt; refuses(rt, service, desk, b"\n", bad));
-    assert!(rt; is_never_signed_unread(rt, service, desk)?);
-    assert!(rt; writes_a_beginning(rt, service, desk, 30, true)?);
-    assert!(rt; answers_four(rt, service, desk, LINE, 34)?);
-    assert!(rt; writes_a_beginning(rt, service, desk, 38, false)?);
-    assert!(rt; answers_four(rt, service, desk, LINE, 42)?);
-    assert!(rt; refuses_too_many(rt, service, desk)?);
-    assert!(rt; counts(desk) == (4, 16, 0));
-    Ok(())
+    text: &[u8],
+    answers: &[u8],
+    writes: usize,
+    fails: bool,
+) -> bool {
+    let mut writer = sink_of(rt.alloc(), writes, fails);
+    writer.most = CHEAP_LINE;
+    let answer = signed(rt, service, desk, text, &mut writer);
+    let is_as_wanted = if writes < CHEAP_WRITES {
+        answer == Err(LinesFault::Write)
+    } else {
+        answer.is_ok() && writer.taken.len() == answers.len()
+    };
+    is_as_wanted && answers.starts_with(&writer.taken)
 }
 
-/// Whether a writer that fails after so many writes, or takes nothing, has a beginning of the
-/// answers to four lines from index 30 on, and all of them where it takes as many writes as they
-/// are.
-fn leaves_a_beginning<E: BookLedger, G: Ledger, B: Ledger>(
+/// Whether a writer that fails after so many writes, or takes nothing, has a beginning of the answers
+/// to four lines from index 30 on, and the next four lines are answered from index 34 on.
+fn fail_to_write<E: BookLedger, G: Ledger, B: Ledger>(
     rt: &(impl AllocGlobal + Threads + Wait + Sync),
     service: &SigningService<MemoryStore, E, G, B>,
     desk: &mut Desk<E, G, B>,
@@ -216,44 +225,17 @@ fn leaves_a_beginning<E: BookLedger, G: Ledger, B: Ledger>(
 ) -> Result<bool, Fail> {
     let answers = memory::four_answers(rt, service.key())?;
     let text = lines(rt.alloc(), 4)?;
-    let mut writer = sink_of(rt.alloc(), writes, fails);
-    writer.most = CHEAP_LINE;
-    let answer = signed(rt, service, desk, &text, &mut writer);
-    let is_as_wanted = if writes < CHEAP_WRITES {
-        answer == Err(LinesFault::Write)
-    } else {
-        answer.is_ok() && writer.taken.len() == answers.len()
-    };
-    Ok(is_as_wanted && answers.starts_with(&writer.taken))
+    let is_begun = leaves_a_beginning(rt, service, desk, &text, &answers, writes, fails);
+    Ok(is_begun && answers_four(rt, service, desk, &text, CHEAP_LINE, 34))
 }
 
-/// Signs four lines from index 30 on to a writer that fails after so many writes, or takes nothing:
-/// it has a beginning of the answers, and the next four lines are answered from index 34 on.
-fn fail_to_write<E: BookLedger, G: Ledger, B: Ledger>(
-    rt: &(impl Abort + AllocGlobal + Threads + Wait + Sync),
-    service: &SigningService<MemoryStore, E, G, B>,
-    desk: &mut Desk<E, G, B>,
-    writes: usize,
-    fails: bool,
-) -> Result<(), Fail> {
-    assert!(rt;
-        leaves_a_beginning(rt, service, desk, writes, fails)?,
-        "{writes}"
-    );
-    assert!(rt;
-        answers_four(rt, service, desk, CHEAP_LINE, 34)?,
-        "{writes}"
-    );
-    Ok(())
-}
-
-/// Carries a scenario out with the first of these desks.
+/// Whether a scenario that is carried out with the first of these desks ends as it says.
 fn carry_on<E: BookLedger, G: Ledger, B: Ledger>(
-    rt: &(impl Abort + AllocGlobal + Threads + Wait + Sync),
+    rt: &(impl AllocGlobal + Threads + Wait + Sync),
     service: SigningService<MemoryStore, E, G, B>,
     desks: Vec<Desk<E, G, B>>,
     scenario: Scenario,
-) -> Result<(), Fail> {
+) -> Result<bool, Fail> {
     let mut desks = desks;
     let Some(desk) = desks.first_mut() else {
         return Err(Fail::from("a desk"));
@@ -261,20 +243,23 @@ fn carry_on<E: BookLedger, G: Ledger, B: Ledger>(
     match scenario {
         Scenario::Batches => sign_batches(rt, &service, desk),
         Scenario::Pieces => kept::sign_pieces(rt, &service, desk),
-        Scenario::RefusedMemory => memory::sign_four(rt, service, desks),
+        Scenario::RefusedMemory => {
+            let used = memory::sign_from_30(rt, &service, desk)?;
+            Ok(memory::has_used(service, desks, used))
+        }
         Scenario::FailedWriter { writes, fails } => {
             fail_to_write(rt, &service, desk, writes, fails)
         }
     }
 }
 
-/// Shares a book, and carries the scenario out.
+/// Shares a book, and says whether the scenario, carried out with that, ends as it says.
 fn carried_out<E: BookLedger, G: Ledger, B: Ledger>(
-    rt: &(impl Abort + AllocGlobal + Threads + Wait + Sync),
+    rt: &(impl AllocGlobal + Threads + Wait + Sync),
     book: Book<MemoryStore>,
     blanks: Blanks,
     scenario: Scenario,
-) -> Result<(), Fail>
+) -> Result<bool, Fail>
     requires same { book ≡ E.book }
     requires entries { BlankFits blanks.entries E.name E.parts 2 }
     requires received { BlankFits blanks.received G.name G.parts 2 }
@@ -290,12 +275,13 @@ fn carried_out<E: BookLedger, G: Ledger, B: Ledger>(
     }
 }
 
-/// Carries a scenario out with a key of these levels whose next index is 30.
+/// Whether a scenario that is carried out with a key of these levels, whose next index is 30, ends as
+/// it says.
 fn carry_out(
-    rt: &(impl Abort + AllocGlobal + Threads + Wait + Sync),
+    rt: &(impl AllocGlobal + Threads + Wait + Sync),
     levels: &[(LmsType, OtsType)],
     scenario: Scenario,
-) -> Result<(), Fail> {
+) -> Result<bool, Fail> {
     let book = book_at(rt.alloc(), key_of(levels, 0x11)?, 30)?;
     let blanks = Blanks {
         entries: Blank::new(2),
@@ -307,7 +293,8 @@ fn carry_out(
 
 #[test]
 fn lines_are_signed(rt: HostRuntime) -> Result<(), Fail> {
-    carry_out(&rt, &LEVELS, Scenario::Batches)
+    assert!(rt; carry_out(&rt, &LEVELS, Scenario::Batches)?);
+    Ok(())
 }
 
 /// Each write of four answers fails in turn.
@@ -315,7 +302,8 @@ fn lines_are_signed(rt: HostRuntime) -> Result<(), Fail> {
 fn each_failed_write_leaves_a_beginning(rt: HostRuntime) -> Result<(), Fail> {
     for writes in 0..=CHEAP_WRITES {
         for fails in [true, false] {
-            carry_out(&rt, &CHEAP, Scenario::FailedWriter { writes, fails })?;
+            let scenario = Scenario::FailedWriter { writes, fails };
+            assert!(rt; carry_out(&rt, &CHEAP, scenario)?, "{writes}");
         }
     }
     Ok(())

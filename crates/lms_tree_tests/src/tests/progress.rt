@@ -26,9 +26,9 @@ fn each_leaf_is_reported_once(rt: HostRuntime) -> Result<(), Fail> {
     for (lms, first, last, leaves) in [(LmsType::H5, 3, 7, 32), (LmsType::H15, 1023, 1024, 32768)] {
         let sums = Sums::new();
         let begun = Begun::new(&sums, leaves);
-        assert!(rt; sums.leaves_are(leaves, 0));
+        let is_begun = sums.leaves_are(leaves, 0);
         drop(built(&rt, lms, first, last, &begun)?);
-        assert!(rt; sums.leaves_are(leaves, leaves));
+        assert!(rt; is_begun && sums.leaves_are(leaves, leaves), "{leaves}");
     }
     Ok(())
 }
@@ -37,8 +37,9 @@ fn each_leaf_is_reported_once(rt: HostRuntime) -> Result<(), Fail> {
 #[test]
 fn no_leaf_is_computed_where_memory_is_refused(rt: HostRuntime) {
     let sums = Sums::new();
-    match built(&rt, LmsType::H5, 3, 9, &Begun::new(&sums, 32)) {
-        Ok(_) => assert!(rt; sums.leaves_are(32, 32)),
-        Err(OutOfMemory) => assert!(rt; sums.leaves_are(32, 0)),
-    }
+    let computed = match built(&rt, LmsType::H5, 3, 9, &Begun::new(&sums, 32)) {
+        Ok(_) => 32,
+        Err(OutOfMemory) => 0,
+    };
+    assert!(rt; sums.leaves_are(32, computed));
 }

@@ -6,7 +6,7 @@ ghost use Rattle.lms_world.specs.Files.{held_in, nodes_fault_in, nodes_in, used_
 
 use super::MemoryWorld;
 use crate::fault::WorldFault;
-use lms_file_store::MOST_WITNESS;
+use lms_files::MOST_WITNESS;
 use std::alloc::Global;
 
 /// The lock of the state in memory, whatever its name. Only a world gives one.

@@ -21,14 +21,15 @@ fn shows(alloc: Global, bytes: &[u8], line: &[u8]) -> bool {
 #[test]
 fn a_note_is_a_line(rt: HostRuntime) -> Result<(), Fail> {
     let alloc = rt.alloc();
-    assert!(rt; shows(alloc, b"", b""));
-    assert!(rt; shows(alloc, b"a ~\n\x1f\x7f\xc3", b"note: a ~????\n"));
     let long = "n".repeat(alloc, 193)?;
-    let mut line = String::from_str(alloc, "note: ")?;
-    line.push_str(long.as_str())?;
-    line.push_str("\n")?;
-    assert!(rt; shows(alloc, long.as_str().as_bytes(), line.as_str().as_bytes()));
-    assert!(rt; shows(alloc, &[b'n'; 194], line.as_str().as_bytes()));
+    let text = long.as_str();
+    let line = format!(in alloc; "note: {text}\n")?;
+    assert!(rt;
+        shows(alloc, b"", b"")
+            && shows(alloc, b"a ~\n\x1f\x7f\xc3", b"note: a ~????\n")
+            && shows(alloc, text.as_bytes(), line.as_str().as_bytes())
+            && shows(alloc, &[b'n'; 194], line.as_str().as_bytes())
+    );
     Ok(())
 }
 
@@ -43,33 +44,25 @@ fn refuses(alloc: Global, reason: &io::Error, file: &[u8], lock: &[u8]) -> bool 
 
 #[test]
 fn a_refusal_is_told(rt: HostRuntime) {
-    let missing = io::Error::from_raw_os_error(2);
-    assert!(rt;
-        refuses(
-            rt.alloc(),
-            &missing,
-            b"note: file: No such file or directory\n",
-            b"note: state.lock can't be made: No such file or directory\n"
-        )
+    let missing = refuses(
+        rt.alloc(),
+        &io::Error::from_raw_os_error(2),
+        b"note: file: No such file or directory\n",
+        b"note: state.lock can't be made: No such file or directory\n",
     );
-    let forbidden = io::Error::from_raw_os_error(13);
-    assert!(rt;
-        refuses(
-            rt.alloc(),
-            &forbidden,
-            b"note: file: Permission denied\n",
-            b"note: state.lock can't be made: Permission denied; sign as the state's owner\n"
-        )
+    let forbidden = refuses(
+        rt.alloc(),
+        &io::Error::from_raw_os_error(13),
+        b"note: file: Permission denied\n",
+        b"note: state.lock can't be made: Permission denied; sign as the state's owner\n",
     );
-    let held = io::Error::new(ErrorKind::WouldBlock, "held");
-    assert!(rt;
-        refuses(
-            rt.alloc(),
-            &held,
-            b"note: file: held\n",
-            b"note: another run holds state.lock; wait for it, and never remove it\n"
-        )
+    let held = refuses(
+        rt.alloc(),
+        &io::Error::new(ErrorKind::WouldBlock, "held"),
+        b"note: file: held\n",
+        b"note: another run holds state.lock; wait for it, and never remove it\n",
     );
+    assert!(rt; missing && forbidden && held);
 }
 
 #[test]
@@ -77,9 +70,9 @@ fn long_names_are_cut(rt: HostRuntime) -> Result<(), Fail> {
     let mut note = Note::new();
     let name = "\u{e4}".repeat(rt.alloc(), 60)?;
     note.refuse(name.as_str(), &io::Error::new(ErrorKind::Other, "why"));
-    let mut line = String::from_str(rt.alloc(), "note: ...")?;
-    line.push_str("?".repeat(rt.alloc(), 80)?.as_str())?;
-    line.push_str(": why\n")?;
+    let marks = "?".repeat(rt.alloc(), 80)?;
+    let cut = marks.as_str();
+    let line = format!(in rt.alloc(); "note: ...{cut}: why\n")?;
     assert!(rt; prints(rt.alloc(), &note, line.as_str().as_bytes()));
     Ok(())
 }
@@ -87,8 +80,8 @@ fn long_names_are_cut(rt: HostRuntime) -> Result<(), Fail> {
 #[test]
 fn a_world_is_explained(rt: HostRuntime) {
     let mut world = MemoryWorld::new(rt.alloc());
-    assert!(rt; world.note().is_empty());
+    let is_empty = world.note().is_empty();
     world.explain("index ");
     world.explain(format_args!("{} is used", 3));
-    assert!(rt; prints(rt.alloc(), world.note(), b"note: index 3 is used\n"));
+    assert!(rt; is_empty && prints(rt.alloc(), world.note(), b"note: index 3 is used\n"));
 }

@@ -1,11 +1,9 @@
 //! Files that a disk gives away.
-use super::{empty_folder, holds, reads, writes};
+use super::{begins, clears, holds, reads, writes};
 use lms_disk::DiskWorld;
 use lms_world::World;
 use std::alloc::Global;
-use std::fs;
 use std::os::unix::fs::symlink;
-use std::test::Fail;
 
 /// Whether a world writes a file and reads it, and then writes it by neither of two names, but another.
 fn keeps_what_it_read<W: World>(alloc: Global, world: &mut W, names: [&str; 3]) -> bool {
@@ -17,16 +15,20 @@ fn keeps_what_it_read<W: World>(alloc: Global, world: &mut W, names: [&str; 3]) 
 }
 
 #[test]
-fn what_was_read_stays(rt: HostRuntime) -> Result<(), Fail> {
+fn what_was_read_stays(rt: HostRuntime) {
     let names = [
         "disk_world_read/file",
         "disk_world_read/link",
         "disk_world_read/other",
     ];
-    empty_folder(&rt, "disk_world_read")?;
-    symlink(&rt, "file", "disk_world_read/link")?;
-    assert!(rt; keeps_what_it_read(rt.alloc(), &mut DiskWorld::new(rt.alloc(), &rt), names));
-    assert!(rt; holds(&rt, names[0], b"a message") && holds(&rt, names[2], b"a signature"));
-    fs::remove_dir_all(&rt, "disk_world_read")?;
-    Ok(())
+    let is_begun = begins(&rt, "disk_world_read")
+        && symlink(&rt, "file", "disk_world_read/link").is_ok();
+    let is_kept = keeps_what_it_read(rt.alloc(), &mut DiskWorld::new(rt.alloc(), &rt), names);
+    assert!(rt;
+        is_begun
+            && is_kept
+            && holds(&rt, names[0], b"a message")
+            && holds(&rt, names[2], b"a signature")
+            && clears(&rt, "disk_world_read")
+    );
 }

@@ -58,20 +58,34 @@ fn look(alloc: Global, world: &mut MemoryWorld, lock: &MemoryLock, round: &Round
     let _ = world.read_nodes(alloc, lock, usize::MAX);
 }
 
+/// Replaces the state of a lock.
+fn replaces(alloc: Global, world: &mut MemoryWorld, lock: &MemoryLock, state: &[u8]) -> bool {
+    match world.take_store(alloc, lock) {
+        Ok(mut store) => {
+            let replaced = store.replace(state).is_ok();
+            world.put_back(lock, store);
+            replaced
+        }
+        Err(_) => false,
+    }
+}
+
 /// Makes the calls of a round. The file of the name `broken` can't be written meanwhile.
-fn play(alloc: Global, world: &mut MemoryWorld, round: &Round) -> Result<bool, Fail> {
+fn play(alloc: Global, world: &mut MemoryWorld, round: &Round) -> bool {
     let written = flushes(alloc, world, round.name, b"older")
         && writes(alloc, world, round.name, round.file);
     let refused = !writes(alloc, world, "broken", round.file)
         && !flushes(alloc, world, "broken", round.file);
-    let lock = world.lock(alloc, "state")?;
-    look(alloc, world, &lock, round);
-    let mut store = world.take_store(alloc, &lock)?;
-    let replaced = store.replace(round.state).is_ok();
-    world.put_back(&lock, store);
-    let kept = world.write_nodes(alloc, &lock, round.nodes).is_ok();
-    world.unlock(lock);
-    Ok(written && refused && replaced && kept)
+    match world.lock(alloc, "state") {
+        Ok(lock) => {
+            look(alloc, world, &lock, round);
+            let replaced = replaces(alloc, world, &lock, round.state);
+            let kept = world.write_nodes(alloc, &lock, round.nodes).is_ok();
+            world.unlock(lock);
+            written && refused && replaced && kept
+        }
+        Err(_) => false,
+    }
 }
 
 /// Whether the file of a name can be read, and holds these bytes, or can't where there are none.
@@ -102,8 +116,11 @@ fn a_world_ends_as_its_calls_say(rt: HostRuntime) -> Result<(), Fail> {
     let mut world = MemoryWorld::new(rt.alloc());
     world.fail("broken", WorldFault::Device)?;
     for (at, round) in ROUNDS.iter().enumerate() {
-        assert!(rt; play(rt.alloc(), &mut world, round)?);
-        assert!(rt; is_after(rt.alloc(), &mut world, &ROUNDS[..=at], round));
+        let played = play(rt.alloc(), &mut world, round);
+        assert!(rt;
+            played && is_after(rt.alloc(), &mut world, &ROUNDS[..=at], round),
+            "{at}"
+        );
     }
     Ok(())
 }
@@ -120,10 +137,9 @@ fn lock_fault(alloc: Global, world: &mut MemoryWorld) -> Option<LockFault> {
 }
 
 #[test]
-fn a_state_in_use_is_not_locked(rt: HostRuntime) -> Result<(), Fail> {
+fn a_state_in_use_is_not_locked(rt: HostRuntime) {
     let mut world = MemoryWorld::new(rt.alloc());
-    assert!(rt; lock_fault(rt.alloc(), &mut world).is_none());
+    let is_locked = lock_fault(rt.alloc(), &mut world).is_none();
     world.use_elsewhere();
-    assert!(rt; lock_fault(rt.alloc(), &mut world) == Some(LockFault::InUse));
-    Ok(())
+    assert!(rt; is_locked && lock_fault(rt.alloc(), &mut world) == Some(LockFault::InUse));
 }

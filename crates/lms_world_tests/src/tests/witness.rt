@@ -1,5 +1,5 @@
 //! The witness of a state, on a disk and in memory.
-use super::{PoorFiles, empty_folder, holds, writes};
+use super::{PoorFiles, begins, clears, holds, lends_a_store, puts, writes};
 use lms_disk::DiskWorld;
 use lms_world::{MemoryWorld, World, WorldFault};
 use std::alloc::Global;
@@ -56,48 +56,51 @@ fn making_fault<W: World>(
     world.make_witness(alloc, lock, name, text).err()
 }
 
+const FOLDER: &str = "disk_world_witness";
+
+const STATE: &str = "disk_world_witness/state";
+
+const WITNESS: &str = "disk_world_witness/state.witness";
+
 const FILE: &str = "disk_world_witness/file";
 
 const OTHER: &str = "disk_world_witness/other";
 
 /// Whether the state of a name has no witness until one is made, once, which is replaced after that.
-fn has_one<W: World>(alloc: Global, world: &mut W, name: &str, left: &[u8]) -> Result<bool, Fail> {
-    let lock = world.lock(alloc, name)?;
-    let none = gives(alloc, world, &lock, None);
-    let made = making_fault(alloc, world, &lock, FILE, b"made").is_none();
-    let once = making_fault(alloc, world, &lock, OTHER, b"other") == Some(WorldFault::Device);
-    let stays = lets_go(alloc, world, &lock, b"made");
-    let replaced = takes(alloc, world, &lock, b"") && takes(alloc, world, &lock, left);
-    let seen = shows(alloc, world, name, left);
-    world.unlock(lock);
-    Ok(none && made && once && stays && replaced && seen)
+fn has_one<W: World>(alloc: Global, world: &mut W, name: &str, left: &[u8]) -> bool {
+    match world.lock(alloc, name) {
+        Ok(lock) => {
+            let none = gives(alloc, world, &lock, None);
+            let made = making_fault(alloc, world, &lock, FILE, b"made").is_none();
+            let once = making_fault(alloc, world, &lock, OTHER, b"other")
+                == Some(WorldFault::Device);
+            let stays = lets_go(alloc, world, &lock, b"made");
+            let replaced = takes(alloc, world, &lock, b"") && takes(alloc, world, &lock, left);
+            let seen = shows(alloc, world, name, left);
+            world.unlock(lock);
+            none && made && once && stays && replaced && seen
+        }
+        Err(_) => false,
+    }
 }
 
 #[test]
-fn a_witness_is_kept_on_a_disk(rt: HostRuntime) -> Result<(), Fail> {
-    empty_folder(&rt, "disk_world_witness")?;
-    let mut world = DiskWorld::new(rt.alloc(), &rt);
-    assert!(rt;
-        has_one(
-            rt.alloc(),
-            &mut world,
-            "disk_world_witness/state",
-            b"a line"
-        )?
+fn a_witness_is_kept_on_a_disk(rt: HostRuntime) {
+    let is_begun = begins(&rt, FOLDER);
+    let is_kept = has_one(
+        rt.alloc(),
+        &mut DiskWorld::new(rt.alloc(), &rt),
+        STATE,
+        b"a line",
     );
-    assert!(rt; holds(&rt, FILE, b"a line"));
-    assert!(rt; holds(&rt, "disk_world_witness/state.witness", b"a line"));
-    assert!(rt; fs::metadata(&rt, OTHER).is_err());
-    fs::remove_dir_all(&rt, "disk_world_witness")?;
-    Ok(())
-}
-
-/// Whether the witness in a world is these bytes.
-fn has(world: &MemoryWorld, text: &[u8]) -> bool {
-    match world.witness() {
-        Some(found) => found == text,
-        None => false,
-    }
+    assert!(rt;
+        is_begun
+            && is_kept
+            && holds(&rt, FILE, b"a line")
+            && holds(&rt, WITNESS, b"a line")
+            && fs::metadata(&rt, OTHER).is_err()
+            && clears(&rt, FOLDER)
+    );
 }
 
 /// Whether a world in memory gives what was set, also once a file, nodes and the state were written.
@@ -108,35 +111,33 @@ fn gives_what_was_set(alloc: Global) -> Result<bool, Fail> {
     let written = writes(alloc, &mut world, "file", b"bytes");
     let lock = world.lock(alloc, "state")?;
     let kept = world.write_nodes(alloc, &lock, b"nodes").is_ok();
-    let store = world.take_store(alloc, &lock)?;
-    world.put_back(&lock, store);
-    let done = none && written && kept;
-    Ok(done && gives(alloc, &mut world, &lock, Some(b"set")) && has(&world, b"set"))
+    let lent = lends_a_store(alloc, &mut world, &lock);
+    let given = none && written && kept && lent && gives(alloc, &mut world, &lock, Some(b"set"));
+    Ok(given && world.witness() == Some(b"set".as_slice()))
 }
 
 #[test]
 fn a_witness_is_kept_in_memory(rt: HostRuntime) -> Result<(), Fail> {
+    let is_given = gives_what_was_set(rt.alloc())?;
     let mut world = MemoryWorld::new(rt.alloc());
-    assert!(rt; has_one(rt.alloc(), &mut world, "state", b"a line")?);
-    assert!(rt; has(&world, b"a line"));
-    assert!(rt; gives_what_was_set(rt.alloc())?);
+    let is_kept = has_one(rt.alloc(), &mut world, "state", b"a line");
+    assert!(rt; is_given && is_kept && world.witness() == Some(b"a line".as_slice()));
     Ok(())
 }
 
 /// Whether the witness of the state of a name can't be read, drafted or made, by this fault.
-fn fails<W: World>(
-    alloc: Global,
-    world: &mut W,
-    name: &str,
-    fault: WorldFault,
-) -> Result<bool, Fail> {
-    let lock = world.lock(alloc, name)?;
-    let unread = world.read_witness(alloc, &lock).err() == Some(fault)
-        && world.look_at_witness(alloc, name).err() == Some(fault);
-    let undrafted = world.draft_witness(alloc, &lock).err() == Some(fault);
-    let unmade = making_fault(alloc, world, &lock, FILE, b"made") == Some(fault);
-    world.unlock(lock);
-    Ok(unread && undrafted && unmade)
+fn fails<W: World>(alloc: Global, world: &mut W, name: &str, fault: WorldFault) -> bool {
+    match world.lock(alloc, name) {
+        Ok(lock) => {
+            let unread = world.read_witness(alloc, &lock).err() == Some(fault)
+                && world.look_at_witness(alloc, name).err() == Some(fault);
+            let undrafted = world.draft_witness(alloc, &lock).err() == Some(fault);
+            let unmade = making_fault(alloc, world, &lock, FILE, b"made") == Some(fault);
+            world.unlock(lock);
+            unread && undrafted && unmade
+        }
+        Err(_) => false,
+    }
 }
 
 /// Whether each call on a witness that was set fails so where that was planned, also the one by a draft
@@ -148,58 +149,59 @@ fn fails_as_planned(alloc: Global, fault: WorldFault) -> Result<bool, Fail> {
     let draft = world.draft_witness(alloc, &lock)?;
     world.fail_witness(fault);
     let unplaced = world.place_witness(draft, b"new") == Err(fault);
-    Ok(unplaced && world.witness().is_none() && fails(alloc, &mut world, "state", fault)?)
+    Ok(unplaced && world.witness().is_none() && fails(alloc, &mut world, "state", fault))
 }
 
 #[test]
 fn a_witness_fails_in_memory(rt: HostRuntime) -> Result<(), Fail> {
-    assert!(rt; fails_as_planned(rt.alloc(), WorldFault::Device)?);
-    assert!(rt; fails_as_planned(rt.alloc(), WorldFault::OutOfMemory)?);
+    for fault in [WorldFault::Device, WorldFault::OutOfMemory] {
+        assert!(rt; fails_as_planned(rt.alloc(), fault)?, "{fault:?}");
+    }
     Ok(())
 }
 
 /// A link leads nowhere, so that the witness is out of reach, and no other is made.
 #[test]
-fn a_witness_fails_on_a_disk(rt: HostRuntime) -> Result<(), Fail> {
-    empty_folder(&rt, "disk_world_witness")?;
-    symlink(&rt, "nowhere", "disk_world_witness/state.witness")?;
-    let mut world = DiskWorld::new(rt.alloc(), &rt);
-    let name = "disk_world_witness/state";
-    assert!(rt; fails(rt.alloc(), &mut world, name, WorldFault::Device)?);
-    assert!(rt; fs::metadata(&rt, FILE).is_err());
-    fs::remove_dir_all(&rt, "disk_world_witness")?;
-    Ok(())
+fn a_witness_fails_on_a_disk(rt: HostRuntime) {
+    let is_begun = begins(&rt, FOLDER) && symlink(&rt, "nowhere", WITNESS).is_ok();
+    let has_failed = fails(
+        rt.alloc(),
+        &mut DiskWorld::new(rt.alloc(), &rt),
+        STATE,
+        WorldFault::Device,
+    );
+    assert!(rt; is_begun && has_failed && fs::metadata(&rt, FILE).is_err() && clears(&rt, FOLDER));
 }
 
 /// Whether the witness of the state of a name is these bytes, and is replaced.
-fn is_replaced<W: World>(
-    alloc: Global,
-    world: &mut W,
-    name: &str,
-    text: &[u8],
-) -> Result<bool, Fail> {
-    let lock = world.lock(alloc, name)?;
-    let replaced = gives(alloc, world, &lock, Some(text)) && takes(alloc, world, &lock, b"new");
-    world.unlock(lock);
-    Ok(replaced)
+fn is_replaced<W: World>(alloc: Global, world: &mut W, name: &str, text: &[u8]) -> bool {
+    match world.lock(alloc, name) {
+        Ok(lock) => {
+            let replaced = gives(alloc, world, &lock, Some(text))
+                && takes(alloc, world, &lock, b"new");
+            world.unlock(lock);
+            replaced
+        }
+        Err(_) => false,
+    }
 }
 
 /// Where it can't be known whether there is a witness, that is a fault. One that is there is read and
 /// replaced.
 #[test]
-fn an_unknown_witness_is_a_fault(rt: HostRuntime) -> Result<(), Fail> {
-    empty_folder(&rt, "disk_world_witness")?;
-    let name = "disk_world_witness/state";
-    fs::write(&rt, name, b"".as_slice())?;
+fn an_unknown_witness_is_a_fault(rt: HostRuntime) {
     let poor = PoorFiles {
         files: &rt,
         hides_names: true,
     };
     let mut world = DiskWorld::new(rt.alloc(), &poor);
-    assert!(rt; fails(rt.alloc(), &mut world, name, WorldFault::Device)?);
-    fs::write(&rt, "disk_world_witness/state.witness", b"older".as_slice())?;
-    assert!(rt; is_replaced(rt.alloc(), &mut world, name, b"older")?);
-    assert!(rt; holds(&rt, "disk_world_witness/state.witness", b"new"));
-    fs::remove_dir_all(&rt, "disk_world_witness")?;
-    Ok(())
+    assert!(rt;
+        begins(&rt, FOLDER)
+            && puts(&rt, STATE, b"")
+            && fails(rt.alloc(), &mut world, STATE, WorldFault::Device)
+            && puts(&rt, WITNESS, b"older")
+            && is_replaced(rt.alloc(), &mut world, STATE, b"older")
+            && holds(&rt, WITNESS, b"new")
+            && clears(&rt, FOLDER)
+    );
 }

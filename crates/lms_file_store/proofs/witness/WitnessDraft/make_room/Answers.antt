@@ -1,4 +1,4 @@
-use Rattle.lms_file_store.proofs.Files.{on_ok_always}
+use Rattle.lms_file_store.proofs.Steps.{on_ok_always}
 use Rattle.lms_file_store.proofs.witness.WitnessDraft.make_room.Goals as goal
 
 pub returns : goal.returns

@@ -1,0 +1,9 @@
+pub mod BatchInMemory
+pub mod BatchTurns
+pub mod Batches
+pub mod ServeInMemory
+pub mod ServedLines
+pub mod Serving
+pub mod ServingAlone
+pub mod ServingCalls
+pub mod ServingTurns

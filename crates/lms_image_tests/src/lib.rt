@@ -1,5 +1,0 @@
-//! Tests of `lms_image`.
-#![tactic(auto)]
-
-#[cfg(test)]
-mod tests;

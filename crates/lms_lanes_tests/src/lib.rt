@@ -1,5 +1,0 @@
-//! Tests of `lms_lanes`.
-#![tactic(auto)]
-
-#[cfg(test)]
-mod tests;

@@ -1,5 +1,0 @@
-//! Tests of `lms_params`.
-#![tactic(auto)]
-
-#[cfg(test)]
-mod tests;

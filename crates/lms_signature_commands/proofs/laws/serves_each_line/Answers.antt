@@ -1,5 +1,0 @@
-use Rattle.lms_signature_commands.proofs.laws.serves_each_line.Goals as goal
-use Rattle.lms_signature_commands.proofs.ServedLines as served_lines
-
-pub returns : goal.returns
-returns c = served_lines.serves_each_line

@@ -1,5 +1,0 @@
-//! Tests of `lms_slow`.
-#![tactic(auto)]
-
-#[cfg(test)]
-mod tests;

@@ -1,5 +1,0 @@
-//! Tests of `lms_texts`.
-#![tactic(auto)]
-
-#[cfg(test)]
-mod tests;
