@@ -51,6 +51,21 @@ fn taken(rt: &impl AllocGlobal, key: &HssKey, text: &[u8]) -> Result<KeptTrees, 
     Ok(KeptTrees::read(rt.alloc(), *key, text)?.ok_or("a text of the key")?)
 }
 
+/// The trees of another index that the key has, or none where the nodes are wrong.
+fn moved_on(
+    rt: &(impl Abort + AllocGlobal + Threads + Sync),
+    key: &HssKey,
+    trees: KeptTrees,
+    g: u64,
+    sums: &Sums,
+) -> Result<Option<KeptTrees>, OutOfMemory>
+    requires { trees.key ≡ key.now }
+    ensures { IfOk result (λ moved. IfSome moved (λ trees. trees.key ≡ key.now)) }
+{
+    assert!(rt; g < key.capacity());
+    trees.moved_to(rt, rt.alloc(), g, sums)
+}
+
 /// The trees of another index that the key has, or none where the bytes are another key's or the
 /// nodes in them are wrong.
 fn moved(
@@ -62,9 +77,8 @@ fn moved(
 ) -> Result<Option<KeptTrees>, OutOfMemory>
     ensures { IfOk result (λ moved. IfSome moved (λ trees. trees.key ≡ key)) }
 {
-    assert!(rt; g < key.capacity());
     match KeptTrees::read(rt.alloc(), key, text)? {
-        Some(trees) => trees.moved_to(rt, rt.alloc(), g, sums),
+        Some(trees) => moved_on(rt, &key, trees, g, sums),
         None => Ok(None),
     }
 }
@@ -240,34 +254,40 @@ fn signs_by_a_text_or_anew(rt: HostRuntime) -> Result<(), Fail> {
     Ok(())
 }
 
-/// So many leaves are computed for the first index of a key, and, with each of these indices in
-/// turn, by so many calls so many in all.
+/// So many leaves are computed for the first index of a key, and, with the two indices to which its
+/// trees move in turn, by so many calls so many in all.
 fn check_reports(
     rt: &(impl Abort + AllocGlobal + Threads + Sync),
     key: HssKey,
     leaves: u64,
-    moves: &[(u64, u64, u64)],
+    first: (u64, u64, u64),
+    second: (u64, u64, u64),
 ) -> Result<(), Fail> {
     let sums = Sums::new();
-    let mut text = kept_text(rt, &key, 0, &sums)?;
-    assert!(rt; sums.are(1, leaves));
-    for to in moves {
-        let (g, calls, leaves) = *to;
-        let trees = moved(rt, key, &text, g, &sums)?.ok_or("right nodes")?;
-        assert!(rt; sums.are(calls, leaves), "{g}");
-        text = trees.text(rt.alloc())?;
-    }
+    let text = kept_text(rt, &key, 0, &sums)?;
+    let is_begun = sums.are(1, leaves);
+    let there = moved(rt, key, &text, first.0, &sums)?.ok_or("right nodes")?;
+    let is_there = sums.are(first.1, first.2);
+    let further = moved_on(rt, &key, there, second.0, &sums)?;
+    assert!(rt; is_begun && is_there && sums.are(second.1, second.2) && further.is_some());
     Ok(())
 }
 
 /// Trees of two levels; the next bottom tree; one that is served already; the next bottom subtree
-/// of a tree of height 15, and the tree below it.
+/// of a tree of height 15, and the tree below it; one that is served then.
 #[test]
 fn reports_the_leaves_that_are_computed(rt: HostRuntime) -> Result<(), Fail> {
     let two_levels = key_of(&[QUICK; 2], 0x11)?;
-    check_reports(&rt, two_levels, 64, &[(32, 2, 64 + 32), (63, 3, 64 + 32)])?;
+    check_reports(&rt, two_levels, 64, (32, 2, 64 + 32), (63, 3, 64 + 32))?;
     let tall = key_of(&TALL_ABOVE, 0x11)?;
-    check_reports(&rt, tall, 32768 + 32, &[(32768, 2, 32768 + 32 + 1024 + 32)])
+    let computed = 32768 + 32 + 1024 + 32;
+    check_reports(
+        &rt,
+        tall,
+        32768 + 32,
+        (32768, 2, computed),
+        (32799, 3, computed),
+    )
 }
 
 /// Signs by an index with so many leaves computed, or, where memory is refused, with none.

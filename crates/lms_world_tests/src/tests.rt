@@ -265,11 +265,9 @@ fn lends_a_store(alloc: Global, world: &mut MemoryWorld, lock: &MemoryLock) -> b
 
 const LARGE: &str = "disk_world_large/text";
 
-/// Whether a world writes these bytes to the file of a name, and reads them and hands them over.
-fn keeps_whole<W: World>(alloc: Global, world: &mut W, name: &str, bytes: &[u8]) -> bool {
-    writes(alloc, world, name, bytes)
-        && reads(alloc, world, name, bytes)
-        && hands_over(alloc, world, name, bytes)
+/// Whether a world reads these bytes of the file of a name, and hands them over.
+fn finds_whole<W: World>(alloc: Global, world: &mut W, name: &str, bytes: &[u8]) -> bool {
+    reads(alloc, world, name, bytes) && hands_over(alloc, world, name, bytes)
 }
 
 /// Many bytes are read and written whole: three times 1 MiB and some more.
@@ -281,14 +279,26 @@ fn a_large_file_is_whole(rt: HostRuntime) -> Result<(), Fail> {
         hides_names: false,
     };
     let is_begun = begins(&rt, "disk_world_large");
-    let is_kept = keeps_whole(
+    let is_written = writes(
         rt.alloc(),
         &mut DiskWorld::new(rt.alloc(), &rt),
         LARGE,
         text.as_bytes(),
     );
+    let is_found = finds_whole(
+        rt.alloc(),
+        &mut DiskWorld::new(rt.alloc(), &rt),
+        LARGE,
+        text.as_bytes(),
+    );
+    let is_poorly_found = finds_whole(
+        rt.alloc(),
+        &mut DiskWorld::new(rt.alloc(), &poor),
+        LARGE,
+        text.as_bytes(),
+    );
     let is_there = holds(&rt, LARGE, text.as_bytes()) && fs::remove_file(&rt, LARGE).is_ok();
-    let is_poorly_kept = keeps_whole(
+    let is_poorly_written = writes(
         rt.alloc(),
         &mut DiskWorld::new(rt.alloc(), &poor),
         LARGE,
@@ -303,9 +313,11 @@ fn a_large_file_is_whole(rt: HostRuntime) -> Result<(), Fail> {
     );
     assert!(rt;
         is_begun
-            && is_kept
+            && is_written
+            && is_found
+            && is_poorly_found
             && is_there
-            && is_poorly_kept
+            && is_poorly_written
             && is_poorly_there
             && is_flushed
             && holds(&rt, LARGE, b"a public key")
