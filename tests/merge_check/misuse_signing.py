@@ -14,7 +14,7 @@ WALKS = re.compile(
     r"(?<!fn )\b(?:walk|walk_all|walk_lanes|walk_on|lane_values|hash_after|hash_chains|hash_ends|chain|secret|nodes_secret)\s*\("
 )
 # These crates are no part of the product.
-OTHERS = re.compile(r"_tests$|^bench_|fixtures$|^lms_(?:slow|example|uses|recorded|runs|worked_turns)$")
+OTHERS = re.compile(r"_tests$|^bench_|fixtures$|^lms_(?:slow|example|uses|recorded|worked_turns)$")
 SIGNING = """
     lms_batch: OpenLease::sign: sign_with
     lms_batch: OpenLease::sign_with: Receipt

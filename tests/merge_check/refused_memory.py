@@ -24,8 +24,10 @@ TESTS = {
     "lms_kept_tests": ["no_leaf_is_computed_where_memory_is_refused", "signs_after_refused_memory"],
     "lms_hss_tests": ["forests::no_leaf_is_computed_where_memory_is_refused", "forests::covers_and_signs_after_refused_memory", "moves::goes_on_after_refused_memory"],
     "lms_book_tests": ["a_book_works_after_refused_memory"],
-    "lms_shared_book_tests": ["a_book_is_shared_after_refused_memory"],
-    "lms_pool_tests": ["a_pool_is_made_after_refused_memory"],
+    "lms_pool_tests": [
+        "a_pool_is_made_after_refused_memory",
+        "shared_book::a_book_is_shared_after_refused_memory",
+    ],
     "lms_open_lease_tests": ["a_lease_signs_after_refused_memory"],
     "lms_batch_tests": [
         "kept::kept_trees_after_refused_memory",
@@ -38,7 +40,7 @@ TESTS = {
         "nodes::nodes_are_kept_after_refused_memory",
         "witness::a_witness_is_kept_after_refused_memory",
     ],
-    "lms_tool_fault_tests": ["memory::refused_memory_is_said", "batch_faults::a_batch_says_what_it_used"],
+    "lms_tool_tests": ["faults::memory::refused_memory_is_said", "faults::batch_faults::a_batch_says_what_it_used"],
 }
 # More requests than any of these tests makes.
 MOST_REQUESTS = 5000

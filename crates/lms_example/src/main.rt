@@ -34,14 +34,26 @@ fn main(rt: HostRuntime) -> Result<()> {
     // A lease can't be dropped, so the `?` of what it is used for comes after `give_back`.
     let signed = sign_messages(&rt, rt.alloc(), &lease);
     book.give_back(lease);
-    for ((index, signature), message) in signed?.iter().zip(MESSAGES) {
-        let is_valid = verify(&public, message, signature);
-        println!(rt;
-            "index {index}: {}",
-            if is_valid { "valid" } else { "invalid" }
-        )?;
-    }
+    let signed = signed?;
+    print_verdict(&rt, &public, MESSAGES[0], &signed[0])?;
+    print_verdict(&rt, &public, MESSAGES[1], &signed[1])?;
     println!(rt; "{} of {} indices used", book.counter(), key.capacity())?;
+    Ok(())
+}
+
+/// Verifies a message by its signature, and prints the verdict with the index that signed.
+fn print_verdict(
+    rt: &impl Print,
+    public: &[u8],
+    message: &[u8],
+    signed: &(u64, Vec<u8>),
+) -> Result<()> {
+    let (index, signature) = signed;
+    let is_valid = verify(public, message, signature);
+    println!(rt;
+        "index {index}: {}",
+        if is_valid { "valid" } else { "invalid" }
+    )?;
     Ok(())
 }
 

@@ -12,7 +12,6 @@ use lms_book::{ReadFault, StateStore, StoreFault};
 use lms_file_store::{FileStore, StateLock, lock};
 use std::fs::File;
 use std::io::ErrorKind;
-use std::test::Fail;
 
 /// A store in a file, for tests.
 #[derive(Drop)]
@@ -95,11 +94,6 @@ fn store_of<'a>(rt: &'a HostRuntime, held: &StateLock<File>) -> Option<Tried<'a>
     }
 }
 
-/// The store in a file.
-fn store_in<'a>(rt: &'a HostRuntime, name: &str) -> Result<Tried<'a>, Fail> {
-    Ok(store_over(rt, name).ok_or("a store")?)
-}
-
 /// Whether a store in a file reads these bytes.
 fn is_read(rt: &HostRuntime, name: &str, text: &[u8]) -> bool {
     match store_over(rt, name) {
@@ -108,121 +102,164 @@ fn is_read(rt: &HostRuntime, name: &str, text: &[u8]) -> bool {
     }
 }
 
-#[test]
-fn what_is_stored_is_read(rt: HostRuntime) -> Result<(), Fail> {
-    let name = "file_store_reads/state";
-    let is_begun = begins(&rt, "file_store_reads");
-    let mut store = store_in(&rt, name)?;
-    let is_none = store.store.refusal().is_none()
-        && store.reads_none()
-        && store.was_refused(name, ErrorKind::NotFound);
-    let is_kept = store.keeps(name, b"a")
-        && store.keeps(name, b"")
-        && store.keeps(name, &[7; 180])
-        && store.keeps(name, &[7; 256]);
-    let is_anothers = puts(&rt, name, b"b") && store.reads_none() && is_read(&rt, name, b"b");
-    let is_right = is_begun && is_none && is_kept && is_anothers;
-    assert!(rt; is_right && clears(&rt, "file_store_reads"));
-    Ok(())
+impl Tried<'_> {
+    /// Whether it reads nothing at first, then each text that it keeps, and not one of somebody else,
+    /// which another store reads.
+    fn reads_what_is_stored(&mut self, name: &str) -> bool {
+        self.store.refusal().is_none()
+            && self.reads_none()
+            && self.was_refused(name, ErrorKind::NotFound)
+            && self.keeps(name, b"a")
+            && self.keeps(name, b"")
+            && self.keeps(name, &[7; 180])
+            && self.keeps(name, &[7; 256])
+            && puts(self.rt, name, b"b")
+            && self.reads_none()
+            && is_read(self.rt, name, b"b")
+    }
+
+    /// Whether it refuses a long text, and touches neither its file nor its draft.
+    fn touches_no_file(&mut self, name: &str, draft: &str) -> bool {
+        self.refuses(&[7; 257]) && is_missing(self.rt, name) && is_missing(self.rt, draft)
+    }
+
+    /// Whether it takes and reads nothing.
+    fn takes_and_reads_nothing(&mut self) -> bool {
+        self.refuses(b"b") && self.reads_none()
+    }
+
+    /// Whether it takes and reads nothing where a folder has its name, and once the folder is removed.
+    fn is_useless_over_a_folder(&mut self, name: &str, draft: &str) -> bool {
+        self.takes_and_reads_nothing()
+            && self.was_refused(name, ErrorKind::IsADirectory)
+            && is_missing(self.rt, draft)
+            && clears(self.rt, "file_store_folder")
+            && self.takes_and_reads_nothing()
+    }
 }
 
 #[test]
-fn a_long_text_touches_no_file(rt: HostRuntime) -> Result<(), Fail> {
+fn what_is_stored_is_read(rt: HostRuntime) {
+    let name = "file_store_reads/state";
+    let is_begun = begins(&rt, "file_store_reads");
+    let is_right = match store_over(&rt, name) {
+        Some(mut store) => store.reads_what_is_stored(name),
+        None => false,
+    };
+    assert!(rt; is_begun && is_right && clears(&rt, "file_store_reads"));
+}
+
+#[test]
+fn a_long_text_touches_no_file(rt: HostRuntime) {
+    let name = "file_store_long/state";
     let is_begun = begins(&rt, "file_store_long");
-    let mut store = store_in(&rt, "file_store_long/state")?;
-    assert!(rt;
-        is_begun
-            && store.refuses(&[7; 257])
-            && is_missing(&rt, "file_store_long/state")
-            && is_missing(&rt, "file_store_long/state.new")
-            && clears(&rt, "file_store_long")
-    );
-    Ok(())
+    let is_right = match store_over(&rt, name) {
+        Some(mut store) => store.touches_no_file(name, "file_store_long/state.new"),
+        None => false,
+    };
+    assert!(rt; is_begun && is_right && clears(&rt, "file_store_long"));
 }
 
 /// The draft is written, and can't replace a folder.
 #[test]
-fn a_folder_is_no_state(rt: HostRuntime) -> Result<(), Fail> {
+fn a_folder_is_no_state(rt: HostRuntime) {
     let name = "file_store_folder/state";
     let is_begun = begins(&rt, "file_store_folder") && makes_folder(&rt, name);
-    let mut store = store_in(&rt, name)?;
-    assert!(rt;
-        is_begun
-            && store.refuses(b"b")
-            && store.reads_none()
-            && store.was_refused(name, ErrorKind::IsADirectory)
-            && is_missing(&rt, "file_store_folder/state.new")
-            && clears(&rt, "file_store_folder")
-            && store.refuses(b"b")
-            && store.reads_none()
-    );
-    Ok(())
+    let is_right = match store_over(&rt, name) {
+        Some(mut store) => store.is_useless_over_a_folder(name, "file_store_folder/state.new"),
+        None => false,
+    };
+    assert!(rt; is_begun && is_right);
 }
 
 const TRIED: &str = "file_store_tried/state";
 
 const TRIED_DRAFT: &str = "file_store_tried/state.new";
 
+impl Tried<'_> {
+    /// Whether it knows any bytes before it stored some for certain, and then these and three that it
+    /// failed to take.
+    fn knows_four(&mut self) -> bool {
+        self.fails_to_take(b"a")
+            && self.knows(b"older")
+            && self.takes(b"old")
+            && self.fails_to_take(b"put")
+            && self.fails_to_take(b"a")
+            && self.fails_to_take(b"b")
+            && self.knows(b"put")
+    }
+
+    /// Whether it knows no more after a fourth, and begins anew with a certain write.
+    fn forgets_one(&mut self) -> bool {
+        self.fails_to_take(b"c")
+            && self.knows_not(b"put")
+            && self.knows(b"a")
+            && self.knows(b"c")
+            && self.knows(b"old")
+            && self.takes(b"new")
+            && self.reads(b"new")
+            && self.knows_not(b"old")
+    }
+
+    /// Whether it takes many writes, each at the first try, and reads the last at the second try at
+    /// the latest.
+    fn takes_many(&mut self) -> bool {
+        let mut are_taken = true;
+        for n in 0..20_u8 {
+            let text = [n];
+            are_taken = are_taken && self.takes(&text);
+        }
+        are_taken && (self.reads(&[19]) || self.reads(&[19]))
+    }
+}
+
 /// A store knows any bytes before it stored some for certain, then these and the three that it
 /// tried last since. A certain write begins anew, and is taken after failed ones.
 #[test]
-fn a_store_knows_what_it_tried(rt: HostRuntime) -> Result<(), Fail> {
+fn a_store_knows_what_it_tried(rt: HostRuntime) {
     let is_begun = begins(&rt, "file_store_tried");
-    let mut store = store_in(&rt, TRIED)?;
-    let knows_any = store.fails_to_take(b"a") && store.knows(b"older");
-    let knows_four = store.takes(b"old")
-        && store.fails_to_take(b"put")
-        && store.fails_to_take(b"a")
-        && store.fails_to_take(b"b")
-        && store.knows(b"put");
-    let forgets = store.fails_to_take(b"c")
-        && store.knows_not(b"put")
-        && store.knows(b"a")
-        && store.knows(b"c")
-        && store.knows(b"old");
-    let begins_anew = store.takes(b"new") && store.reads(b"new") && store.knows_not(b"old");
-    let is_right = is_begun && knows_any && knows_four && forgets && begins_anew;
-    assert!(rt; is_right && clears(&rt, "file_store_tried"));
-    Ok(())
+    let is_right = match store_over(&rt, TRIED) {
+        Some(mut store) => store.knows_four() && store.forgets_one(),
+        None => false,
+    };
+    assert!(rt; is_begun && is_right && clears(&rt, "file_store_tried"));
 }
 
-/// A store, made at the first or at the second try.
-fn second_try<'a>(rt: &'a HostRuntime, name: &str) -> Result<Tried<'a>, Fail> {
+/// A store, made at the first or at the second try. `None` where both fail.
+fn second_try<'a>(rt: &'a HostRuntime, name: &str) -> Option<Tried<'a>> {
     match store_over(rt, name) {
-        Some(store) => Ok(store),
-        None => store_in(rt, name),
+        Some(store) => Some(store),
+        None => store_over(rt, name),
     }
 }
 
 /// The merge check refuses each request for memory in turn: a store is made and read at the second
 /// try at the latest, and takes each of many writes at the first, since a write takes no memory.
 #[test]
-fn a_store_works_after_refused_memory(rt: HostRuntime) -> Result<(), Fail> {
+fn a_store_works_after_refused_memory(rt: HostRuntime) {
     let _ = makes_folder(&rt, "file_store_memory");
-    let mut store = second_try(&rt, "file_store_memory/state")?;
-    let mut are_taken = true;
-    for n in 0..20_u8 {
-        let text = [n];
-        are_taken = are_taken && store.takes(&text);
-    }
-    assert!(rt; are_taken && (store.reads(&[19]) || store.reads(&[19])));
+    let is_right = match second_try(&rt, "file_store_memory/state") {
+        Some(mut store) => store.takes_many(),
+        None => false,
+    };
+    assert!(rt; is_right);
     let _ = clears(&rt, "file_store_memory");
-    Ok(())
 }
 
 #[test]
-fn a_link_is_followed(rt: HostRuntime) -> Result<(), Fail> {
+fn a_link_is_followed(rt: HostRuntime) {
     let is_begun = begins_with_a_link(&rt);
-    let mut store = store_in(&rt, "file_store_links/link")?;
+    let is_right = match store_over(&rt, "file_store_links/link") {
+        Some(mut store) => store.reads(b"a") && store.takes(b"b"),
+        None => false,
+    };
     assert!(rt;
         is_begun
-            && store.reads(b"a")
-            && store.takes(b"b")
+            && is_right
             && holds(&rt, "file_store_links/real/state", b"b")
             && is_link(&rt, "file_store_links/link")
             && clears(&rt, "file_store_links")
     );
-    Ok(())
 }
 
 /// Whether the lock on a state is had by this name, and still leads to it once the name is removed:
@@ -274,16 +311,16 @@ fn exists_where_not_looked_up(rt: &HostRuntime, held: &StateLock<File>, folder: 
 }
 
 #[test]
-fn what_can_not_be_looked_up_exists(rt: HostRuntime) -> Result<(), Fail> {
+fn what_can_not_be_looked_up_exists(rt: HostRuntime) {
     let (folder, name) = ("file_store_names/folder", "file_store_names/folder/state");
     let is_begun = begins(&rt, "file_store_names") && makes_folder(&rt, folder);
-    let held = lock(&rt, rt.alloc(), name)?;
-    assert!(rt;
-        is_begun
-            && !held.is_of_a_state(&rt)
-            && takes_each_thing(&rt, &held, name)
-            && exists_where_not_looked_up(&rt, &held, folder)
-            && clears(&rt, "file_store_names")
-    );
-    Ok(())
+    let is_right = match lock(&rt, rt.alloc(), name) {
+        Ok(held) => {
+            !held.is_of_a_state(&rt)
+                && takes_each_thing(&rt, &held, name)
+                && exists_where_not_looked_up(&rt, &held, folder)
+        }
+        Err(_) => false,
+    };
+    assert!(rt; is_begun && is_right && clears(&rt, "file_store_names"));
 }

@@ -1,4 +1,4 @@
-//! Tests of `lms_kept`.
+//! Tests of `lms_kept`, `lms_join` and `lms_uses`.
 #![tactic(auto)]
 
 #[cfg(test)]

@@ -1,13 +1,20 @@
 //! What tests of this crate share, and that kept trees sign as forests do.
 ghost use Rattle.std.specs.Prelude.{◌≡◌, IfOk, IfSome};
 
+mod again;
+mod join;
 mod texts;
+mod uses;
 mod wrong;
 
+use crate::tests::again::{
+    is_accepted_at_last, kept_at_last, signed_at_last, signs_so, text_of_31,
+};
 use lms_fixtures::{Sums, forest_of, key_of, lease_of, signature_of};
-use lms_hss::{HssKey, verify};
+use lms_hss::HssKey;
 use lms_kept::{KeptSignature, KeptTrees, sign_lease};
 use lms_params::{LmsType, OtsType, OutOfMemory};
+use std::alloc::Global;
 use std::process::Abort;
 use std::test::Fail;
 use std::thread::Threads;
@@ -41,14 +48,36 @@ fn kept_text(
     sums: &Sums,
 ) -> Result<Vec<u8>, OutOfMemory> {
     assert!(rt; at < key.capacity());
-    KeptTrees::compute(rt, rt.alloc(), *key, at, sums)?.text(rt.alloc())
+    match KeptTrees::compute(rt, rt.alloc(), *key, at, sums) {
+        Ok(trees) => trees.text(rt.alloc()),
+        Err(OutOfMemory) => Err(OutOfMemory),
+    }
+}
+
+/// What is kept of these trees.
+fn text_of(alloc: Global, trees: Option<KeptTrees>) -> Result<Vec<u8>, Fail> {
+    match trees {
+        Some(trees) => Ok(trees.text(alloc)?),
+        None => Err(Fail::from("trees")),
+    }
+}
+
+/// Whether a key takes these bytes for its own or, where they are not to be taken, does not.
+fn takes(alloc: Global, key: &HssKey, text: &[u8], is_own: bool) -> bool {
+    match KeptTrees::read(alloc, *key, text) {
+        Ok(trees) => trees.is_some() == is_own,
+        Err(OutOfMemory) => false,
+    }
 }
 
 /// What these bytes keep, which the key takes.
 fn taken(rt: &impl AllocGlobal, key: &HssKey, text: &[u8]) -> Result<KeptTrees, Fail>
     ensures { IfOk result (λ trees. trees.key ≡ key.now) }
 {
-    Ok(KeptTrees::read(rt.alloc(), *key, text)?.ok_or("a text of the key")?)
+    match KeptTrees::read(rt.alloc(), *key, text)? {
+        Some(trees) => Ok(trees),
+        None => Err(Fail::from("a text of the key")),
+    }
 }
 
 /// The trees of another index that the key has, or none where the nodes are wrong.
@@ -80,6 +109,13 @@ fn moved(
     match KeptTrees::read(rt.alloc(), key, text)? {
         Some(trees) => moved_on(rt, &key, trees, g, sums),
         None => Ok(None),
+    }
+}
+
+/// Changes bits of one byte.
+fn flip(text: &mut [u8], at: usize, bits: u8) {
+    if let Some(byte) = text.get_mut(at) {
+        *byte ^= bits;
     }
 }
 
@@ -161,7 +197,7 @@ fn signs_as_trees_that_are_computed(rt: HostRuntime) -> Result<(), Fail> {
 fn signs_across_trees_of_height_10(rt: HostRuntime) -> Result<(), Fail> {
     check_indices(
         &rt,
-        &[(LmsType::H10, OtsType::W8); 2],
+        &[(LmsType::H10, OtsType::W4); 2],
         &[31, 32, 1023, 1024, 1048575],
     )
 }
@@ -171,7 +207,7 @@ fn signs_across_trees_of_height_10(rt: HostRuntime) -> Result<(), Fail> {
 fn signs_across_bottom_subtrees(rt: HostRuntime) -> Result<(), Fail> {
     check_indices(
         &rt,
-        &[(LmsType::H15, OtsType::W4)],
+        &[(LmsType::H15, OtsType::W2)],
         &[31, 32, 1023, 1024, 32767],
     )
 }
@@ -217,23 +253,30 @@ fn are_kept(trees: &Option<KeptTrees>, g: u64, keeps: bool) -> bool {
     }
 }
 
+/// Whether this is the signature by an index, with trees to be kept, or none.
+fn is_signed(signed: &KeptSignature, signature: &[u8], g: u64, keeps: bool) -> bool {
+    signed.index == g
+        && signed.signature.as_slice() == signature
+        && are_kept(&signed.trees, g, keeps)
+}
+
 /// A signature by an index of a key is that of trees which are computed for it alone, and there are
 /// trees to be kept, or none.
 fn check_by_text(
     rt: &(impl Abort + AllocGlobal + Threads + Sync),
-    key: HssKey,
+    key: &HssKey,
     g: u64,
     text: Option<&[u8]>,
     keeps: bool,
 ) -> Result<Option<KeptTrees>, Fail> {
-    let signed = by_lease(rt, key, g, text, &Sums::new())??;
-    assert!(rt;
-        signed.index == g
-            && signed.signature == expected(rt, key, g)?
-            && are_kept(&signed.trees, g, keeps),
-        "{g}"
-    );
-    Ok(signed.trees)
+    let signature = expected(rt, *key, g)?;
+    match by_lease(rt, *key, g, text, &Sums::new())? {
+        Ok(signed) => {
+            assert!(rt; is_signed(&signed, &signature, g, keeps), "{g}");
+            Ok(signed.trees)
+        }
+        Err(OutOfMemory) => Err(Fail::from("memory")),
+    }
 }
 
 /// By no kept bytes; by some that serve the index; by some that are moved on; by those of another
@@ -241,17 +284,36 @@ fn check_by_text(
 #[test]
 fn signs_by_a_text_or_anew(rt: HostRuntime) -> Result<(), Fail> {
     let (key, other) = (key_of(&[QUICK; 2], 0x11)?, key_of(&[LEVEL], 0x11)?);
-    let trees = check_by_text(&rt, key, 31, None, true)?.ok_or("trees")?;
-    let mut text = trees.text(rt.alloc())?;
-    drop(trees);
-    for (key, g, keeps) in [(key, 30, false), (key, 32, true), (other, 31, true)] {
-        drop(check_by_text(&rt, key, g, Some(&text), keeps)?);
+    let mut text = text_of(rt.alloc(), check_by_text(&rt, &key, 31, None, true)?)?;
+    for (key, g, damage, keeps) in [
+        (key, 30, 0, false),
+        (key, 32, 0, true),
+        (other, 31, 0, true),
+        (key, 30, 1, true),
+    ] {
+        let last = text.len().saturating_sub(1);
+        flip(&mut text, last, damage);
+        drop(check_by_text(&rt, &key, g, Some(&text), keeps)?);
     }
-    if let Some(byte) = text.last_mut() {
-        *byte ^= 1;
-    }
-    drop(check_by_text(&rt, key, 30, Some(&text), true)?);
     Ok(())
+}
+
+/// Whether trees move to two indices in turn, and for each so many calls have computed so many
+/// leaves then.
+fn moves_to(
+    rt: &(impl Abort + AllocGlobal + Threads + Sync),
+    key: HssKey,
+    text: &[u8],
+    indices: [(u64, u64, u64); 2],
+    sums: &Sums,
+) -> Result<bool, Fail> {
+    let [first, second] = indices;
+    let Some(there) = moved(rt, key, text, first.0, sums)? else {
+        return Ok(false);
+    };
+    let is_there = sums.are(first.1, first.2);
+    let further = moved_on(rt, &key, there, second.0, sums)?;
+    Ok(is_there && sums.are(second.1, second.2) && further.is_some())
 }
 
 /// So many leaves are computed for the first index of a key, and, with the two indices to which its
@@ -260,16 +322,11 @@ fn check_reports(
     rt: &(impl Abort + AllocGlobal + Threads + Sync),
     key: HssKey,
     leaves: u64,
-    first: (u64, u64, u64),
-    second: (u64, u64, u64),
+    indices: [(u64, u64, u64); 2],
 ) -> Result<(), Fail> {
     let sums = Sums::new();
     let text = kept_text(rt, &key, 0, &sums)?;
-    let is_begun = sums.are(1, leaves);
-    let there = moved(rt, key, &text, first.0, &sums)?.ok_or("right nodes")?;
-    let is_there = sums.are(first.1, first.2);
-    let further = moved_on(rt, &key, there, second.0, &sums)?;
-    assert!(rt; is_begun && is_there && sums.are(second.1, second.2) && further.is_some());
+    assert!(rt; sums.are(1, leaves) && moves_to(rt, key, &text, indices, &sums)?);
     Ok(())
 }
 
@@ -278,15 +335,14 @@ fn check_reports(
 #[test]
 fn reports_the_leaves_that_are_computed(rt: HostRuntime) -> Result<(), Fail> {
     let two_levels = key_of(&[QUICK; 2], 0x11)?;
-    check_reports(&rt, two_levels, 64, (32, 2, 64 + 32), (63, 3, 64 + 32))?;
+    check_reports(&rt, two_levels, 64, [(32, 2, 64 + 32), (63, 3, 64 + 32)])?;
     let tall = key_of(&TALL_ABOVE, 0x11)?;
     let computed = 32768 + 32 + 1024 + 32;
     check_reports(
         &rt,
         tall,
         32768 + 32,
-        (32768, 2, computed),
-        (32799, 3, computed),
+        [(32768, 2, computed), (32799, 3, computed)],
     )
 }
 
@@ -312,15 +368,7 @@ fn check_leaves(
 #[test]
 fn no_leaf_is_computed_where_memory_is_refused(rt: HostRuntime) -> Result<(), Fail> {
     let key = key_of(&[QUICK; 2], 0x11)?;
-    let trees = match check_leaves(&rt, key, 31, None, 64)? {
-        Some(trees) => trees,
-        None => check_leaves(&rt, key, 31, None, 64)?.ok_or("trees")?,
-    };
-    let text = match trees.text(rt.alloc()) {
-        Ok(text) => text,
-        Err(OutOfMemory) => trees.text(rt.alloc())?,
-    };
-    drop(trees);
+    let text = text_of_31(&rt, key)?;
     drop(check_leaves(&rt, key, 32, Some(&text), 32)?);
     Ok(())
 }
@@ -330,25 +378,12 @@ fn no_leaf_is_computed_where_memory_is_refused(rt: HostRuntime) -> Result<(), Fa
 #[test]
 fn signs_after_refused_memory(rt: HostRuntime) -> Result<(), Fail> {
     let key = key_of(&[(LmsType::H5, OtsType::W1); 2], 0x11)?;
-    let text = match kept_text(&rt, &key, 31, &Sums::new()) {
-        Ok(text) => text,
-        Err(OutOfMemory) => kept_text(&rt, &key, 31, &Sums::new())?,
+    let text = kept_at_last(&rt, &key, 31)?;
+    let Some(signature) = signed_at_last(&rt, &key, &text, 32)? else {
+        return Err(Fail::from("an accepted signature"));
     };
-    let next = match moved(&rt, key, &text, 32, &Sums::new()) {
-        Ok(next) => next,
-        Err(OutOfMemory) => moved(&rt, key, &text, 32, &Sums::new())?,
-    };
-    let next = next.ok_or("right nodes")?;
-    let signature = signed(&rt, key, &next, 32)?.ok_or("an accepted signature")?;
-    drop(next);
-    let top = match KeptTrees::top(&rt, rt.alloc(), key, &Sums::new()) {
-        Ok(top) => top.public(),
-        Err(OutOfMemory) => KeptTrees::top(&rt, rt.alloc(), key, &Sums::new())?.public(),
-    };
-    let by_text = match by_lease(&rt, key, 32, Some(&text), &Sums::new())? {
-        Ok(signed) => signed,
-        Err(OutOfMemory) => by_lease(&rt, key, 32, Some(&text), &Sums::new())??,
-    };
-    assert!(rt; verify(&top, b"abc", &signature) && by_text.signature == signature);
+    assert!(rt;
+        is_accepted_at_last(&rt, &key, &signature) && signs_so(&rt, &key, 32, &text, &signature)?
+    );
     Ok(())
 }

@@ -212,11 +212,10 @@ fn has_longest(alloc: Global, text: &[u8]) -> bool {
 fn the_longest_message(rt: HostRuntime) -> Result<(), Fail> {
     let alloc = rt.alloc();
     let fault = JobsFault::BadJob { line: 1 };
+    let is_longest_read = has_longest(alloc, &line_of_digits(alloc, 131_072)?);
+    let is_longer_refused = has_fault(alloc, &line_of_digits(alloc, 131_074)?, fault);
     let is_endless_refused = fails(alloc, &mut io::repeat(b'7'), fault);
-    let longest = line_of_digits(alloc, 131_072)?;
-    let longer = line_of_digits(alloc, 131_074)?;
-    let is_longest_read = has_longest(alloc, &longest) && has_fault(alloc, &longer, fault);
-    assert!(rt; is_endless_refused && is_longest_read);
+    assert!(rt; is_longest_read && is_longer_refused && is_endless_refused);
     Ok(())
 }
 
@@ -246,17 +245,21 @@ fn the_longest_text(rt: HostRuntime) -> Result<(), Fail> {
     Ok(())
 }
 
+/// Whether the second line, of this message, is bad, or the third where the message itself ends a line.
+fn is_bad(alloc: Global, message: &str) -> Result<bool, Fail> {
+    let mut text = Vec::new(alloc);
+    for message in ["", message] {
+        push_line(&mut text, message, "\n")?;
+    }
+    let line = if message.starts_with("00\n") { 3 } else { 2 };
+    Ok(has_fault(alloc, &text, JobsFault::BadJob { line }))
+}
+
 #[test]
 fn bad_lines(rt: HostRuntime) -> Result<(), Fail> {
     let alloc = rt.alloc();
     for message in ["\r", "00\r", " ", " 00", "0", "0g", "00 ", "00\n", "00\n\n"] {
-        let mut text = Vec::new(alloc);
-        for message in ["", message] {
-            push_line(&mut text, message, "\n")?;
-        }
-        let line = if message.starts_with("00\n") { 3 } else { 2 };
-        let fault = JobsFault::BadJob { line };
-        assert!(rt; has_fault(alloc, &text, fault), "after {message:?}");
+        assert!(rt; is_bad(alloc, message)?, "after {message:?}");
     }
     for start in [
         "\n",
@@ -279,17 +282,21 @@ fn has_third_fault(alloc: Global, more: &[u8]) -> Result<bool, Fail> {
     Ok(has_fault(alloc, &bad, JobsFault::BadJob { line: 3 }))
 }
 
-#[test]
-fn too_many_lines(rt: HostRuntime) -> Result<(), Fail> {
-    let alloc = rt.alloc();
-    let fault = JobsFault::TooManyJobs;
+/// Whether 1024 lines are read, and with a byte more refused.
+fn reads_most(alloc: Global) -> Result<bool, Fail> {
     let mut text = lines(alloc, 1024)?;
     let are_most = has_count(alloc, &text, 1024);
     text.push(b'?')?;
-    let is_refused = has_fault(alloc, &text, fault);
-    text = lines(alloc, 1025)?;
+    Ok(are_most && has_fault(alloc, &text, JobsFault::TooManyJobs))
+}
+
+#[test]
+fn too_many_lines(rt: HostRuntime) -> Result<(), Fail> {
+    let alloc = rt.alloc();
+    let are_most = reads_most(alloc)?;
+    let text = lines(alloc, 1025)?;
     let is_third = has_third_fault(alloc, &text)?;
-    assert!(rt; are_most && is_refused && has_fault(alloc, &text, fault) && is_third);
+    assert!(rt; are_most && is_third && has_fault(alloc, &text, JobsFault::TooManyJobs));
     Ok(())
 }
 

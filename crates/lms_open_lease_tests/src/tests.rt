@@ -1,3 +1,4 @@
+//! Leases that are signed by, and their collectors.
 ghost use Rattle.std.specs.Prelude.{◌≡◌, []};
 
 mod fixtures;

@@ -1,7 +1,8 @@
-//! Each test runs over both pools.
+//! Each test of this file runs over both pools.
 ghost use Rattle.std.specs.Prelude.{◌≡◌, All, IfOk};
 
 mod fixtures;
+mod shared_book;
 
 use crate::tests::fixtures::{lease, pool};
 use lms_cell_pool::CellPool;

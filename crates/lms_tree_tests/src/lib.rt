@@ -1,4 +1,4 @@
-//! Tests of `lms_tree` and `lms_verification`.
+//! Tests of `lms_tree`, `lms_verification` and `lms_meter`.
 #![tactic(auto)]
 
 #[cfg(test)]

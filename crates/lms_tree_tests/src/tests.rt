@@ -2,6 +2,7 @@
 ghost use Rattle.std.specs.Prelude.{◌≡◌, IfOk};
 
 mod kept;
+mod meter;
 mod moves;
 mod nodes;
 mod progress;

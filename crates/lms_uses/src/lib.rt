@@ -1,5 +1,5 @@
-//! Short uses of the signer's crates, each proved, and run by a test. They are to be copied into
-//! programs: no crate uses them.
+//! Short uses of the signer's crates, each proved, and run by tests. They are to be copied into
+//! programs: no crate but that of their tests uses them.
 #![tactic(auto)]
 
 mod joining;
@@ -13,6 +13,3 @@ pub use crate::kept_nodes::sign_by_kept_nodes;
 pub use crate::state_file::{Signed, make_state, sign_from_file, sign_reserved};
 pub use crate::verifying::{is_valid, is_valid_in_pieces};
 pub use crate::workers::sign_all;
-
-#[cfg(test)]
-mod tests;

@@ -1,148 +1,17 @@
 mod nodes;
 mod notes;
 mod outputs;
+mod poor;
 mod replays;
+mod trials;
 mod witness;
 
-use lms_disk::DiskWorld;
-use lms_file_store::TryLock;
-use lms_world::{Contents, MemoryLock, MemoryWorld, Taker, World, WorldFault};
-use std::alloc::{Allocator, Global};
-use std::fs::{Metadata, OpenFile, OpenOptions};
-use std::io::{ErrorKind, Read, Seek, SeekFrom, Write};
-use std::path::PathBuf;
-use std::rt::Files;
+use self::trials::{Trial, on_disk, on_poor_files};
+use lms_world::{Contents, Taker, World, WorldFault};
+use std::alloc::Global;
+use std::fs;
+use std::os::unix::fs::symlink;
 use std::test::Fail;
-use std::{fs, io};
-
-/// The most bytes that a poor file gives or takes at once.
-const MOST: usize = 1000;
-
-/// Files that give and take few bytes at once, whose reads are interrupted every second time, and
-/// that may say nothing of a name itself.
-#[derive(Drop)]
-struct PoorFiles<'a, R: Files> {
-    files: &'a R,
-    hides_names: bool,
-}
-
-/// An open one of these files.
-#[derive(Drop)]
-struct PoorFile<F> {
-    file: F,
-    was_interrupted: bool,
-}
-
-impl<F: Read> Read for PoorFile<F> {
-    fn read(&mut self, buf: &mut [u8]) -> io::Result<usize> {
-        self.was_interrupted = !self.was_interrupted;
-        if self.was_interrupted {
-            return Err(io::Error::from(ErrorKind::Interrupted));
-        }
-        let count = buf.len().min(MOST);
-        self.file.read(&mut buf[..count])
-    }
-}
-
-impl<F: Write> Write for PoorFile<F> {
-    fn write(&mut self, buf: &[u8]) -> io::Result<usize> {
-        let count = buf.len().min(MOST);
-        self.file.write(&buf[..count])
-    }
-
-    fn flush(&mut self) -> io::Result<()> {
-        self.file.flush()
-    }
-}
-
-impl<F: Seek> Seek for PoorFile<F> {
-    fn seek(&mut self, to: SeekFrom) -> io::Result<u64> {
-        self.file.seek(to)
-    }
-}
-
-impl<F: OpenFile> OpenFile for PoorFile<F> {
-    fn metadata(&self) -> io::Result<Metadata> {
-        self.file.metadata()
-    }
-
-    fn set_len(&self, size: u64) -> io::Result<()> {
-        self.file.set_len(size)
-    }
-
-    fn sync_all(&self) -> io::Result<()> {
-        self.file.sync_all()
-    }
-
-    fn sync_data(&self) -> io::Result<()> {
-        self.file.sync_data()
-    }
-}
-
-impl<F: TryLock> TryLock for PoorFile<F> {
-    ghost is_locked = { λ file. F.is_locked file.file };
-
-    fn try_lock(&self) -> io::Result<()> {
-        self.file.try_lock()
-    }
-}
-
-impl<'a, R: Files> Files for PoorFiles<'a, R> {
-    type File = PoorFile<R::File>;
-
-    type Dir = R::Dir;
-
-    fn open_file(&self, how: &OpenOptions, path: &str) -> io::Result<PoorFile<R::File>> {
-        let file = self.files.open_file(how, path)?;
-        Ok(PoorFile {
-            file,
-            was_interrupted: false,
-        })
-    }
-
-    fn open_dir(&self, path: &str) -> io::Result<R::Dir> {
-        self.files.open_dir(path)
-    }
-
-    fn metadata(&self, path: &str) -> io::Result<Metadata> {
-        self.files.metadata(path)
-    }
-
-    fn symlink_metadata(&self, path: &str) -> io::Result<Metadata> {
-        if self.hides_names {
-            return Err(io::Error::from(ErrorKind::PermissionDenied));
-        }
-        self.files.symlink_metadata(path)
-    }
-
-    fn copy(&self, from: &str, to: &str) -> io::Result<u64> {
-        self.files.copy(from, to)
-    }
-
-    fn rename(&self, from: &str, to: &str) -> io::Result<()> {
-        self.files.rename(from, to)
-    }
-
-    fn remove_file(&self, path: &str) -> io::Result<()> {
-        self.files.remove_file(path)
-    }
-
-    fn create_dir(&self, path: &str) -> io::Result<()> {
-        self.files.create_dir(path)
-    }
-
-    fn remove_dir(&self, path: &str) -> io::Result<()> {
-        self.files.remove_dir(path)
-    }
-
-    fn remove_dir_all<B: Allocator>(&self, alloc: B, path: &str) -> io::Result<()> {
-        self.files.remove_dir_all(alloc, path)
-    }
-
-    fn canonicalize<B: Allocator>(&self, alloc: B, path: &str) -> io::Result<PathBuf<B>> {
-        self.files.canonicalize(alloc, path)
-    }
-}
 
 /// Makes an empty folder, in place of one that an earlier run left.
 fn begins(rt: &HostRuntime, folder: &str) -> bool {
@@ -158,6 +27,21 @@ fn makes_folder(rt: &HostRuntime, name: &str) -> bool {
 /// Makes these the bytes of a file.
 fn puts(rt: &HostRuntime, name: &str, bytes: &[u8]) -> bool {
     fs::write(rt, name, bytes).is_ok()
+}
+
+/// Makes a link.
+fn links(rt: &HostRuntime, original: &str, name: &str) -> bool {
+    symlink(rt, original, name).is_ok()
+}
+
+/// Removes a file.
+fn removes(rt: &HostRuntime, name: &str) -> bool {
+    fs::remove_file(rt, name).is_ok()
+}
+
+/// Whether nothing is found by a name.
+fn is_missing(rt: &HostRuntime, name: &str) -> bool {
+    fs::metadata(rt, name).is_err()
 }
 
 /// Removes a folder with all that is in it.
@@ -252,8 +136,8 @@ fn holds(rt: &HostRuntime, name: &str, bytes: &[u8]) -> bool {
     }
 }
 
-/// Whether the store of a lock in memory is taken and put back.
-fn lends_a_store(alloc: Global, world: &mut MemoryWorld, lock: &MemoryLock) -> bool {
+/// Whether the store of a lock is taken and put back.
+fn lends_a_store<W: World>(alloc: Global, world: &mut W, lock: &W::Lock) -> bool {
     match world.take_store(alloc, lock) {
         Ok(store) => {
             world.put_back(lock, store);
@@ -270,60 +154,37 @@ fn finds_whole<W: World>(alloc: Global, world: &mut W, name: &str, bytes: &[u8])
     reads(alloc, world, name, bytes) && hands_over(alloc, world, name, bytes)
 }
 
+/// Whether these bytes are written and read whole, also by poor files, which then replace them.
+fn is_whole(rt: &HostRuntime, bytes: &[u8]) -> bool {
+    on_disk(rt, Trial::Writes(LARGE, bytes))
+        && on_disk(rt, Trial::FindsWhole(LARGE, bytes))
+        && on_poor_files(rt, false, Trial::FindsWhole(LARGE, bytes))
+        && holds(rt, LARGE, bytes)
+        && removes(rt, LARGE)
+        && on_poor_files(rt, false, Trial::Writes(LARGE, bytes))
+        && holds(rt, LARGE, bytes)
+        && on_poor_files(rt, false, Trial::Flushes(LARGE, b"a public key"))
+        && holds(rt, LARGE, b"a public key")
+}
+
 /// Many bytes are read and written whole: three times 1 MiB and some more.
 #[test]
 fn a_large_file_is_whole(rt: HostRuntime) -> Result<(), Fail> {
     let text = "pattern".repeat(rt.alloc(), 449_391)?;
-    let poor = PoorFiles {
-        files: &rt,
-        hides_names: false,
-    };
-    let is_begun = begins(&rt, "disk_world_large");
-    let is_written = writes(
-        rt.alloc(),
-        &mut DiskWorld::new(rt.alloc(), &rt),
-        LARGE,
-        text.as_bytes(),
-    );
-    let is_found = finds_whole(
-        rt.alloc(),
-        &mut DiskWorld::new(rt.alloc(), &rt),
-        LARGE,
-        text.as_bytes(),
-    );
-    let is_poorly_found = finds_whole(
-        rt.alloc(),
-        &mut DiskWorld::new(rt.alloc(), &poor),
-        LARGE,
-        text.as_bytes(),
-    );
-    let is_there = holds(&rt, LARGE, text.as_bytes()) && fs::remove_file(&rt, LARGE).is_ok();
-    let is_poorly_written = writes(
-        rt.alloc(),
-        &mut DiskWorld::new(rt.alloc(), &poor),
-        LARGE,
-        text.as_bytes(),
-    );
-    let is_poorly_there = holds(&rt, LARGE, text.as_bytes());
-    let is_flushed = flushes(
-        rt.alloc(),
-        &mut DiskWorld::new(rt.alloc(), &poor),
-        LARGE,
-        b"a public key",
-    );
     assert!(rt;
-        is_begun
-            && is_written
-            && is_found
-            && is_poorly_found
-            && is_there
-            && is_poorly_written
-            && is_poorly_there
-            && is_flushed
-            && holds(&rt, LARGE, b"a public key")
+        begins(&rt, "disk_world_large")
+            && is_whole(&rt, text.as_bytes())
             && clears(&rt, "disk_world_large")
     );
     Ok(())
+}
+
+/// Whether a world reads a file that has any bytes.
+fn reads_some<W: World>(alloc: Global, world: &mut W, name: &str) -> bool {
+    match world.read(alloc, name) {
+        Ok(text) => !text.is_empty(),
+        Err(_) => false,
+    }
 }
 
 /// A file that reports a size of 0 and holds more is read whole.
@@ -334,67 +195,60 @@ fn a_file_that_tells_no_size_is_whole(rt: HostRuntime) {
         Ok(found) => found.len() == 0,
         Err(_) => false,
     };
-    let found = DiskWorld::new(rt.alloc(), &rt).read(rt.alloc(), name);
-    let is_read = match found {
-        Ok(text) => !text.is_empty(),
-        Err(_) => false,
-    };
-    assert!(rt; tells_none && is_read);
+    assert!(rt; tells_none && on_disk(&rt, Trial::ReadsSome(name)));
 }
 
 /// A folder can be opened, and not be read.
 #[test]
 fn a_folder_breaks_off(rt: HostRuntime) {
-    let is_begun = begins(&rt, "disk_world_folder");
-    let is_broken_off = breaks_off(
-        rt.alloc(),
-        &mut DiskWorld::new(rt.alloc(), &rt),
-        "disk_world_folder",
+    assert!(rt;
+        begins(&rt, "disk_world_folder")
+            && on_disk(&rt, Trial::BreaksOff("disk_world_folder"))
+            && !on_disk(&rt, Trial::HandsOver("disk_world_folder/none", b""))
+            && clears(&rt, "disk_world_folder")
     );
-    let is_handed_over = hands_over(
-        rt.alloc(),
-        &mut DiskWorld::new(rt.alloc(), &rt),
-        "disk_world_folder/none",
-        b"",
-    );
-    assert!(rt; is_begun && is_broken_off && !is_handed_over && clears(&rt, "disk_world_folder"));
 }
 
 /// Whether the state of a name exists, once it is locked. `None` where it is not.
-fn is_there(rt: &HostRuntime, name: &str) -> Option<bool> {
-    let mut world = DiskWorld::new(rt.alloc(), rt);
-    match world.lock(rt.alloc(), name) {
-        Ok(lock) => Some(world.exists(&lock)),
+fn is_there<W: World>(alloc: Global, world: &mut W, name: &str) -> Option<bool> {
+    match world.lock(alloc, name) {
+        Ok(lock) => {
+            let exists = world.exists(&lock);
+            world.unlock(lock);
+            Some(exists)
+        }
         Err(_) => None,
     }
 }
 
-/// Whether the state of a name is removed once it is locked, and exists then where names are hidden.
-fn is_there_when_removed(rt: &HostRuntime, name: &str) -> bool {
-    let poor = PoorFiles {
-        files: rt,
-        hides_names: true,
-    };
-    let mut world = DiskWorld::new(rt.alloc(), &poor);
+/// Whether the state of a name is removed once it is locked, and exists then to a world.
+fn is_there_when_removed<W: World>(rt: &HostRuntime, world: &mut W, name: &str) -> bool {
     match world.lock(rt.alloc(), name) {
-        Ok(lock) => fs::remove_file(rt, name).is_ok() && world.exists(&lock),
+        Ok(lock) => {
+            let exists = removes(rt, name) && world.exists(&lock);
+            world.unlock(lock);
+            exists
+        }
         Err(_) => false,
     }
 }
 
+/// Whether states are looked up, which are there, are not, or can't be locked, as that of a long name.
+fn are_looked_up(rt: &HostRuntime, long: &str) -> bool {
+    let name = "disk_world_names/file";
+    puts(rt, name, b"")
+        && on_disk(rt, Trial::IsThere("disk_world_names/state", Some(false)))
+        && on_disk(rt, Trial::IsThere(name, Some(true)))
+        && on_disk(rt, Trial::IsThere("disk_world_names/file/state", None))
+        && on_disk(rt, Trial::IsThere(long, None))
+        && on_poor_files(rt, true, Trial::IsThereWhenRemoved(name))
+}
+
 #[test]
 fn what_can_not_be_looked_up_exists(rt: HostRuntime) -> Result<(), Fail> {
-    let name = "disk_world_names/file";
     let long = "n".repeat(rt.alloc(), 5000)?;
-    assert!(rt;
-        begins(&rt, "disk_world_names")
-            && puts(&rt, name, b"")
-            && is_there(&rt, "disk_world_names/state") == Some(false)
-            && is_there(&rt, name) == Some(true)
-            && is_there(&rt, "disk_world_names/file/state").is_none()
-            && is_there(&rt, long.as_str()).is_none()
-            && is_there_when_removed(&rt, name)
-            && clears(&rt, "disk_world_names")
-    );
+    let is_begun = begins(&rt, "disk_world_names");
+    let is_right = are_looked_up(&rt, long.as_str());
+    assert!(rt; is_begun && is_right && clears(&rt, "disk_world_names"));
     Ok(())
 }

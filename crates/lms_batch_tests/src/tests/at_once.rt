@@ -1,10 +1,11 @@
 //! Batches at several desks at once.
 use super::outcome::{Outcome, starts_of};
-use super::{Asked, jobs_of, signed_alone};
-use crate::tests::fixtures::{LEVELS, public_key};
-use lms_batch::OpenGate;
+use super::{Asked, signed_alone};
+use crate::tests::fixtures::{LEVELS, jobs_of, public_key};
+use lms_batch::{Job, OpenGate};
 use lms_book::Entry;
 use std::test::Fail;
+use std::thread::Threads;
 
 /// Whether each of four desks counted two batches of eight in the end.
 fn are_counted(outcome: &Outcome) -> bool {
@@ -27,6 +28,17 @@ const MULTIPLES: [Option<u64>; 8] = [
     Some(56),
 ];
 
+/// Whether four desks signed two batches of these jobs each, valid and at the multiples.
+fn are_signed(rt: &(impl AllocGlobal + Threads + Sync), outcome: &Outcome, jobs: &[Job]) -> bool {
+    let Ok(public) = public_key(rt, outcome.key) else {
+        return false;
+    };
+    are_counted(outcome)
+        && outcome.has_ended(&[Entry::Given { len: 8 }; 8], 64)
+        && outcome.answers.len() == 8
+        && starts_of(outcome, &public, jobs) == MULTIPLES
+}
+
 /// Four threads sign two batches of eight jobs each. The batches are valid, and begin at the
 /// multiples, each once.
 #[test]
@@ -41,12 +53,6 @@ fn batches_at_once(rt: HostRuntime) -> Result<(), Fail> {
         fails_first: false,
     };
     let outcome = signed_alone(&rt, &LEVELS, 0, &asked)?;
-    let public = public_key(&rt, outcome.key)?;
-    assert!(rt;
-        are_counted(&outcome)
-            && outcome.has_ended(&[Entry::Given { len: 8 }; 8], 64)
-            && outcome.answers.len() == 8
-            && starts_of(&outcome, &public, &jobs) == MULTIPLES
-    );
+    assert!(rt; are_signed(&rt, &outcome, &jobs));
     Ok(())
 }

@@ -3,7 +3,6 @@ use lms_batch::{Batch, BatchFault, Job};
 use lms_book::{Book, Entry, MemoryStore};
 use lms_fixtures::{forest_of, signature_of};
 use lms_hss::{Forest, HssKey, verify};
-use std::test::Fail;
 use std::thread::Threads;
 
 /// The result of a batch, and what its desk had counted then: entries, received, burnt.
@@ -70,15 +69,16 @@ impl Outcome {
         place: usize,
         first: u64,
         jobs: &[Job],
-    ) -> Result<bool, Fail> {
-        let forest = forest_of(rt, self.key, first, jobs.len() as u64)?;
-        let is_complete = match self.batch(place) {
+    ) -> bool {
+        let Ok(forest) = forest_of(rt, self.key, first, jobs.len() as u64) else {
+            return false;
+        };
+        match self.batch(place) {
             Some(Batch::Complete { start, signatures }) => {
                 *start == first && are_signatures(&forest, first, jobs, signatures)
             }
             _ => false,
-        };
-        Ok(is_complete)
+        }
     }
 
     /// Whether the batch of this place is complete and has no signatures, from 0 on.

@@ -66,6 +66,12 @@ fn what_can_not_be_reached_has_no_lock(rt: HostRuntime) {
     assert!(rt; clears(&rt, "file_store_faults"));
 }
 
+/// Whether a fault says this.
+fn says(rt: &HostRuntime, fault: LockFault, text: &str) -> Result<bool, Fail> {
+    let said = format!(in rt.alloc(); "{fault}")?;
+    Ok(said.as_str() == text)
+}
+
 #[test]
 fn a_fault_says_why_there_is_no_lock(rt: HostRuntime) -> Result<(), Fail> {
     for (fault, text) in [
@@ -73,8 +79,7 @@ fn a_fault_says_why_there_is_no_lock(rt: HostRuntime) -> Result<(), Fail> {
         (LockFault::Unreachable, "the lock can't be reached"),
         (LockFault::OutOfMemory, "out of memory"),
     ] {
-        let said = format!(in rt.alloc(); "{fault}")?;
-        assert!(rt; said.as_str() == text, "{text}");
+        assert!(rt; says(&rt, fault, text)?, "{text}");
     }
     Ok(())
 }

@@ -3,7 +3,6 @@
 use super::disk::{begins, clears, holds, is_missing, makes_folder};
 use lms_file_store::{StateLock, lock};
 use std::fs::File;
-use std::test::Fail;
 
 /// What is kept beside a state, whose lock is held.
 #[derive(Drop)]
@@ -43,48 +42,68 @@ impl Kept<'_> {
     }
 }
 
-/// What is kept beside the state of this name. `Fail` where it can't be locked.
-fn kept_beside<'a>(rt: &'a HostRuntime, name: &str) -> Result<Kept<'a>, Fail> {
-    let held = lock(rt, rt.alloc(), name)?;
-    Ok(Kept { rt, held })
+/// What is kept beside the state of this name. `None` where it can't be locked.
+fn kept_beside<'a>(rt: &'a HostRuntime, name: &str) -> Option<Kept<'a>> {
+    match lock(rt, rt.alloc(), name) {
+        Ok(held) => Some(Kept { rt, held }),
+        Err(_) => None,
+    }
+}
+
+impl Kept<'_> {
+    /// Whether texts are kept one after another, before which there is none.
+    fn keeps_each(&self) -> bool {
+        self.gives_none(usize::MAX)
+            && self.keeps(b"a")
+            && self.keeps(b"")
+            && self.keeps(&[7; 5000])
+            && self.gives(usize::MAX, &[7; 5000])
+    }
+
+    /// Whether nothing is read or written once the folder is removed, where the last text was.
+    fn is_cleared(&self) -> bool {
+        holds(self.rt, "kept_nodes_reads/state.nodes", &[7; 5000])
+            && is_missing(self.rt, "kept_nodes_reads/state.nodes.new")
+            && is_missing(self.rt, "kept_nodes_reads/state")
+            && clears(self.rt, "kept_nodes_reads")
+            && self.gives_none(usize::MAX)
+            && !self.takes(b"new")
+    }
+
+    /// Whether a text is written and read, each at the second try at the latest.
+    fn keeps_in_two_tries(&self) -> bool {
+        (self.takes(b"new") || self.takes(b"new"))
+            && (self.gives(3, b"new") || self.gives(3, b"new"))
+    }
 }
 
 #[test]
-fn what_is_kept_is_read(rt: HostRuntime) -> Result<(), Fail> {
+fn what_is_kept_is_read(rt: HostRuntime) {
     let is_begun = begins(&rt, "kept_nodes_reads");
-    let kept = kept_beside(&rt, "kept_nodes_reads/state")?;
-    let is_read = kept.gives_none(usize::MAX)
-        && kept.keeps(b"a")
-        && kept.keeps(b"")
-        && kept.keeps(&[7; 5000])
-        && kept.gives(usize::MAX, &[7; 5000]);
-    let is_there = holds(&rt, "kept_nodes_reads/state.nodes", &[7; 5000])
-        && is_missing(&rt, "kept_nodes_reads/state.nodes.new")
-        && is_missing(&rt, "kept_nodes_reads/state");
-    let is_cleared = clears(&rt, "kept_nodes_reads");
-    let fails = kept.gives_none(usize::MAX) && !kept.takes(b"new");
-    assert!(rt; is_begun && is_read && is_there && is_cleared && fails);
-    Ok(())
+    let is_right = match kept_beside(&rt, "kept_nodes_reads/state") {
+        Some(kept) => kept.keeps_each() && kept.is_cleared(),
+        None => false,
+    };
+    assert!(rt; is_begun && is_right);
 }
 
 /// What is kept beside a state, whose lock is had at the first or at the second try.
-fn second_try<'a>(rt: &'a HostRuntime, name: &str) -> Result<Kept<'a>, Fail> {
-    match lock(rt, rt.alloc(), name) {
-        Ok(held) => Ok(Kept { rt, held }),
-        Err(_) => kept_beside(rt, name),
+fn second_try<'a>(rt: &'a HostRuntime, name: &str) -> Option<Kept<'a>> {
+    match kept_beside(rt, name) {
+        Some(kept) => Some(kept),
+        None => kept_beside(rt, name),
     }
 }
 
 /// The merge check refuses each request for memory in turn: what is kept is written and read at the
 /// second try at the latest.
 #[test]
-fn nodes_are_kept_after_refused_memory(rt: HostRuntime) -> Result<(), Fail> {
+fn nodes_are_kept_after_refused_memory(rt: HostRuntime) {
     let _ = makes_folder(&rt, "kept_nodes_memory");
-    let kept = second_try(&rt, "kept_nodes_memory/state")?;
-    assert!(rt;
-        (kept.takes(b"new") || kept.takes(b"new"))
-            && (kept.gives(3, b"new") || kept.gives(3, b"new"))
-    );
+    let is_right = match second_try(&rt, "kept_nodes_memory/state") {
+        Some(kept) => kept.keeps_in_two_tries(),
+        None => false,
+    };
+    assert!(rt; is_right);
     let _ = clears(&rt, "kept_nodes_memory");
-    Ok(())
 }

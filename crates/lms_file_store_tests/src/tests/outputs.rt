@@ -72,26 +72,32 @@ fn is_unwritten(rt: &HostRuntime, way: &str, id: FileId) -> bool {
     id_of(rt, way) == Some(id) && !writes(rt, way, b"a signature", &read)
 }
 
+const READ: &str = "outputs_read/file";
+
+const OTHER: &str = "outputs_read/other";
+
+/// Whether nothing is written over the file that was read, by any of its names, but over another.
+fn is_kept(rt: &HostRuntime, id: FileId) -> bool {
+    let read = [id];
+    is_unwritten(rt, READ, id)
+        && is_unwritten(rt, "outputs_read/link", id)
+        && is_unwritten(rt, "outputs_read/../outputs_read/file", id)
+        && holds(rt, READ, b"a message")
+        && writes(rt, OTHER, b"a signature", &read)
+}
+
 #[test]
 fn what_was_read_is_not_written(rt: HostRuntime) {
-    let (name, other) = ("outputs_read/file", "outputs_read/other");
     let is_begun = begins(&rt, "outputs_read")
-        && puts(&rt, name, b"a message")
-        && puts(&rt, other, b"another")
+        && puts(&rt, READ, b"a message")
+        && puts(&rt, OTHER, b"another")
         && links(&rt, "file", "outputs_read/link")
         && id_of(&rt, "outputs_read").is_none();
-    let is_kept = match id_of(&rt, name) {
-        Some(id) => {
-            let read = [id];
-            is_unwritten(&rt, name, id)
-                && is_unwritten(&rt, "outputs_read/link", id)
-                && is_unwritten(&rt, "outputs_read/../outputs_read/file", id)
-                && holds(&rt, name, b"a message")
-                && writes(&rt, other, b"a signature", &read)
-        }
+    let is_kept = match id_of(&rt, READ) {
+        Some(id) => is_kept(&rt, id),
         None => false,
     };
     assert!(rt;
-        is_begun && is_kept && writes(&rt, name, b"a signature", &[]) && clears(&rt, "outputs_read")
+        is_begun && is_kept && writes(&rt, READ, b"a signature", &[]) && clears(&rt, "outputs_read")
     );
 }

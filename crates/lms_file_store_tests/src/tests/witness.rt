@@ -7,7 +7,6 @@ use lms_file_store::{StateLock, lock, look_at_witness, make_witness};
 use std::fs;
 use std::fs::File;
 use std::io::ErrorKind;
-use std::test::Fail;
 
 /// A state whose lock is held, and its witness.
 #[derive(Drop)]
@@ -86,109 +85,151 @@ fn leads_to(rt: &HostRuntime, name: &str, path: &str) -> bool {
     }
 }
 
-/// The state of this name. `Fail` where it can't be locked.
-fn watched_at<'a>(rt: &'a HostRuntime, name: &str) -> Result<Watched<'a>, Fail> {
-    let held = lock(rt, rt.alloc(), name)?;
-    Ok(Watched { rt, held })
+/// The state of this name. `None` where it can't be locked.
+fn watched_at<'a>(rt: &'a HostRuntime, name: &str) -> Option<Watched<'a>> {
+    match lock(rt, rt.alloc(), name) {
+        Ok(held) => Some(Watched { rt, held }),
+        Err(_) => None,
+    }
+}
+
+/// Whether what was found is these bytes, or nothing where there are none.
+fn is_text(found: &Option<Vec<u8>>, text: Option<&[u8]>) -> bool {
+    match (found, text) {
+        (Some(found), Some(text)) => found.as_slice() == text,
+        (None, None) => true,
+        _ => false,
+    }
 }
 
 /// Whether these bytes are the witness of the state of this name, `None` where there is none.
 fn shows(rt: &HostRuntime, name: &str, text: Option<&[u8]>) -> bool {
-    match (look_at_witness(rt, rt.alloc(), name), text) {
-        (Ok(Some(found)), Some(text)) => found.as_slice() == text,
-        (Ok(None), None) => true,
-        _ => false,
+    match look_at_witness(rt, rt.alloc(), name) {
+        Ok(found) => is_text(&found, text),
+        Err(_) => false,
+    }
+}
+
+/// Whether a look at the witness of the state of this name fails.
+fn is_unseen(rt: &HostRuntime, name: &str) -> bool {
+    match look_at_witness(rt, rt.alloc(), name) {
+        Ok(_) => false,
+        Err(_) => true,
+    }
+}
+
+impl Watched<'_> {
+    /// Whether these bytes are read where they are put in the place of the witness.
+    fn reads(&self, name: &str, text: &[u8]) -> bool {
+        puts(self.rt, name, text) && self.gives(text)
+    }
+
+    /// Whether there is none at first, and then those of up to 128 bytes are read.
+    fn reads_each(&self, name: &str) -> bool {
+        self.gives_none()
+            && self.reads(name, b"a line\n")
+            && self.reads(name, b"")
+            && self.reads(name, &[7; 128])
+            && shows(self.rt, "witness_read/state", Some(&[7; 128]))
+    }
+
+    /// Whether a longer one is not read, nor one whose size the system doesn't say.
+    fn refuses_each(&self, name: &str) -> bool {
+        let is_longer_refused = puts(self.rt, name, &[7; 129])
+            && self.is_unread()
+            && is_unseen(self.rt, "witness_read/state")
+            && clears(self.rt, "witness_read");
+        is_longer_refused
+            && begins(self.rt, "witness_read")
+            && links(self.rt, "/proc/self/status", name)
+            && self.is_unread()
+    }
+
+    /// Whether each is replaced by the next, and the last stays where a draft is let go.
+    fn is_replaced(&self, draft: &str) -> bool {
+        self.takes(b"new")
+            && self.takes(&[7; 128])
+            && self.takes(b"")
+            && is_missing(self.rt, draft)
+            && self.lets_go(draft)
+            && self.gives(b"")
+    }
+
+    /// Whether one is made beside the state that this link leads to, and once only, and replaced.
+    fn is_made_once(&self, name: &str) -> bool {
+        shows(self.rt, name, None)
+            && self.is_made("file_store_links/file")
+            && shows(self.rt, name, Some(b"made"))
+            && is_missing(self.rt, "file_store_links/link.witness")
+            && self.is_unmade("file_store_links/second", ErrorKind::AlreadyExists)
+            && is_missing(self.rt, "file_store_links/second")
+            && self.takes(b"next")
+    }
+
+    /// Whether none is made where a link that leads nowhere has its place.
+    fn replaces_no_link(&self) -> bool {
+        links(self.rt, "nowhere", "witness_new/state.witness")
+            && self.is_unmade("witness_new/other", ErrorKind::AlreadyExists)
+            && is_missing(self.rt, "witness_new/other")
+            && is_missing(self.rt, "witness_new/nowhere")
     }
 }
 
 /// Of at most 128 bytes, whatever the system says that it has.
 #[test]
-fn a_witness_is_read(rt: HostRuntime) -> Result<(), Fail> {
+fn a_witness_is_read(rt: HostRuntime) {
     let name = "witness_read/state.witness";
     let is_begun = begins(&rt, "witness_read");
-    let watched = watched_at(&rt, "witness_read/state")?;
-    let is_short_read = watched.gives_none()
-        && puts(&rt, name, b"a line\n")
-        && watched.gives(b"a line\n")
-        && puts(&rt, name, b"")
-        && watched.gives(b"");
-    let is_longest_read = puts(&rt, name, &[7; 128])
-        && watched.gives(&[7; 128])
-        && shows(&rt, "witness_read/state", Some(&[7; 128]));
-    let is_longer_refused = puts(&rt, name, &[7; 129])
-        && watched.is_unread()
-        && look_at_witness(&rt, rt.alloc(), "witness_read/state").is_err()
-        && clears(&rt, "witness_read");
-    let is_unsized_refused = begins(&rt, "witness_read")
-        && links(&rt, "/proc/self/status", name)
-        && watched.is_unread()
-        && clears(&rt, "witness_read");
-    assert!(rt;
-        is_begun && is_short_read && is_longest_read && is_longer_refused && is_unsized_refused
-    );
-    Ok(())
+    let is_right = match watched_at(&rt, "witness_read/state") {
+        Some(watched) => watched.reads_each(name) && watched.refuses_each(name),
+        None => false,
+    };
+    assert!(rt; is_begun && is_right && clears(&rt, "witness_read"));
 }
 
 #[test]
-fn a_witness_is_replaced(rt: HostRuntime) -> Result<(), Fail> {
-    let draft = "witness_next/state.witness.new";
+fn a_witness_is_replaced(rt: HostRuntime) {
     let is_begun = begins(&rt, "witness_next");
-    let watched = watched_at(&rt, "witness_next/state")?;
-    assert!(rt;
-        is_begun
-            && watched.takes(b"new")
-            && watched.takes(&[7; 128])
-            && watched.takes(b"")
-            && is_missing(&rt, draft)
-            && watched.lets_go(draft)
-            && watched.gives(b"")
-            && clears(&rt, "witness_next")
-    );
-    Ok(())
+    let is_right = match watched_at(&rt, "witness_next/state") {
+        Some(watched) => watched.is_replaced("witness_next/state.witness.new"),
+        None => false,
+    };
+    assert!(rt; is_begun && is_right && clears(&rt, "witness_next"));
 }
 
 /// The link is beside the state that a link leads to, and not beside that link.
 #[test]
-fn a_witness_is_made(rt: HostRuntime) -> Result<(), Fail> {
+fn a_witness_is_made(rt: HostRuntime) {
     let name = "file_store_links/link";
     let is_begun = begins_with_a_link(&rt);
-    let watched = watched_at(&rt, name)?;
+    let is_right = match watched_at(&rt, name) {
+        Some(watched) => watched.is_made_once(name),
+        None => false,
+    };
     assert!(rt;
         is_begun
-            && shows(&rt, name, None)
-            && watched.is_made("file_store_links/file")
-            && shows(&rt, name, Some(b"made"))
-            && is_missing(&rt, "file_store_links/link.witness")
-            && watched.is_unmade("file_store_links/second", ErrorKind::AlreadyExists)
-            && is_missing(&rt, "file_store_links/second")
-            && watched.takes(b"next")
+            && is_right
             && holds(&rt, "file_store_links/file", b"next")
             && clears(&rt, "file_store_links")
     );
-    Ok(())
 }
 
 /// Nor is a witness made beside a link that leads nowhere, which may be one.
 #[test]
-fn a_new_witness_replaces_no_link(rt: HostRuntime) -> Result<(), Fail> {
+fn a_new_witness_replaces_no_link(rt: HostRuntime) {
     let is_begun = begins(&rt, "witness_new");
-    let watched = watched_at(&rt, "witness_new/state")?;
-    assert!(rt;
-        is_begun
-            && links(&rt, "nowhere", "witness_new/state.witness")
-            && watched.is_unmade("witness_new/other", ErrorKind::AlreadyExists)
-            && is_missing(&rt, "witness_new/other")
-            && is_missing(&rt, "witness_new/nowhere")
-            && clears(&rt, "witness_new")
-    );
-    Ok(())
+    let is_right = match watched_at(&rt, "witness_new/state") {
+        Some(watched) => watched.replaces_no_link(),
+        None => false,
+    };
+    assert!(rt; is_begun && is_right && clears(&rt, "witness_new"));
 }
 
 /// A state, locked at the first or at the second try.
-fn second_try<'a>(rt: &'a HostRuntime, name: &str) -> Result<Watched<'a>, Fail> {
-    match lock(rt, rt.alloc(), name) {
-        Ok(held) => Ok(Watched { rt, held }),
-        Err(_) => watched_at(rt, name),
+fn second_try<'a>(rt: &'a HostRuntime, name: &str) -> Option<Watched<'a>> {
+    match watched_at(rt, name) {
+        Some(watched) => Some(watched),
+        None => watched_at(rt, name),
     }
 }
 
@@ -212,21 +253,26 @@ impl Watched<'_> {
             Err(_) => self.gives(older) && self.takes(text),
         }
     }
+
+    /// Whether a witness is made in a file of this name, read and replaced so.
+    fn is_kept_in_two_tries(&self, path: &str) -> bool {
+        self.makes_in_two_tries(path)
+            && self.gives_in_two_tries(b"made")
+            && self.takes_in_two_tries(b"next", b"made")
+            && self.gives_in_two_tries(b"next")
+    }
 }
 
 /// The merge check refuses each request for memory in turn: a witness is made, read and replaced at
 /// the second try at the latest.
 #[test]
-fn a_witness_is_kept_after_refused_memory(rt: HostRuntime) -> Result<(), Fail> {
+fn a_witness_is_kept_after_refused_memory(rt: HostRuntime) {
     let _ = clears(&rt, "witness_memory");
     let _ = makes_folder(&rt, "witness_memory");
-    let watched = second_try(&rt, "witness_memory/state")?;
-    assert!(rt;
-        watched.makes_in_two_tries("witness_memory/file")
-            && watched.gives_in_two_tries(b"made")
-            && watched.takes_in_two_tries(b"next", b"made")
-            && watched.gives_in_two_tries(b"next")
-    );
+    let is_right = match second_try(&rt, "witness_memory/state") {
+        Some(watched) => watched.is_kept_in_two_tries("witness_memory/file"),
+        None => false,
+    };
+    assert!(rt; is_right);
     let _ = clears(&rt, "witness_memory");
-    Ok(())
 }

@@ -1,50 +1,34 @@
 //! Which bytes are read.
-use crate::tests::{LEVEL, kept_text};
+use crate::tests::{LEVEL, flip, kept_text, takes, text_of};
 use lms_fixtures::{Sums, key_of};
 use lms_hss::{HssKey, Levels};
 use lms_kept::KeptTrees;
-use lms_params::{LmsType, OtsType, OutOfMemory};
+use lms_params::{LmsType, OtsType};
 use std::alloc::Global;
 use std::test::Fail;
 
-/// Whether a key takes these bytes for its own.
-fn is_taken(alloc: Global, key: &HssKey, text: &[u8]) -> Result<bool, OutOfMemory> {
-    Ok(KeptTrees::read(alloc, *key, text)?.is_some())
-}
-
-/// The last length below their own to which these bytes are cut and taken.
-fn taken_cut(alloc: Global, key: &HssKey, text: &[u8]) -> Result<Option<usize>, OutOfMemory> {
+/// The last length below their own to which these bytes are cut and taken, or memory is refused.
+fn taken_cut(alloc: Global, key: &HssKey, text: &[u8]) -> Option<usize> {
     let mut taken = None;
     for length in 0..text.len() {
-        if is_taken(alloc, key, text.get(..length).unwrap_or(&[]))? {
+        if !takes(alloc, key, text.get(..length).unwrap_or(&[]), false) {
             taken = Some(length);
         }
     }
-    Ok(taken)
+    taken
 }
 
-/// Changes the lowest bit of one byte.
-fn flip(text: &mut [u8], at: usize) {
-    if let Some(byte) = text.get_mut(at) {
-        *byte ^= 1;
-    }
-}
-
-/// The last byte with whose lowest bit changed these bytes are taken.
-fn taken_change(
-    alloc: Global,
-    key: &HssKey,
-    text: &mut [u8],
-) -> Result<Option<usize>, OutOfMemory> {
+/// The last byte with whose lowest bit changed these bytes are taken, or memory is refused.
+fn taken_change(alloc: Global, key: &HssKey, text: &mut [u8]) -> Option<usize> {
     let mut taken = None;
     for at in 0..text.len() {
-        flip(text, at);
-        if is_taken(alloc, key, text)? {
+        flip(text, at, 1);
+        if !takes(alloc, key, text, false) {
             taken = Some(at);
         }
-        flip(text, at);
+        flip(text, at, 1);
     }
-    Ok(taken)
+    taken
 }
 
 /// The bytes kept for index 40 of 5/8,5/8: 16 bytes; 64 nodes of the top tree; a signed key of 1348
@@ -55,12 +39,12 @@ fn takes_its_own_text_alone(rt: HostRuntime) -> Result<(), Fail> {
     let mut text = kept_text(&rt, &key, 40, &Sums::new())?;
     let is_right = text.len() == 16 + 64 * 32 + (1348 + 64 * 32) + 32
         && text.starts_with(b"HSSN\0\0\0\x01\0\0\0\0\0\0\0\x28")
-        && is_taken(rt.alloc(), &key, &text)?;
-    let cut = taken_cut(rt.alloc(), &key, &text)?;
-    let change = taken_change(rt.alloc(), &key, &mut text)?;
+        && takes(rt.alloc(), &key, &text, true);
+    let cut = taken_cut(rt.alloc(), &key, &text);
+    let change = taken_change(rt.alloc(), &key, &mut text);
     text.push(0)?;
     assert!(rt;
-        is_right && cut.is_none() && change.is_none() && !is_taken(rt.alloc(), &key, &text)?,
+        is_right && cut.is_none() && change.is_none() && takes(rt.alloc(), &key, &text, false),
         "{cut:?} {change:?}"
     );
     Ok(())
@@ -78,18 +62,33 @@ const KEYS: [(&[(LmsType, OtsType)], u8, u8, bool); 7] = [
     (&[LEVEL, (LmsType::H5, OtsType::W4)], 0x11, 0x22, false),
 ];
 
+/// The last seed and identifier in `KEYS` of a key that takes these bytes where it should not, or
+/// does not where it should.
+fn wrong_key(alloc: Global, text: &[u8]) -> Option<(u8, u8)> {
+    let mut wrong = None;
+    for (levels, seed, id, is_own) in KEYS {
+        let is_right = match Levels::new(levels) {
+            Ok(levels) => takes(
+                alloc,
+                &HssKey::new(levels, [seed; 32], [id; 16]),
+                text,
+                is_own,
+            ),
+            Err(_) => false,
+        };
+        if !is_right {
+            wrong = Some((seed, id));
+        }
+    }
+    wrong
+}
+
 #[test]
 fn takes_no_text_of_another_key(rt: HostRuntime) -> Result<(), Fail> {
     let key = key_of(&[LEVEL; 2], 0x11)?;
-    let text = kept_text(&rt, &key, 0, &Sums::new())?;
-    let top = KeptTrees::top(&rt, rt.alloc(), key, &Sums::new())?.text(rt.alloc())?;
-    for (levels, seed, id, is_own) in KEYS {
-        let other = HssKey::new(Levels::new(levels)?, [seed; 32], [id; 16]);
-        assert!(rt;
-            is_taken(rt.alloc(), &other, &text)? == is_own
-                && is_taken(rt.alloc(), &other, &top)? == is_own,
-            "{seed} {id}"
-        );
-    }
+    let whole = wrong_key(rt.alloc(), &kept_text(&rt, &key, 0, &Sums::new())?);
+    let top = KeptTrees::top(&rt, rt.alloc(), key, &Sums::new())?;
+    let top = wrong_key(rt.alloc(), &text_of(rt.alloc(), Some(top))?);
+    assert!(rt; whole.is_none() && top.is_none(), "{whole:?} {top:?}");
     Ok(())
 }

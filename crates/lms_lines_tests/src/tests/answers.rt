@@ -3,78 +3,65 @@ use crate::tests::sink_of;
 use lms_batch::Batch;
 use lms_lines::{WriteFault, count_signatures, write_batch};
 use std::alloc::Global;
-use std::io::{self, ErrorKind, Write};
+use std::io::ErrorKind::{self, Other, TimedOut, WouldBlock, WriteZero};
+use std::io::{self, Write};
 use std::test::Fail;
+
+/// A batch of these signatures, from this index on.
+fn complete(alloc: Global, start: u64, parts: &[&[u8]]) -> Result<Batch, Fail> {
+    let mut signatures = Vec::new(alloc);
+    for signature in parts {
+        signatures.push(signature.to_vec(alloc)?)?;
+    }
+    Ok(Batch::Complete { start, signatures })
+}
 
 /// A batch of three signatures.
 fn batch(alloc: Global) -> Result<Batch, Fail> {
-    let mut signatures = Vec::new(alloc);
-    for signature in [[1, 2].as_slice(), [].as_slice(), [0xff].as_slice()] {
-        signatures.push(signature.to_vec(alloc)?)?;
-    }
-    Ok(Batch::Complete {
-        start: 9,
-        signatures,
-    })
+    complete(alloc, 9, &[&[1, 2], &[], &[0xff]])
 }
 
 /// A batch whose second signature is not there.
 fn partial_batch(alloc: Global) -> Result<Batch, Fail> {
     let mut slots = Vec::new(alloc);
     for signature in [Some(b"\xab".as_slice()), None, Some(b"\x00".as_slice())] {
-        let slot = match signature {
+        slots.push(match signature {
             Some(bytes) => Some(bytes.to_vec(alloc)?),
             None => None,
-        };
-        slots.push(slot)?;
+        })?;
     }
-    Ok(Batch::Partial {
-        start: u64::MAX,
-        slots,
-    })
+    let start = u64::MAX;
+    Ok(Batch::Partial { start, slots })
 }
 
-/// A batch of one signature of 2644 zeros.
-fn long_batch(alloc: Global) -> Result<Batch, Fail> {
-    let mut signatures = Vec::new(alloc);
-    signatures.push(vec![in alloc; 0u8; 2644]?)?;
-    Ok(Batch::Complete {
-        start: 30,
-        signatures,
-    })
-}
-
-/// Whether a batch is written as this text.
-fn writes(alloc: Global, batch: &Batch, wanted: &[u8]) -> bool {
+/// Whether a batch is written as this text, and has so many signatures.
+fn writes(alloc: Global, batch: Batch, wanted: &[u8], count: usize) -> bool {
     let mut text = Vec::new(alloc);
-    write_batch(&mut text, batch) == Ok(()) && text.as_slice() == wanted
+    write_batch(&mut text, &batch) == Ok(())
+        && text.as_slice() == wanted
+        && count_signatures(&batch) == count
 }
 
 /// Whether a batch is written as a text of this length that begins so.
-fn writes_long(alloc: Global, batch: &Batch, length: usize, front: &[u8]) -> bool {
+fn writes_long(alloc: Global, batch: Batch, length: usize, front: &[u8]) -> bool {
     let mut text = Vec::new(alloc);
-    write_batch(&mut text, batch) == Ok(()) && text.len() == length && text.starts_with(front)
+    write_batch(&mut text, &batch) == Ok(()) && text.len() == length && text.starts_with(front)
 }
 
 #[test]
 fn answers_are_written_and_counted(rt: HostRuntime) -> Result<(), Fail> {
     let alloc = rt.alloc();
-    let (whole, partial) = (batch(alloc)?, partial_batch(alloc)?);
     let text = b"18446744073709551615 ab\n18446744073709551617 00\n";
-    let is_long_written = writes_long(alloc, &long_batch(alloc)?, 5292, b"30 00");
-    assert!(rt;
-        is_long_written
-            && writes(alloc, &whole, b"9 0102\n10 \n11 ff\n")
-            && writes(alloc, &partial, text)
-            && count_signatures(&whole) == 3
-            && count_signatures(&partial) == 2
-    );
+    let is_whole = writes(alloc, batch(alloc)?, b"9 0102\n10 \n11 ff\n", 3);
+    let is_partial = writes(alloc, partial_batch(alloc)?, text, 2);
+    let is_long = writes_long(alloc, complete(alloc, 30, &[&[0; 2644]])?, 5292, b"30 00");
+    assert!(rt; is_whole && is_partial && is_long);
     Ok(())
 }
 
 /// Whether a writer that takes so many bytes, one a write, gets as many of the 17 of a text, and a
 /// fault says that they are not all.
-fn writes_a_beginning(alloc: Global, batch: &Batch, writes: usize, fails: bool) -> bool {
+fn has_beginning(alloc: Global, batch: &Batch, writes: usize, fails: bool) -> bool {
     let mut writer = sink_of(alloc, writes, fails);
     let answer = write_batch(&mut writer, batch);
     let wanted = if writes < 17 { Err(WriteFault) } else { Ok(()) };
@@ -85,13 +72,11 @@ fn writes_a_beginning(alloc: Global, batch: &Batch, writes: usize, fails: bool) 
 
 #[test]
 fn a_failed_writer_has_a_beginning(rt: HostRuntime) -> Result<(), Fail> {
-    let batch = batch(rt.alloc())?;
+    let alloc = rt.alloc();
+    let batch = batch(alloc)?;
     for fails in [false, true] {
         for writes in 0..30 {
-            assert!(rt;
-                writes_a_beginning(rt.alloc(), &batch, writes, fails),
-                "{writes}"
-            );
+            assert!(rt; has_beginning(alloc, &batch, writes, fails), "{writes}");
         }
     }
     Ok(())
@@ -123,7 +108,7 @@ impl Write for FailsOnce {
 }
 
 /// Whether nothing more is written after a write that fails, though the writer would take it.
-fn ends_with_a_failed_write(alloc: Global, batch: &Batch, before: usize, kind: ErrorKind) -> bool {
+fn ends_there(alloc: Global, batch: &Batch, before: usize, kind: ErrorKind) -> bool {
     let mut writer = FailsOnce {
         taken: Vec::new(alloc),
         before,
@@ -135,18 +120,11 @@ fn ends_with_a_failed_write(alloc: Global, batch: &Batch, before: usize, kind: E
 
 #[test]
 fn a_failed_write_is_not_tried_again(rt: HostRuntime) -> Result<(), Fail> {
-    let batch = batch(rt.alloc())?;
-    for kind in [
-        ErrorKind::Other,
-        ErrorKind::WouldBlock,
-        ErrorKind::TimedOut,
-        ErrorKind::WriteZero,
-    ] {
+    let alloc = rt.alloc();
+    let batch = batch(alloc)?;
+    for kind in [Other, WouldBlock, TimedOut, WriteZero] {
         for before in 0..17 {
-            assert!(rt;
-                ends_with_a_failed_write(rt.alloc(), &batch, before, kind),
-                "{before}"
-            );
+            assert!(rt; ends_there(alloc, &batch, before, kind), "{before}");
         }
     }
     Ok(())

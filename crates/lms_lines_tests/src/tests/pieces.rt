@@ -23,12 +23,15 @@ const ENDS: [(&str, usize, usize, usize); 9] = [
 #[test]
 fn ends_of_lines_are_found(rt: HostRuntime) {
     for (text, most, bytes, lines) in ENDS {
-        assert!(rt;
-            end_of_lines(text.as_bytes(), most) == (bytes, lines),
-            "{text:?} {most}"
-        );
+        let found = end_of_lines(text.as_bytes(), most);
+        assert!(rt; found == (bytes, lines), "{text:?} {most}");
     }
 }
+
+/// The piece that is a first line, and the last one of an input that ends with a line.
+const ONE: (&str, usize) = ("1\n", 1);
+
+const END: (&str, usize) = ("", 0);
 
 /// An input, how many bytes of it a read gives, the most lines of a piece, and the pieces, with how
 /// many lines each has. The last of them is the input's last.
@@ -37,41 +40,21 @@ type Row = (&'static str, usize, usize, &'static [(&'static str, usize)]);
 /// By all at once, a byte at a time, a line and a half, and all but the last byte; every second read
 /// is interrupted.
 const ROWS: [Row; 10] = [
-    ("", 9, 4, &[("", 0)]),
+    ("", 9, 4, &[END]),
     ("1\n22\n\n4", 9, 4, &[("1\n22\n\n", 3), ("4", 1)]),
-    ("1\n22\n\n4\n", 9, 4, &[("1\n22\n\n4\n", 4), ("", 0)]),
-    (
-        "1\n22\n\n4\n",
-        9,
-        3,
-        &[("1\n22\n\n", 3), ("4\n", 1), ("", 0)],
-    ),
-    ("1\n22\n3", 9, 1, &[("1\n", 1), ("22\n", 1), ("3", 1)]),
-    ("1\n22\n3", 1, 4, &[("1\n", 1), ("22\n", 1), ("3", 1)]),
-    (
-        "1\n22\n3\n",
-        1,
-        4,
-        &[("1\n", 1), ("22\n", 1), ("3\n", 1), ("", 0)],
-    ),
-    (
-        "1\n2\n3\n4\n",
-        3,
-        4,
-        &[("1\n", 1), ("2\n3\n", 2), ("4\n", 1), ("", 0)],
-    ),
+    ("1\n22\n\n4\n", 9, 4, &[("1\n22\n\n4\n", 4), END]),
+    ("1\n22\n\n4\n", 9, 3, &[("1\n22\n\n", 3), ("4\n", 1), END]),
+    ("1\n22\n3", 9, 1, &[ONE, ("22\n", 1), ("3", 1)]),
+    ("1\n22\n3", 1, 4, &[ONE, ("22\n", 1), ("3", 1)]),
+    ("1\n22\n3\n", 1, 4, &[ONE, ("22\n", 1), ("3\n", 1), END]),
+    ("1\n2\n3\n4\n", 3, 4, &[ONE, ("2\n3\n", 2), ("4\n", 1), END]),
     (
         "1\n2\n3\n4\n",
         3,
         1,
-        &[("1\n", 1), ("2\n", 1), ("3\n", 1), ("4\n", 1), ("", 0)],
+        &[ONE, ("2\n", 1), ("3\n", 1), ("4\n", 1), END],
     ),
-    (
-        "1\n2\n3\n4\n",
-        7,
-        4,
-        &[("1\n2\n3\n", 3), ("4\n", 1), ("", 0)],
-    ),
+    ("1\n2\n3\n4\n", 7, 4, &[("1\n2\n3\n", 3), ("4\n", 1), END]),
 ];
 
 /// Whether a reader's next piece has these bytes, so many lines, and is the last one or not.
@@ -83,12 +66,10 @@ fn is_next(
     expected: (&[u8], usize, bool),
 ) -> bool {
     let (text, lines, is_last) = expected;
-    match pieces.next(alloc, reader, most.clamp(1, 1024)) {
-        Ok(piece) => {
-            piece.text.as_slice() == text && piece.lines == lines && piece.is_last == is_last
-        }
-        Err(_) => false,
-    }
+    let Ok(piece) = pieces.next(alloc, reader, most.clamp(1, 1024)) else {
+        return false;
+    };
+    piece.text.as_slice() == text && piece.lines == lines && piece.is_last == is_last
 }
 
 /// Whether a reader gives these pieces, the last of which is the input's last.
@@ -98,29 +79,25 @@ fn cuts_so(
     most: usize,
     expected: &[(&'static str, usize)],
 ) -> bool {
-    match Pieces::new(alloc) {
-        Ok(mut pieces) => {
-            let mut left = expected.len();
-            let mut is_right = true;
-            for (text, lines) in expected {
-                left = left.saturating_sub(1);
-                let piece = (text.as_bytes(), *lines, left == 0);
-                is_right = is_right && is_next(alloc, &mut pieces, reader, most, piece);
-            }
-            is_right
-        }
-        Err(_) => false,
+    let Ok(mut pieces) = Pieces::new(alloc) else {
+        return false;
+    };
+    let mut left = expected.len();
+    let mut is_right = true;
+    for (text, lines) in expected {
+        left = left.saturating_sub(1);
+        let piece = (text.as_bytes(), *lines, left == 0);
+        is_right = is_right && is_next(alloc, &mut pieces, reader, most, piece);
     }
+    is_right
 }
 
 #[test]
 fn pieces_come_as_they_are_read(rt: HostRuntime) {
     for (text, step, most, expected) in ROWS {
         let mut source = source_of(text.as_bytes(), step, 100);
-        assert!(rt;
-            cuts_so(rt.alloc(), &mut source, most, expected),
-            "{text:?} by {step}, {most}"
-        );
+        let is_so = cuts_so(rt.alloc(), &mut source, most, expected);
+        assert!(rt; is_so, "{text:?} by {step}, {most}");
     }
 }
 
@@ -138,31 +115,26 @@ fn counts_of_next(
 /// and what follows is handed out without another read, which would fail.
 fn cuts_after_most(alloc: Global, text: &[u8], lines: usize) -> bool {
     let mut source = source_of(text, 65_536, 1);
-    match Pieces::new(alloc) {
-        Ok(mut pieces) => {
-            let most = counts_of_next(alloc, &mut pieces, &mut source);
-            let mut is_right = most == Ok((1024, 2048, false));
-            let more = lines.saturating_sub(1024);
-            if more > 0 {
-                let counts = (more, more.saturating_mul(2), false);
-                is_right = is_right
-                    && counts_of_next(alloc, &mut pieces, &mut source) == Ok(counts);
-            }
-            let end = counts_of_next(alloc, &mut pieces, &mut source);
-            is_right && end == Err(JobsFault::Read)
-        }
-        Err(_) => false,
+    let Ok(mut pieces) = Pieces::new(alloc) else {
+        return false;
+    };
+    let most = counts_of_next(alloc, &mut pieces, &mut source);
+    let mut is_right = most == Ok((1024, 2048, false));
+    let more = lines.saturating_sub(1024);
+    if more > 0 {
+        let counts = (more, more.saturating_mul(2), false);
+        is_right = is_right && counts_of_next(alloc, &mut pieces, &mut source) == Ok(counts);
     }
+    let end = counts_of_next(alloc, &mut pieces, &mut source);
+    is_right && end == Err(JobsFault::Read)
 }
 
 #[test]
 fn many_lines_are_read_at_once(rt: HostRuntime) -> Result<(), Fail> {
     for lines in [1024, 1025, 2000] {
         let text = "7\n".repeat(rt.alloc(), lines)?;
-        assert!(rt;
-            cuts_after_most(rt.alloc(), text.as_str().as_bytes(), lines),
-            "{lines}"
-        );
+        let is_cut = cuts_after_most(rt.alloc(), text.as_str().as_bytes(), lines);
+        assert!(rt; is_cut, "{lines}");
     }
     Ok(())
 }
@@ -171,19 +143,17 @@ fn many_lines_are_read_at_once(rt: HostRuntime) -> Result<(), Fail> {
 /// comes in the place of the fault, then and at the next call.
 fn has_pieces_before_fault(alloc: Global, text: &[u8], reads: usize, count: usize) -> bool {
     let mut source = source_of(text, 3, reads);
-    match Pieces::new(alloc) {
-        Ok(mut pieces) => {
-            let mut is_right = true;
-            for _ in 0..count {
-                is_right = is_right && counts_of_next(alloc, &mut pieces, &mut source).is_ok();
-            }
-            let found = counts_of_next(alloc, &mut pieces, &mut source);
-            let again = counts_of_next(alloc, &mut pieces, &mut source);
-            let fault = Err(JobsFault::Read);
-            is_right && found == fault && again == fault
-        }
-        Err(_) => false,
+    let Ok(mut pieces) = Pieces::new(alloc) else {
+        return false;
+    };
+    let mut is_right = true;
+    for _ in 0..count {
+        is_right = is_right && counts_of_next(alloc, &mut pieces, &mut source).is_ok();
     }
+    let found = counts_of_next(alloc, &mut pieces, &mut source);
+    let again = counts_of_next(alloc, &mut pieces, &mut source);
+    let fault = Err(JobsFault::Read);
+    is_right && found == fault && again == fault
 }
 
 /// The third read gives no end of a line, but the fourth; the fifth gives a line without one, which
@@ -192,10 +162,8 @@ fn has_pieces_before_fault(alloc: Global, text: &[u8], reads: usize, count: usiz
 fn a_failed_read_gives_no_piece(rt: HostRuntime) {
     let text = b"1\n2\n3\n45678\n9";
     for (reads, count) in [(0, 0), (1, 1), (2, 2), (3, 2), (4, 3), (5, 3)] {
-        assert!(rt;
-            has_pieces_before_fault(rt.alloc(), text, reads, count),
-            "{reads}"
-        );
+        let are_first = has_pieces_before_fault(rt.alloc(), text, reads, count);
+        assert!(rt; are_first, "{reads}");
     }
 }
 

@@ -12,6 +12,7 @@ use lms_lines::{Done, JobsFault, LinesFault, sign_lines};
 use lms_params::{LmsType, OtsType};
 use lms_shared_book::{Blanks, BookLedger, Desk, SharedBook};
 use std::alloc::{AllocGlobal, Global};
+use std::io::Read;
 use std::marker::Brand;
 use std::sync::Wait;
 use std::sync::ledger::{Blank, Ledger};
@@ -85,17 +86,17 @@ fn counts<E: BookLedger, G: Ledger, B: Ledger>(desk: &Desk<E, G, B>) -> (u64, u6
     (desk.entries(), desk.received(), desk.burnt())
 }
 
-/// Whether this text is refused, with nothing written and nothing counted.
+/// Whether what a reader gives is refused, with nothing written and nothing counted.
 fn refuses<E: BookLedger, G: Ledger, B: Ledger>(
     rt: &(impl AllocGlobal + Threads + Wait + Sync),
     service: &SigningService<MemoryStore, E, G, B>,
     desk: &mut Desk<E, G, B>,
-    text: &[u8],
+    reader: &mut impl Read,
     fault: LinesFault,
 ) -> bool {
     let mut writer = sink_of(rt.alloc(), 1, true);
     let before = counts(desk);
-    let answer = signed(rt, service, desk, text, &mut writer);
+    let answer = sign_lines(rt, rt.alloc(), service, reader, &mut writer, desk, 2);
     answer == Err(fault) && writer.taken.is_empty() && counts(desk) == before
 }
 
@@ -130,41 +131,25 @@ fn writes_a_beginning<E: BookLedger, G: Ledger, B: Ledger>(
     let mut writer = sink_of(rt.alloc(), 5300, fails);
     let answer = signed(rt, service, desk, text, &mut writer);
     let (line, more) = writer.taken.split_at(writer.taken.len().min(LINE));
-    let second = first.saturating_add(1);
-    let is_beginning = is_answer(line, LINE, first)
-        && begins_answer(more, second)
-        && more.len() == 8;
-    answer == Err(LinesFault::Write) && is_beginning
+    answer == Err(LinesFault::Write)
+        && is_answer(line, LINE, first)
+        && begins_answer(more, first.saturating_add(1))
+        && more.len() == 8
 }
 
-/// Whether no line is signed where the text can't be read past so many blocks, and nothing is
-/// counted.
-fn is_unread<E: BookLedger, G: Ledger, B: Ledger>(
-    rt: &(impl AllocGlobal + Threads + Wait + Sync),
-    service: &SigningService<MemoryStore, E, G, B>,
-    desk: &mut Desk<E, G, B>,
-    text: &[u8],
-    reads: usize,
-) -> bool {
-    let mut source = source_of(text, 70, reads);
-    let mut writer = sink_of(rt.alloc(), 1, true);
-    let before = counts(desk);
-    let answer = sign_lines(rt, rt.alloc(), service, &mut source, &mut writer, desk, 2);
-    let fault = LinesFault::Jobs(JobsFault::Read);
-    answer == Err(fault) && writer.taken.is_empty() && counts(desk) == before
-}
-
-/// Whether none of these four lines is signed where the text can't be read, from the first block or
-/// a later one on.
+/// Whether none of these four lines is signed, and nothing is counted, where the text can't be read,
+/// from the first block or a later one on.
 fn is_never_signed_unread<E: BookLedger, G: Ledger, B: Ledger>(
     rt: &(impl AllocGlobal + Threads + Wait + Sync),
     service: &SigningService<MemoryStore, E, G, B>,
     desk: &mut Desk<E, G, B>,
     text: &[u8],
 ) -> bool {
+    let fault = LinesFault::Jobs(JobsFault::Read);
     let mut is_right = true;
     for reads in 0..5 {
-        is_right = is_right && is_unread(rt, service, desk, text, reads);
+        let mut source = source_of(text, 70, reads);
+        is_right = is_right && refuses(rt, service, desk, &mut source, fault);
     }
     is_right
 }
@@ -180,16 +165,15 @@ fn sign_batches<E: BookLedger, G: Ledger, B: Ledger>(
     let exhausted = LinesFault::Batch(BatchFault::Book(BookFault::Exhausted { left: 978 }));
     let four = lines(rt.alloc(), 4)?;
     let many = lines(rt.alloc(), 1024)?;
-    Ok(
-        refuses(rt, service, desk, b"\n", bad)
-            && is_never_signed_unread(rt, service, desk, &four)
-            && writes_a_beginning(rt, service, desk, &four, 30, true)
-            && answers_four(rt, service, desk, &four, LINE, 34)
-            && writes_a_beginning(rt, service, desk, &four, 38, false)
-            && answers_four(rt, service, desk, &four, LINE, 42)
-            && refuses(rt, service, desk, &many, exhausted)
-            && counts(desk) == (4, 16, 0),
-    )
+    let (mut empty, mut rest) = (b"\n".as_slice(), many.as_slice());
+    let mut is_right = refuses(rt, service, desk, &mut empty, bad)
+        && is_never_signed_unread(rt, service, desk, &four);
+    for (first, next, fails) in [(30, 34, true), (38, 42, false)] {
+        is_right = is_right
+            && writes_a_beginning(rt, service, desk, &four, first, fails)
+            && answers_four(rt, service, desk, &four, LINE, next);
+    }
+    Ok(is_right && refuses(rt, service, desk, &mut rest, exhausted) && counts(desk) == (4, 16, 0))
 }
 
 /// Whether a writer that fails after so many writes, or takes nothing, has a beginning of these
@@ -244,8 +228,10 @@ fn carry_on<E: BookLedger, G: Ledger, B: Ledger>(
         Scenario::Batches => sign_batches(rt, &service, desk),
         Scenario::Pieces => kept::sign_pieces(rt, &service, desk),
         Scenario::RefusedMemory => {
-            let used = memory::sign_from_30(rt, &service, desk)?;
-            Ok(memory::has_used(service, desks, used))
+            match memory::sign_from_30(rt, &service, desk) {
+                Ok(used) => Ok(memory::has_used(service, desks, used)),
+                Err(fault) => Err(fault),
+            }
         }
         Scenario::FailedWriter { writes, fails } => {
             fail_to_write(rt, &service, desk, writes, fails)

@@ -7,10 +7,22 @@ const ID: [u8; 16] = *b"\x00\x11\x22\x33\x44\x55\x66\x77\x88\x99\xaa\xbb\xcc\xdd
 
 const HEAD: &str = "HSS key 00112233445566778899aabbccddeeff has used all indices below ";
 
-/// What a line says, of the key, that begins so and goes on so.
-fn read(alloc: Global, head: &str, rest: &str) -> Result<Option<u64>, Fail> {
-    let line = format!(in alloc; "{head}{rest}")?;
-    Ok(witness_counter(line.as_bytes(), &ID))
+/// The last number.
+const MOST: &str = "18446744073709551615";
+
+/// A line that says the last number, and one that is no text.
+const LAST: &str =
+    "HSS key 00112233445566778899aabbccddeeff has used all indices below 18446744073709551615\n";
+
+const NO_TEXT: &[u8] =
+    b"HSS key 00112233445566778899aabbccddeeff has used all indices below \xff\n";
+
+/// Whether a line that begins so and goes on so says this of the key.
+fn says(alloc: Global, head: &str, rest: &str, counter: Option<u64>) -> bool {
+    match format!(in alloc; "{head}{rest}") {
+        Ok(line) => witness_counter(line.as_bytes(), &ID) == counter,
+        Err(_) => false,
+    }
 }
 
 /// Whether the line of this number is printed with these digits, and says it when it is read.
@@ -26,45 +38,40 @@ fn is_printed(alloc: Global, counter: u64, digits: &str) -> Result<bool, Fail> {
 
 #[test]
 fn a_printed_line_is_read(rt: HostRuntime) -> Result<(), Fail> {
-    for (counter, digits) in [
-        (0, "0"),
-        (7, "7"),
-        (1024, "1024"),
-        (u64::MAX, "18446744073709551615"),
-    ] {
+    for (counter, digits) in [(0, "0"), (7, "7"), (1024, "1024"), (u64::MAX, MOST)] {
         assert!(rt; is_printed(rt.alloc(), counter, digits)?, "{digits}");
     }
     Ok(())
 }
 
 #[test]
-fn another_number_is_not_read(rt: HostRuntime) -> Result<(), Fail> {
-    assert!(rt; read(rt.alloc(), HEAD, "70\n")? == Some(70));
+fn another_number_is_not_read(rt: HostRuntime) {
+    assert!(rt;
+        says(rt.alloc(), HEAD, "70\n", Some(70))
+            && says(rt.alloc(), HEAD, "18446744073709551616\n", None)
+            && says(rt.alloc(), HEAD, "\u{666}\n", None)
+    );
     for rest in [
-        "",
-        "\n",
-        "70",
-        "70\r\n",
-        "70\n\n",
-        "70 \n",
-        " 70\n",
-        "70\n70\n",
-        "070\n",
-        "00\n",
-        "+70\n",
-        "-0\n",
-        "0x70\n",
-        "7o\n",
-        "18446744073709551616\n",
-        "\u{666}\n",
+        "", "\n", "70", "70\r\n", "70\n\n", "70 \n", " 70\n", "70\n70\n", "070\n", "00\n", "+70\n",
+        "-0\n", "0x70\n", "7o\n",
     ] {
-        assert!(rt; read(rt.alloc(), HEAD, rest)?.is_none(), "{rest}");
+        assert!(rt; says(rt.alloc(), HEAD, rest, None), "{rest}");
     }
-    Ok(())
+}
+
+/// The last length below its own to which a line is cut, and says something.
+fn read_cut(line: &[u8]) -> Option<usize> {
+    let mut read = None;
+    for len in 0..line.len() {
+        if witness_counter(&line[..len], &ID).is_some() {
+            read = Some(len);
+        }
+    }
+    read
 }
 
 #[test]
-fn another_line_is_not_read(rt: HostRuntime) -> Result<(), Fail> {
+fn another_line_is_not_read(rt: HostRuntime) {
     for head in [
         "",
         " HSS key 00112233445566778899aabbccddeeff has used all indices below ",
@@ -75,42 +82,27 @@ fn another_line_is_not_read(rt: HostRuntime) -> Result<(), Fail> {
         "HSS key 00112233445566778899aabbccddee has used all indices below ",
         "HSS  key 00112233445566778899aabbccddeeff has used all indices below ",
     ] {
-        assert!(rt; read(rt.alloc(), head, "7\n")?.is_none(), "{head}");
+        assert!(rt; says(rt.alloc(), head, "7\n", None), "{head}");
     }
-    let line = format!(in rt.alloc(); "{HEAD}18446744073709551615\n")?;
-    for len in 0..line.len() {
-        assert!(rt;
-            witness_counter(&line.as_bytes()[..len], &ID).is_none(),
-            "{len}"
-        );
-    }
-    assert!(rt; read(rt.alloc(), line.as_str(), line.as_str())?.is_none());
-    let mut bytes = Vec::from_slice(rt.alloc(), HEAD.as_bytes())?;
-    bytes.extend_from_slice(b"\xff\n")?;
-    assert!(rt; witness_counter(&bytes, &ID).is_none());
-    Ok(())
+    let cut = read_cut(LAST.as_bytes());
+    assert!(rt; cut.is_none(), "{cut:?}");
+    assert!(rt;
+        says(rt.alloc(), LAST, "", Some(u64::MAX))
+            && says(rt.alloc(), LAST, LAST, None)
+            && NO_TEXT.starts_with(HEAD.as_bytes())
+            && witness_counter(NO_TEXT, &ID).is_none()
+    );
 }
 
 #[test]
-fn a_number_is_read_in_one_form(rt: HostRuntime) -> Result<(), Fail> {
-    for (text, number) in [
-        ("0", Some(0)),
-        ("7", Some(7)),
-        ("10", Some(10)),
-        ("18446744073709551615", Some(u64::MAX)),
-        ("18446744073709551616", None),
-        ("", None),
-        ("00", None),
-        ("07", None),
-        ("+7", None),
-        ("-7", None),
-        (" 7", None),
-        ("7 ", None),
-        ("7\n", None),
-        ("7a", None),
-        ("\u{667}", None),
-    ] {
-        assert!(rt; decimal_number(text) == number, "{text}");
+fn a_number_is_read_in_one_form(rt: HostRuntime) {
+    for (text, number) in [("0", 0), ("7", 7), ("10", 10), (MOST, u64::MAX)] {
+        assert!(rt; decimal_number(text) == Some(number), "{text}");
     }
-    Ok(())
+    assert!(rt; decimal_number("18446744073709551616").is_none());
+    for text in [
+        "", "00", "07", "+7", "-7", " 7", "7 ", "7\n", "7a", "\u{667}",
+    ] {
+        assert!(rt; decimal_number(text).is_none(), "{text}");
+    }
 }

@@ -1,6 +1,6 @@
 //! `endorse` and `inspect`, over files in memory.
-use lms_runs::arguments::keygen;
-use lms_runs::{fails_with, says, write};
+use crate::tests::runs::arguments::keygen;
+use crate::tests::runs::{fails_with, says, write};
 use lms_slow::vectors::ONE_5_8;
 use lms_world::{MemoryWorld, World, WorldFault};
 use std::alloc::Global;

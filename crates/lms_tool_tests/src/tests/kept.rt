@@ -1,8 +1,8 @@
 //! What `keygen` and `sign` keep of a key's trees beside its state.
+use crate::tests::runs::arguments::{CHEAP_TWICE, SIGN, VERIFY, keygen};
+use crate::tests::runs::states::sets_state;
+use crate::tests::runs::{says, status_of, write};
 use lms_fixtures::Sums;
-use lms_runs::arguments::{CHEAP_TWICE, SIGN, VERIFY, keygen};
-use lms_runs::states::store_at;
-use lms_runs::{says, status_of, write};
 use lms_world::{MemoryWorld, World, WorldFault};
 use std::alloc::{AllocError, Global};
 use std::sync::Wait;
@@ -37,13 +37,42 @@ fn copy_of_kept(alloc: Global, world: &MemoryWorld) -> Result<Vec<u8>, AllocErro
     Vec::from_slice(alloc, world.nodes().unwrap_or(b""))
 }
 
-/// Whether the next signature prints this, and is valid.
-fn signs(
+/// Whether something is kept, and not this.
+fn keeps_other(world: &MemoryWorld, kept: &[u8]) -> bool {
+    match world.nodes() {
+        Some(nodes) => !nodes.is_empty() && nodes != kept,
+        None => false,
+    }
+}
+
+/// Whether a new key keeps its top tree, and its first signature the tree below it, too.
+fn keeps_its_trees(
     rt: &(impl Threads + Wait + AllocGlobal + Sync),
     world: &mut MemoryWorld,
-    index: &str,
 ) -> bool {
-    says(rt, &SIGN, world, 0, index) && says(rt, &VERIFY, world, 0, "valid\n")
+    let is_made = reports(rt, &keygen("5/2,5/2"), world, 32);
+    match copy_of_kept(rt.alloc(), world) {
+        Ok(top) => {
+            is_made && !top.is_empty() && reports(rt, &SIGN, world, 32) && keeps_other(world, &top)
+        }
+        Err(_) => false,
+    }
+}
+
+/// Whether a key signs by the tree that is kept up to its last index, and keeps another one then.
+fn signs_by_what_is_kept(
+    rt: &(impl Threads + Wait + AllocGlobal + Sync),
+    world: &mut MemoryWorld,
+) -> bool {
+    let Ok(first) = copy_of_kept(rt.alloc(), world) else {
+        return false;
+    };
+    reports(rt, &SIGN, world, 0)
+        && sets_state(rt.alloc(), world, &CHEAP_TWICE, 31)
+        && reports(rt, &SIGN, world, 0)
+        && world.nodes() == Some(first.as_slice())
+        && reports(rt, &SIGN, world, 32)
+        && keeps_other(world, &first)
 }
 
 /// `keygen` keeps the top tree, `sign` those below it, and what is kept is not computed again.
@@ -51,28 +80,21 @@ fn signs(
 fn what_is_kept_is_not_computed_again(rt: HostRuntime) -> Result<(), Fail> {
     let mut world = MemoryWorld::new(rt.alloc());
     write(rt.alloc(), &mut world, "text", b"abc")?;
-    let is_made = reports(&rt, &keygen("5/2,5/2"), &mut world, 32);
-    let top = copy_of_kept(rt.alloc(), &world)?;
-    let is_signed = reports(&rt, &SIGN, &mut world, 32);
-    let first = copy_of_kept(rt.alloc(), &world)?;
-    let is_signed_again = reports(&rt, &SIGN, &mut world, 0);
-    world.set_state(store_at(rt.alloc(), &CHEAP_TWICE, 31)?);
-    let kept = Some(first.as_slice());
-    let is_last_signed = reports(&rt, &SIGN, &mut world, 0) && world.nodes() == kept;
-    let is_next_signed = reports(&rt, &SIGN, &mut world, 32) && world.nodes() != kept;
     assert!(rt;
-        is_made
-            && is_signed
-            && !top.is_empty()
-            && !first.is_empty()
-            && first != top
-            && is_signed_again
-            && is_last_signed
-            && is_next_signed
-            && world.nodes().is_some()
+        keeps_its_trees(&rt, &mut world)
+            && signs_by_what_is_kept(&rt, &mut world)
             && says(&rt, &VERIFY, &mut world, 0, "valid\n")
     );
     Ok(())
+}
+
+/// Whether the next signature prints this, and is valid.
+fn signs(
+    rt: &(impl Threads + Wait + AllocGlobal + Sync),
+    world: &mut MemoryWorld,
+    index: &str,
+) -> bool {
+    says(rt, &SIGN, world, 0, index) && says(rt, &VERIFY, world, 0, "valid\n")
 }
 
 /// Whether a new key is made and signs twice, where nothing can be kept.

@@ -1,9 +1,9 @@
 //! What a world in memory holds after runs of the program, against a replay of its calls.
 use super::endorsements::{ENDORSE, ENDORSED, inspect, make_top, write_signer};
+use crate::tests::runs::arguments::{SIGN, VERIFY, keygen};
+use crate::tests::runs::{ends, write};
 use lms_fixtures::store_of;
 use lms_recorded::{Change, Recorded};
-use lms_runs::arguments::{SIGN, VERIFY, keygen};
-use lms_runs::{ends, write};
 use lms_world::{MemoryWorld, World, WorldFault};
 use std::alloc::{AllocError, Global};
 use std::sync::Wait;
@@ -120,14 +120,23 @@ fn a_memory_ends_as_its_calls_say(rt: HostRuntime) -> Result<(), Fail> {
     Ok(())
 }
 
+/// Whether a key is made, and endorses a signer's key.
+fn endorses(
+    rt: &(impl Threads + Wait + AllocGlobal + Sync),
+    world: &mut Recorded<MemoryWorld>,
+) -> bool {
+    let top = make_top();
+    runs_as_called(rt, world, &top, 0, "capacity 32\n", "")
+        && runs_as_called(rt, world, &ENDORSE, 0, ENDORSED, "")
+}
+
 /// A key endorses a signer's key, and its endorsement is looked at, which changes nothing.
 #[test]
 fn an_endorsement_is_as_its_calls_say(rt: HostRuntime) -> Result<(), Fail> {
     let mut world = Recorded::new(rt.alloc(), MemoryWorld::new(rt.alloc()));
     write_signer(rt.alloc(), &mut world)?;
-    let (top, look) = (make_top(), inspect("signer.end"));
-    let is_endorsed = runs_as_called(&rt, &mut world, &top, 0, "capacity 32\n", "")
-        && runs_as_called(&rt, &mut world, &ENDORSE, 0, ENDORSED, "");
+    let look = inspect("signer.end");
+    let is_endorsed = endorses(&rt, &mut world);
     let changes = world.changes.len();
     let made = "signature\nlevels 1\nlength 4464\nlevel 5/2 leaf 0\n\
         index 0 if all levels are one key's\n";
@@ -163,6 +172,32 @@ fn state_text(alloc: Global, recorded: &Recorded<MemoryWorld>) -> Result<Vec<u8>
     Vec::from_slice(alloc, state.unwrap_or(b""))
 }
 
+/// Whether a state is made of this text, and put back.
+fn puts_back(alloc: Global, recorded: &mut Recorded<MemoryWorld>, text: &[u8]) -> bool {
+    match store_of(alloc, text) {
+        Ok(store) => {
+            recorded.world.set_state(store);
+            true
+        }
+        Err(_) => false,
+    }
+}
+
+/// Whether a key signs twice, and its state from before is put back then.
+fn goes_back(
+    rt: &(impl Threads + Wait + AllocGlobal + Sync),
+    world: &mut Recorded<MemoryWorld>,
+) -> bool {
+    match state_text(rt.alloc(), world) {
+        Ok(older) => {
+            runs_as_called(rt, world, &SIGN, 0, "index 0\n", "")
+                && runs_as_called(rt, world, &SIGN, 0, "index 1\n", "")
+                && puts_back(rt.alloc(), world, &older)
+        }
+        Err(_) => false,
+    }
+}
+
 /// An older state is put back beside a witness, refused, and resumed.
 #[test]
 fn an_older_state_goes_on_from_its_witness(rt: HostRuntime) -> Result<(), Fail> {
@@ -171,17 +206,15 @@ fn an_older_state_goes_on_from_its_witness(rt: HostRuntime) -> Result<(), Fail> 
     let make = keygen("5/2");
     let made =
         "HSS key 22222222222222222222222222222222 has used all indices below 0\nfar.witness\n";
-    let is_made = runs_as_called(&rt, &mut world, &make, 0, "capacity 32\n", "")
-        && runs_as_called(&rt, &mut world, &WITNESS, 0, made, "");
-    let older = state_text(rt.alloc(), &world)?;
-    let is_signed = runs_as_called(&rt, &mut world, &SIGN, 0, "index 0\n", "")
-        && runs_as_called(&rt, &mut world, &SIGN, 0, "index 1\n", "");
-    world.world.set_state(store_of(rt.alloc(), &older)?);
     let fault = "error: state is older than its witness\n";
     let burnt = "indices 0 to 1 burnt; right only if the witness is the newest\n";
-    let is_resumed = runs_as_called(&rt, &mut world, &SIGN, 3, "", fault)
-        && runs_as_called(&rt, &mut world, &RESUME, 0, burnt, "")
-        && runs_as_called(&rt, &mut world, &SIGN, 0, "index 2\n", "");
-    assert!(rt; is_made && is_signed && is_resumed);
+    assert!(rt;
+        runs_as_called(&rt, &mut world, &make, 0, "capacity 32\n", "")
+            && runs_as_called(&rt, &mut world, &WITNESS, 0, made, "")
+            && goes_back(&rt, &mut world)
+            && runs_as_called(&rt, &mut world, &SIGN, 3, "", fault)
+            && runs_as_called(&rt, &mut world, &RESUME, 0, burnt, "")
+            && runs_as_called(&rt, &mut world, &SIGN, 0, "index 2\n", "")
+    );
     Ok(())
 }

@@ -1,6 +1,6 @@
 //! `keygen` whose input fails.
-use lms_runs::arguments::{SEED, keygen_by};
-use lms_runs::end_with;
+use crate::tests::runs::arguments::{SEED, keygen_by};
+use crate::tests::runs::end_with;
 use lms_world::{MemoryWorld, World};
 use std::io;
 use std::io::{ErrorKind, Read};

@@ -1,6 +1,6 @@
 //! What is kept of nodes beside a state, on a disk and in memory.
-use super::{PoorFiles, begins, clears, holds, lends_a_store, makes_folder, puts, writes};
-use lms_disk::DiskWorld;
+use super::trials::{Trial, on_disk, on_poor_files};
+use super::{begins, clears, holds, lends_a_store, makes_folder, puts, writes};
 use lms_world::{MemoryWorld, World, WorldFault};
 use std::alloc::Global;
 use std::test::Fail;
@@ -28,7 +28,7 @@ fn keeps<W: World>(alloc: Global, world: &mut W, lock: &W::Lock, text: &[u8]) ->
 
 /// Whether the nodes of the state of a name are kept, one write after another, and nothing is read
 /// before; the last are `left`.
-fn keeps_each<W: World>(alloc: Global, world: &mut W, name: &str, left: &[u8]) -> bool {
+pub(super) fn keeps_each<W: World>(alloc: Global, world: &mut W, name: &str, left: &[u8]) -> bool {
     match world.lock(alloc, name) {
         Ok(lock) => {
             let none = gives_none(alloc, world, &lock, usize::MAX);
@@ -44,7 +44,7 @@ fn keeps_each<W: World>(alloc: Global, world: &mut W, name: &str, left: &[u8]) -
 }
 
 /// Whether a write of nodes beside the state of a name fails so, and these are kept then.
-fn fails<W: World>(
+pub(super) fn fails<W: World>(
     alloc: Global,
     world: &mut W,
     name: &str,
@@ -69,41 +69,40 @@ const NODES: &str = "disk_world_nodes/state.nodes";
 /// How often seven bytes are about 4.5 MB, as many bytes as nodes take at most.
 const TIMES: usize = 642_857;
 
+/// Whether a world on the disk keeps nodes, these at last.
+fn keeps_on_a_disk(rt: &HostRuntime, left: &[u8]) -> bool {
+    begins(rt, "disk_world_nodes")
+        && on_disk(rt, Trial::KeepsNodes(STATE, left))
+        && holds(rt, NODES, left)
+        && clears(rt, "disk_world_nodes")
+}
+
 #[test]
 fn nodes_are_kept_on_a_disk(rt: HostRuntime) -> Result<(), Fail> {
     let text = "pattern".repeat(rt.alloc(), TIMES)?;
-    let bytes = text.as_bytes();
-    let is_begun = begins(&rt, "disk_world_nodes");
-    let are_kept = keeps_each(
-        rt.alloc(),
-        &mut DiskWorld::new(rt.alloc(), &rt),
-        STATE,
-        bytes,
-    );
-    assert!(rt;
-        is_begun && are_kept && holds(&rt, NODES, bytes) && clears(&rt, "disk_world_nodes")
-    );
+    assert!(rt; keeps_on_a_disk(&rt, text.as_bytes()));
     Ok(())
 }
 
 /// A folder is in the way of the draft, so what was kept stays.
 #[test]
 fn a_write_of_nodes_fails_on_a_disk(rt: HostRuntime) {
-    let is_begun = begins(&rt, "disk_world_draft")
-        && puts(&rt, "disk_world_draft/state.nodes", b"old")
-        && makes_folder(&rt, "disk_world_draft/state.nodes.new");
-    let has_failed = fails(
-        rt.alloc(),
-        &mut DiskWorld::new(rt.alloc(), &rt),
-        "disk_world_draft/state",
-        WorldFault::Device,
-        b"old",
+    let name = "disk_world_draft/state";
+    assert!(rt;
+        begins(&rt, "disk_world_draft")
+            && puts(&rt, "disk_world_draft/state.nodes", b"old")
+            && makes_folder(&rt, "disk_world_draft/state.nodes.new")
+            && on_disk(&rt, Trial::FailsNodes(name, WorldFault::Device, b"old"))
+            && clears(&rt, "disk_world_draft")
     );
-    assert!(rt; is_begun && has_failed && clears(&rt, "disk_world_draft"));
 }
 
 /// Whether nodes are written beside the state of a name, and none are read.
-fn reads_none_of_what_is_written<W: World>(alloc: Global, world: &mut W, name: &str) -> bool {
+pub(super) fn reads_none_of_what_is_written<W: World>(
+    alloc: Global,
+    world: &mut W,
+    name: &str,
+) -> bool {
     match world.lock(alloc, name) {
         Ok(lock) => {
             let written = world.write_nodes(alloc, &lock, b"nodes").is_ok();
@@ -119,46 +118,47 @@ fn reads_none_of_what_is_written<W: World>(alloc: Global, world: &mut W, name: &
 #[test]
 fn unknown_nodes_are_not_read(rt: HostRuntime) {
     let name = "disk_world_unknown/state";
-    let poor = PoorFiles {
-        files: &rt,
-        hides_names: true,
-    };
-    let is_begun = begins(&rt, "disk_world_unknown") && puts(&rt, name, b"");
-    let is_unread = reads_none_of_what_is_written(
-        rt.alloc(),
-        &mut DiskWorld::new(rt.alloc(), &poor),
-        name,
-    );
     assert!(rt;
-        is_begun
-            && is_unread
+        begins(&rt, "disk_world_unknown")
+            && puts(&rt, name, b"")
+            && on_poor_files(&rt, true, Trial::ReadsNoNodes(name))
             && holds(&rt, "disk_world_unknown/state.nodes", b"nodes")
             && clears(&rt, "disk_world_unknown")
     );
 }
 
-/// Whether a world in memory gives what was set, also once a file was written and a store taken and
+/// Whether a store is taken and put back, and the nodes of a lock that were set are given then.
+fn gives_what_was_set<W: World>(alloc: Global, world: &mut W, lock: &W::Lock) -> bool {
+    lends_a_store(alloc, world, lock)
+        && gives(alloc, world, lock, 3, b"set")
+        && gives_none(alloc, world, lock, 2)
+}
+
+/// Whether a world in memory gives what is set, also once a file was written and a store taken and
 /// put back.
-fn gives_what_was_set(alloc: Global) -> Result<bool, Fail> {
+fn gives_once_set(alloc: Global, set: Vec<u8>) -> bool {
     let mut world = MemoryWorld::new(alloc);
     let none = world.nodes().is_none();
-    world.set_nodes(Vec::from_slice(alloc, b"set")?);
+    world.set_nodes(set);
     let written = writes(alloc, &mut world, "file", b"bytes");
-    let lock = world.lock(alloc, "state")?;
-    let given = lends_a_store(alloc, &mut world, &lock)
-        && gives(alloc, &mut world, &lock, 3, b"set")
-        && gives_none(alloc, &mut world, &lock, 2);
-    Ok(none && written && given && world.nodes() == Some(b"set".as_slice()))
+    let given = match world.lock(alloc, "state") {
+        Ok(lock) => gives_what_was_set(alloc, &mut world, &lock),
+        Err(_) => false,
+    };
+    none && written && given && world.nodes() == Some(b"set".as_slice())
+}
+
+/// Whether a world in memory keeps nodes, these at last.
+fn keeps_in_memory(alloc: Global, left: &[u8]) -> bool {
+    let mut world = MemoryWorld::new(alloc);
+    keeps_each(alloc, &mut world, "state", left) && world.nodes() == Some(left)
 }
 
 #[test]
 fn nodes_are_kept_in_memory(rt: HostRuntime) -> Result<(), Fail> {
-    let is_given = gives_what_was_set(rt.alloc())?;
+    let is_given = gives_once_set(rt.alloc(), Vec::from_slice(rt.alloc(), b"set")?);
     let text = "pattern".repeat(rt.alloc(), TIMES)?;
-    let bytes = text.as_bytes();
-    let mut world = MemoryWorld::new(rt.alloc());
-    let are_kept = keeps_each(rt.alloc(), &mut world, "state", bytes);
-    assert!(rt; is_given && are_kept && world.nodes() == Some(bytes));
+    assert!(rt; is_given && keeps_in_memory(rt.alloc(), text.as_bytes()));
     Ok(())
 }
 

@@ -65,23 +65,33 @@ fn a_refusal_is_told(rt: HostRuntime) {
     assert!(rt; missing && forbidden && held);
 }
 
+/// Whether the note of a file of this name that was refused is this.
+fn names(alloc: Global, name: &str, line: &str) -> bool {
+    let mut note = Note::new();
+    note.refuse(name, &io::Error::new(ErrorKind::Other, "why"));
+    prints(alloc, &note, line.as_bytes())
+}
+
 #[test]
 fn long_names_are_cut(rt: HostRuntime) -> Result<(), Fail> {
-    let mut note = Note::new();
     let name = "\u{e4}".repeat(rt.alloc(), 60)?;
-    note.refuse(name.as_str(), &io::Error::new(ErrorKind::Other, "why"));
     let marks = "?".repeat(rt.alloc(), 80)?;
     let cut = marks.as_str();
     let line = format!(in rt.alloc(); "note: ...{cut}: why\n")?;
-    assert!(rt; prints(rt.alloc(), &note, line.as_str().as_bytes()));
+    assert!(rt; names(rt.alloc(), name.as_str(), line.as_str()));
     Ok(())
+}
+
+/// Whether a world has no note, and what it is explained by becomes one.
+fn is_explained<W: World>(alloc: Global, world: &mut W) -> bool {
+    let is_empty = world.note().is_empty();
+    world.explain("index ");
+    world.explain(format_args!("{} is used", 3));
+    is_empty && prints(alloc, world.note(), b"note: index 3 is used\n")
 }
 
 #[test]
 fn a_world_is_explained(rt: HostRuntime) {
     let mut world = MemoryWorld::new(rt.alloc());
-    let is_empty = world.note().is_empty();
-    world.explain("index ");
-    world.explain(format_args!("{} is used", 3));
-    assert!(rt; is_empty && prints(rt.alloc(), world.note(), b"note: index 3 is used\n"));
+    assert!(rt; is_explained(rt.alloc(), &mut world));
 }

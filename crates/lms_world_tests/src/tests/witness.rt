@@ -1,26 +1,32 @@
 //! The witness of a state, on a disk and in memory.
-use super::{PoorFiles, begins, clears, holds, lends_a_store, puts, writes};
-use lms_disk::DiskWorld;
+use super::trials::{Trial, on_disk, on_poor_files};
+use super::{begins, clears, holds, is_missing, lends_a_store, links, puts, writes};
 use lms_world::{MemoryWorld, World, WorldFault};
 use std::alloc::Global;
-use std::fs;
-use std::os::unix::fs::symlink;
 use std::test::Fail;
+
+/// Whether what was found is these bytes, or nothing where there are none.
+fn is_text(found: &Option<Vec<u8>>, text: Option<&[u8]>) -> bool {
+    match (found, text) {
+        (Some(found), Some(text)) => found.as_slice() == text,
+        (None, None) => true,
+        _ => false,
+    }
+}
 
 /// Whether the witness of a lock's state is these bytes, or there is none.
 fn gives<W: World>(alloc: Global, world: &mut W, lock: &W::Lock, text: Option<&[u8]>) -> bool {
-    match (world.read_witness(alloc, lock), text) {
-        (Ok(Some(found)), Some(text)) => found.as_slice() == text,
-        (Ok(None), None) => true,
-        _ => false,
+    match world.read_witness(alloc, lock) {
+        Ok(found) => is_text(&found, text),
+        Err(_) => false,
     }
 }
 
 /// Whether the witness of the state of this name is these bytes, its lock being another's or not.
 fn shows<W: World>(alloc: Global, world: &mut W, name: &str, text: &[u8]) -> bool {
     match world.look_at_witness(alloc, name) {
-        Ok(Some(found)) => found.as_slice() == text,
-        _ => false,
+        Ok(found) => is_text(&found, Some(text)),
+        Err(_) => false,
     }
 }
 
@@ -53,7 +59,10 @@ fn making_fault<W: World>(
     name: &str,
     text: &[u8],
 ) -> Option<WorldFault> {
-    world.make_witness(alloc, lock, name, text).err()
+    match world.make_witness(alloc, lock, name, text) {
+        Ok(_) => None,
+        Err(fault) => Some(fault),
+    }
 }
 
 const FOLDER: &str = "disk_world_witness";
@@ -67,7 +76,7 @@ const FILE: &str = "disk_world_witness/file";
 const OTHER: &str = "disk_world_witness/other";
 
 /// Whether the state of a name has no witness until one is made, once, which is replaced after that.
-fn has_one<W: World>(alloc: Global, world: &mut W, name: &str, left: &[u8]) -> bool {
+pub(super) fn has_one<W: World>(alloc: Global, world: &mut W, name: &str, left: &[u8]) -> bool {
     match world.lock(alloc, name) {
         Ok(lock) => {
             let none = gives(alloc, world, &lock, None);
@@ -86,39 +95,38 @@ fn has_one<W: World>(alloc: Global, world: &mut W, name: &str, left: &[u8]) -> b
 
 #[test]
 fn a_witness_is_kept_on_a_disk(rt: HostRuntime) {
-    let is_begun = begins(&rt, FOLDER);
-    let is_kept = has_one(
-        rt.alloc(),
-        &mut DiskWorld::new(rt.alloc(), &rt),
-        STATE,
-        b"a line",
-    );
     assert!(rt;
-        is_begun
-            && is_kept
+        begins(&rt, FOLDER)
+            && on_disk(&rt, Trial::HasOneWitness(STATE, b"a line"))
             && holds(&rt, FILE, b"a line")
             && holds(&rt, WITNESS, b"a line")
-            && fs::metadata(&rt, OTHER).is_err()
+            && is_missing(&rt, OTHER)
             && clears(&rt, FOLDER)
     );
 }
 
-/// Whether a world in memory gives what was set, also once a file, nodes and the state were written.
-fn gives_what_was_set(alloc: Global) -> Result<bool, Fail> {
+/// Whether nodes and the state are written, and the witness of a lock that was set is given then.
+fn gives_what_was_set<W: World>(alloc: Global, world: &mut W, lock: &W::Lock) -> bool {
+    let kept = world.write_nodes(alloc, lock, b"nodes").is_ok();
+    kept && lends_a_store(alloc, world, lock) && gives(alloc, world, lock, Some(b"set"))
+}
+
+/// Whether a world in memory gives what is set, also once a file, nodes and the state were written.
+fn gives_once_set(alloc: Global, set: Vec<u8>) -> bool {
     let mut world = MemoryWorld::new(alloc);
     let none = world.witness().is_none();
-    world.set_witness(Vec::from_slice(alloc, b"set")?);
+    world.set_witness(set);
     let written = writes(alloc, &mut world, "file", b"bytes");
-    let lock = world.lock(alloc, "state")?;
-    let kept = world.write_nodes(alloc, &lock, b"nodes").is_ok();
-    let lent = lends_a_store(alloc, &mut world, &lock);
-    let given = none && written && kept && lent && gives(alloc, &mut world, &lock, Some(b"set"));
-    Ok(given && world.witness() == Some(b"set".as_slice()))
+    let given = match world.lock(alloc, "state") {
+        Ok(lock) => gives_what_was_set(alloc, &mut world, &lock),
+        Err(_) => false,
+    };
+    none && written && given && world.witness() == Some(b"set".as_slice())
 }
 
 #[test]
 fn a_witness_is_kept_in_memory(rt: HostRuntime) -> Result<(), Fail> {
-    let is_given = gives_what_was_set(rt.alloc())?;
+    let is_given = gives_once_set(rt.alloc(), Vec::from_slice(rt.alloc(), b"set")?);
     let mut world = MemoryWorld::new(rt.alloc());
     let is_kept = has_one(rt.alloc(), &mut world, "state", b"a line");
     assert!(rt; is_given && is_kept && world.witness() == Some(b"a line".as_slice()));
@@ -126,7 +134,7 @@ fn a_witness_is_kept_in_memory(rt: HostRuntime) -> Result<(), Fail> {
 }
 
 /// Whether the witness of the state of a name can't be read, drafted or made, by this fault.
-fn fails<W: World>(alloc: Global, world: &mut W, name: &str, fault: WorldFault) -> bool {
+pub(super) fn fails<W: World>(alloc: Global, world: &mut W, name: &str, fault: WorldFault) -> bool {
     match world.lock(alloc, name) {
         Ok(lock) => {
             let unread = world.read_witness(alloc, &lock).err() == Some(fault)
@@ -163,14 +171,13 @@ fn a_witness_fails_in_memory(rt: HostRuntime) -> Result<(), Fail> {
 /// A link leads nowhere, so that the witness is out of reach, and no other is made.
 #[test]
 fn a_witness_fails_on_a_disk(rt: HostRuntime) {
-    let is_begun = begins(&rt, FOLDER) && symlink(&rt, "nowhere", WITNESS).is_ok();
-    let has_failed = fails(
-        rt.alloc(),
-        &mut DiskWorld::new(rt.alloc(), &rt),
-        STATE,
-        WorldFault::Device,
+    assert!(rt;
+        begins(&rt, FOLDER)
+            && links(&rt, "nowhere", WITNESS)
+            && on_disk(&rt, Trial::FailsWitness(STATE, WorldFault::Device))
+            && is_missing(&rt, FILE)
+            && clears(&rt, FOLDER)
     );
-    assert!(rt; is_begun && has_failed && fs::metadata(&rt, FILE).is_err() && clears(&rt, FOLDER));
 }
 
 /// Whether the witness of the state of a name is these bytes, and is replaced.
@@ -186,21 +193,21 @@ fn is_replaced<W: World>(alloc: Global, world: &mut W, name: &str, text: &[u8]) 
     }
 }
 
+/// Whether the witness of a state is a fault to a world, and is read and replaced once it is there.
+pub(super) fn knows_one<W: World>(rt: &HostRuntime, world: &mut W) -> bool {
+    fails(rt.alloc(), world, STATE, WorldFault::Device)
+        && puts(rt, WITNESS, b"older")
+        && is_replaced(rt.alloc(), world, STATE, b"older")
+}
+
 /// Where it can't be known whether there is a witness, that is a fault. One that is there is read and
 /// replaced.
 #[test]
 fn an_unknown_witness_is_a_fault(rt: HostRuntime) {
-    let poor = PoorFiles {
-        files: &rt,
-        hides_names: true,
-    };
-    let mut world = DiskWorld::new(rt.alloc(), &poor);
     assert!(rt;
         begins(&rt, FOLDER)
             && puts(&rt, STATE, b"")
-            && fails(rt.alloc(), &mut world, STATE, WorldFault::Device)
-            && puts(&rt, WITNESS, b"older")
-            && is_replaced(rt.alloc(), &mut world, STATE, b"older")
+            && on_poor_files(&rt, true, Trial::KnowsAWitness)
             && holds(&rt, WITNESS, b"new")
             && clears(&rt, FOLDER)
     );

@@ -1,7 +1,7 @@
 //! Job lines that are signed as they come, by trees that are kept.
 use super::memory::four_answers;
 use super::{CHEAP, Scenario, carry_out, counts};
-use crate::tests::{lines, source_of};
+use crate::tests::{Source, lines, source_of};
 use lms_batch::{SigningService, Trees};
 use lms_book::MemoryStore;
 use lms_fixtures::Sums;
@@ -9,7 +9,6 @@ use lms_lines::{
     JobsFault, LinesFault, Pieces, SignedJobs, count_signatures, read_and_sign, write_batch,
 };
 use lms_shared_book::{BookLedger, Desk};
-use std::alloc::Global;
 use std::sync::Wait;
 use std::sync::ledger::Ledger;
 use std::test::Fail;
@@ -21,15 +20,6 @@ struct Answers {
     trees: Trees,
     sums: Sums,
     text: Vec<u8>,
-}
-
-/// No answers, and trees that are kept.
-fn no_answers(alloc: Global) -> Answers {
-    Answers {
-        trees: Trees::kept(),
-        sums: Sums::new(),
-        text: Vec::new(alloc),
-    }
 }
 
 /// Signs these lines by two workers.
@@ -46,23 +36,24 @@ fn signed<E: BookLedger, G: Ledger, B: Ledger>(
     read_and_sign(rt, rt.alloc(), service, &mut rest, desk, 2, progress, trees)
 }
 
-/// Whether so many lines are all signed. Their answers are added.
-fn adds_answers<E: BookLedger, G: Ledger, B: Ledger>(
+/// Whether all lines of a reader's next piece are signed, and whether it is the last piece. Their
+/// answers are added.
+fn signs_next<E: BookLedger, G: Ledger, B: Ledger>(
     rt: &(impl AllocGlobal + Threads + Wait + Sync),
     service: &SigningService<MemoryStore, E, G, B>,
     desk: &mut Desk<E, G, B>,
-    text: &[u8],
-    count: usize,
+    reader: &mut Source<'_>,
+    pieces: &mut Pieces,
     answers: &mut Answers,
-) -> bool {
-    match signed(rt, service, desk, text, answers) {
-        Ok(jobs) => {
-            write_batch(&mut answers.text, &jobs.batch) == Ok(())
-                && jobs.asked == count
-                && count_signatures(&jobs.batch) == count
-        }
-        Err(_) => false,
-    }
+) -> Result<(bool, bool), JobsFault> {
+    let piece = pieces.next(rt.alloc(), reader, answers.trees.room())?;
+    let Ok(jobs) = signed(rt, service, desk, &piece.text, answers) else {
+        return Ok((false, piece.is_last));
+    };
+    let are_signed = write_batch(&mut answers.text, &jobs.batch) == Ok(())
+        && jobs.asked == piece.lines
+        && count_signatures(&jobs.batch) == piece.lines;
+    Ok((are_signed, piece.is_last))
 }
 
 /// Whether all pieces of a text are signed, which comes by a line and a half a read, and how many
@@ -73,15 +64,14 @@ fn signs_pieces_of<E: BookLedger, G: Ledger, B: Ledger>(
     desk: &mut Desk<E, G, B>,
     text: &[u8],
     answers: &mut Answers,
-) -> Result<(bool, u64), Fail> {
+) -> Result<(bool, u64), JobsFault> {
     let mut source = source_of(text, 105, 9);
     let mut pieces = Pieces::new(rt.alloc())?;
     let mut are_signed = true;
     for count in 0..9 {
-        let piece = pieces.next(rt.alloc(), &mut source, answers.trees.room())?;
-        let (lines, is_last) = (piece.lines, piece.is_last);
-        are_signed = are_signed && adds_answers(rt, service, desk, &piece.text, lines, answers);
-        if is_last {
+        let found = signs_next(rt, service, desk, &mut source, &mut pieces, answers)?;
+        are_signed = are_signed && found.0;
+        if found.1 {
             return Ok((are_signed, count));
         }
     }
@@ -118,9 +108,13 @@ pub(super) fn sign_pieces<E: BookLedger, G: Ledger, B: Ledger>(
 ) -> Result<bool, Fail> {
     let text = lines(rt.alloc(), 4)?;
     let expected = four_answers(rt, service.key())?;
-    let mut answers = no_answers(rt.alloc());
-    let found = signs_pieces_of(rt, service, desk, &text, &mut answers)?;
-    let is_as_one_batch = found == (true, 3) && answers.text == expected;
+    let mut answers = Answers {
+        trees: Trees::kept(),
+        sums: Sums::new(),
+        text: Vec::new(rt.alloc()),
+    };
+    let found = signs_pieces_of(rt, service, desk, &text, &mut answers);
+    let is_as_one_batch = found == Ok((true, 3)) && answers.text == expected;
     Ok(
         is_as_one_batch
             && are_computed_once(&answers)

@@ -4,7 +4,7 @@ use crate::tests::push_line;
 use lms_batch::{Batch, BatchFault, SigningService};
 use lms_book::{BookFault, MemoryStore};
 use lms_fixtures::{forest_of, signature_of};
-use lms_hss::HssKey;
+use lms_hss::{Forest, HssKey};
 use lms_lines::{Done, JobsFault, LinesFault, sign_lines, write_batch};
 use lms_shared_book::{BookLedger, Desk};
 use std::alloc::Global;
@@ -21,24 +21,32 @@ const C: [u8; 32] = [
 
 const MESSAGE: [u8; 2] = [0xab, 0xff];
 
-/// An empty text with the capacity for four answer lines, made at the first or at the second try.
-fn no_answers(alloc: Global) -> Result<Vec<u8>, Fail> {
-    match Vec::with_capacity(alloc, 4 * CHEAP_LINE) {
+/// An empty text with this capacity, made at the first or at the second try.
+fn text_of(alloc: Global, capacity: usize) -> Result<Vec<u8>, Fail> {
+    match Vec::with_capacity(alloc, capacity) {
         Ok(text) => Ok(text),
-        Err(_) => Ok(Vec::with_capacity(alloc, 4 * CHEAP_LINE)?),
+        Err(_) => Ok(Vec::with_capacity(alloc, capacity)?),
     }
 }
 
-/// Four lines, whose memory is taken at the first or at the second try.
+/// Four lines.
 fn four_lines(alloc: Global) -> Result<Vec<u8>, Fail> {
-    let mut text = match Vec::with_capacity(alloc, 512) {
-        Ok(text) => text,
-        Err(_) => Vec::with_capacity(alloc, 512)?,
-    };
+    let mut text = text_of(alloc, 512)?;
     for _ in 0..4 {
         push_line(&mut text, "aBFf", "\n")?;
     }
     Ok(text)
+}
+
+/// Adds the answer to a line that is signed by this index.
+fn push_answer(alloc: Global, forest: &Forest, start: u64, text: &mut Vec<u8>) -> Result<(), Fail> {
+    let signature = signature_of(forest, start, &C, &MESSAGE)?;
+    let mut signatures = match Vec::with_capacity(alloc, 1) {
+        Ok(signatures) => signatures,
+        Err(_) => Vec::with_capacity(alloc, 1)?,
+    };
+    signatures.push(signature)?;
+    Ok(write_batch(text, &Batch::Complete { start, signatures })?)
 }
 
 /// The four answers to lines signed from index 30 on.
@@ -47,15 +55,9 @@ pub(super) fn four_answers(
     key: HssKey,
 ) -> Result<Vec<u8>, Fail> {
     let forest = forest_of(rt, key, 30, 4)?;
-    let mut text = no_answers(rt.alloc())?;
+    let mut text = text_of(rt.alloc(), 4 * CHEAP_LINE)?;
     for start in 30..34 {
-        let signature = signature_of(&forest, start, &C, &MESSAGE)?;
-        let mut signatures = match Vec::with_capacity(rt.alloc(), 1) {
-            Ok(signatures) => signatures,
-            Err(_) => Vec::with_capacity(rt.alloc(), 1)?,
-        };
-        signatures.push(signature)?;
-        write_batch(&mut text, &Batch::Complete { start, signatures })?;
+        push_answer(rt.alloc(), &forest, start, &mut text)?;
     }
     Ok(text)
 }
@@ -106,7 +108,7 @@ pub(super) fn sign_from_30<E: BookLedger, G: Ledger, B: Ledger>(
     desk: &mut Desk<E, G, B>,
 ) -> Result<Option<u64>, Fail> {
     let whole = four_answers(rt, service.key())?;
-    let mut text = no_answers(rt.alloc())?;
+    let mut text = text_of(rt.alloc(), 4 * CHEAP_LINE)?;
     let input = four_lines(rt.alloc())?;
     match signed_by_four(rt, service, desk, &input, &mut text) {
         Some((signed, used)) => {

@@ -1,5 +1,0 @@
-//! Tests of `lms_join`.
-#![tactic(auto)]
-
-#[cfg(test)]
-mod tests;

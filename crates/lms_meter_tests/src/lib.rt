@@ -1,5 +1,0 @@
-//! Tests of `lms_meter`.
-#![tactic(auto)]
-
-#[cfg(test)]
-mod tests;
